@@ -1,0 +1,13 @@
+//! How many nodes a cluster has, how many of them may lie, and the quorums that follow.
+//!
+//! `specs/Sizes.antt` has the limit on nodes and the three quorums.
+#![tactic(auto)]
+
+mod name;
+mod sizes;
+
+pub use name::NodeName;
+pub use sizes::{SizeFault, Sizes};
+
+#[cfg(test)]
+mod tests;

@@ -1,0 +1,23 @@
+-- Words and numbers in a line of text: words have one space between them, and a number is written in
+-- decimal digits, with no sign and no zero in front, save `0` itself.
+use Rattle.std.specs.Prelude.{ℕ, Bool, ◌==◌, ◌&&◌, nat_lt, nat_le, if◌then◌else◌, List, length, Option, Some, None}
+use Rattle.std.specs.List.{position_or_len, before_first, after_first}
+use Rattle.std.specs.Fmt.{decimal}
+use Rattle.std.specs.Str.{bytes_eq}
+use Rattle.std.specs.Str.Parse.{digits_value}
+
+abbrev pub is_space : ℕ → Bool
+is_space b = b == 32
+
+-- what stands before the first space and what stands behind it, if there is one
+unfoldable pub split_word : List ℕ → Option (List ℕ × List ℕ)
+split_word text =
+    if nat_lt (position_or_len is_space text) (length text)
+    then Some (before_first is_space text, after_first is_space text)
+    else None
+
+-- the number of at most `most` that is written as this word
+unfoldable pub number_of : ℕ → List ℕ → Option ℕ
+number_of most word =
+    let n = digits_value 10 word in
+    if bytes_eq word (decimal n) && nat_le n most then Some n else None
