@@ -2,5 +2,10 @@
 #![tactic(auto)]
 
 mod kind;
+mod watched;
 
 pub use kind::Kind;
+pub use watched::Watched;
+
+#[cfg(test)]
+mod tests;
