@@ -7,7 +7,7 @@ mod name;
 mod sizes;
 
 pub use name::NodeName;
-pub use sizes::{SizeFault, Sizes};
+pub use sizes::{MOST_NODES, SizeFault, Sizes};
 
 #[cfg(test)]
 mod tests;

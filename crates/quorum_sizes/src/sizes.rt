@@ -7,15 +7,15 @@ use std::error::Error;
 use std::fmt;
 use std::marker::Model;
 
-/// The most nodes of a cluster.
-const MOST_NODES: u8 = 64;
+/// The most nodes of a cluster, so that sets of them fit a machine word.
+pub const MOST_NODES: u8 = 64;
 
 /// Why there are no such sizes. Written as its code and its name.
 #[derive(Clone, Copy, Debug, PartialEq, Eq, Hash)]
 pub enum SizeFault {
     /// A cluster has a node at least.
     NoNodes,
-    /// A cluster has at most 64 nodes.
+    /// A cluster has at most [`MOST_NODES`] nodes.
     TooMany,
     /// Fewer than a third of the nodes may lie.
     TooManyLiars,
@@ -62,7 +62,7 @@ impl Sizes {
     ///
     /// # Errors
     ///
-    /// The first of these that holds: no nodes, more than 64, and `3 * f >= n`.
+    /// The first of these that holds: no nodes, more than [`MOST_NODES`], and `3 * f >= n`.
     pub fn new(n: u8, f: u8) -> Result<Self, SizeFault>
         ensures { result ≡ sizes_due n f }
     {
@@ -78,7 +78,7 @@ impl Sizes {
         Ok(Sizes { nodes: n, liars: f })
     }
 
-    /// How many nodes there are, from 1 to 64.
+    /// How many nodes there are, from 1 to [`MOST_NODES`].
     pub fn n(&self) -> u8
         ensures value { result ≡ self.now.nodes }
         ensures sizes { AreSizes self.now }
