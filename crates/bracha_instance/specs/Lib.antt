@@ -1,0 +1,5 @@
+pub mod Prefixes
+pub mod Broadcast
+pub mod States
+pub mod Taking
+pub mod Laws
