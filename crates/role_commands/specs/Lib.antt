@@ -2,3 +2,4 @@ pub mod Numbers
 pub mod Words
 pub mod Reading
 pub mod Same
+pub mod Laws
