@@ -1,6 +1,6 @@
 //! What is true of commands and of how they are written.
 
-ghost use Rattle.role_commands.specs.Laws.{CommandsAreRead, CommandsAreSpelled, SpellingsDiffer, CommandsAreThemselves, SameCommandsAreOne};
+ghost use Rattle.role_commands.specs.Laws.{CommandsAreRead, CommandsAreSpelled, SpellingsDiffer, CommandsAreThemselves, SameCommandsAreOne, BytesDiffer, NineBytes};
 ghost use Rattle.role_commands.specs.Numbers.{NumbersAreRead, NumbersAreSpelled};
 
 /// A number has one spelling, and reading and writing it undo each other.
@@ -20,4 +20,10 @@ pub fn one_spelling()
 pub fn sameness()
     ensures itself { CommandsAreThemselves }
     ensures one { SameCommandsAreOne }
+{}
+
+/// A command has nine bytes, which no other command has.
+pub fn one_row()
+    ensures differ { BytesDiffer }
+    ensures nine { NineBytes }
 {}

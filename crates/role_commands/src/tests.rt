@@ -53,3 +53,44 @@ fn no_commands(rt: HostRuntime) -> Result<(), Fail> {
     }
     Ok(())
 }
+
+#[test]
+fn bytes(rt: HostRuntime) -> Result<(), Fail> {
+    for (bytes, command) in [
+        (
+            [1, 0, 2, 0, 0, 0, 7, 0, 0],
+            Command::Assign { user: 7, role: 2 },
+        ),
+        (
+            [2, 0, 2, 0, 0, 0, 7, 0, 0],
+            Command::Deassign { user: 7, role: 2 },
+        ),
+        (
+            [3, 0, 2, 0, 0, 0, 9, 0, 5],
+            Command::Grant {
+                role: 2,
+                operation: 5,
+                object: 9,
+            },
+        ),
+        (
+            [4, 255, 255, 255, 255, 255, 255, 255, 255],
+            Command::Revoke {
+                role: u16::MAX,
+                operation: u16::MAX,
+                object: u32::MAX,
+            },
+        ),
+    ] {
+        assert_eq!(rt; encode(&command), bytes);
+        assert_eq!(rt; decode(&bytes), Some(command));
+    }
+    for bytes in [
+        [1, 0, 2, 0, 0, 0, 7, 0, 1],
+        [5, 0, 2, 0, 0, 0, 7, 0, 0],
+        [0; 9],
+    ] {
+        assert_eq!(rt; decode(&bytes), None);
+    }
+    Ok(())
+}

@@ -36,6 +36,7 @@ pub fn print_command(alloc: Global, command: &Command) -> Result<String, AllocEr
 pub fn parse_command(text: &str) -> Option<Command>
     ensures value { result ≡ command_of text.now }
     ensures found { IfSome result (λ c. text.now ≡ spelling c) }
+    ensures fits { IfSome result IsCommand }
     ensures only { (c : Command) → IsCommand c → text.now ≡ spelling c → result ≡ Some c }
 {
     let (name, numbers) = split_word(text)?;
