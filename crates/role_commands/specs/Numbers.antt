@@ -1,6 +1,6 @@
 -- Words and numbers in a line of text: words have one space between them, and a number is written in
 -- decimal digits, with no sign and no zero in front, save `0` itself.
-use Rattle.std.specs.Prelude.{ℕ, Bool, ◌==◌, ◌&&◌, nat_lt, nat_le, if◌then◌else◌, List, length, Option, Some, None}
+use Rattle.std.specs.Prelude.{◌≡◌, ℕ, ◌≤◌, ◌<◌, ◌^◌, Bool, ◌==◌, ◌&&◌, nat_lt, nat_le, if◌then◌else◌, List, length, Option, Some, None}
 use Rattle.std.specs.List.{position_or_len, before_first, after_first}
 use Rattle.std.specs.Fmt.{decimal}
 use Rattle.std.specs.Str.{bytes_eq}
@@ -21,3 +21,12 @@ unfoldable pub number_of : ℕ → List ℕ → Option ℕ
 number_of most word =
     let n = digits_value 10 word in
     if bytes_eq word (decimal n) && nat_le n most then Some n else None
+
+-- a number that is written is read
+abbrev pub NumbersAreRead : Type 0
+NumbersAreRead = (most n : ℕ) → n ≤ most → most < 2 ^ 64 → number_of most (decimal n) ≡ Some n
+
+-- a word that is read as a number is what is written for it
+abbrev pub NumbersAreSpelled : Type 0
+NumbersAreSpelled =
+    (most n : ℕ) (word : List ℕ) → number_of most word ≡ Some n → (word ≡ decimal n) × (n ≤ most)

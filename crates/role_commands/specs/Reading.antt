@@ -1,6 +1,52 @@
--- Which command a text is, if it is one. `law_one_spelling` says that this is the command whose words it is.
-use Rattle.std.specs.Prelude.{ℕ, ◌^◌, ◌-◌, List, if◌then◌else◌, codes, Option, Some, None, option_and_then}
+-- Which command a text is, if it is one: its first word names the kind, and behind it stand exactly the
+-- kind's numbers, each within its field. `one_spelling` says that this is the command with this spelling.
+use Rattle.std.specs.Prelude.{ℕ, ◌^◌, ◌-◌, List, if◌then◌else◌, codes, Option, None, option_and_then, option_map}
 use Rattle.std.specs.Str.{bytes_eq}
 use Rattle.role_commands.specs.Numbers.{split_word, number_of}
 use Rattle.role_commands.specs.declared.command.Command.{Command}
 use Rattle.role_commands.specs.declared.command.Command.TheVariants.{Assign, Deassign, Grant, Revoke}
+
+-- users and objects have 32 bits
+abbrev pub wide_number : List ℕ → Option ℕ
+wide_number = number_of (2 ^ 32 - 1)
+
+-- roles and operations have 16 bits
+abbrev pub narrow_number : List ℕ → Option ℕ
+narrow_number = number_of (2 ^ 16 - 1)
+
+-- a user and a role
+unfoldable pub user_and_role : List ℕ → Option (ℕ × ℕ)
+user_and_role text =
+    option_and_then (λ words.
+    option_and_then (λ user.
+    option_map (λ role. (user, role))
+    (narrow_number words.1)) (wide_number words.0)) (split_word text)
+
+-- an operation and an object
+unfoldable pub operation_and_object : List ℕ → Option (ℕ × ℕ)
+operation_and_object text =
+    option_and_then (λ words.
+    option_and_then (λ operation.
+    option_map (λ object. (operation, object))
+    (wide_number words.1)) (narrow_number words.0)) (split_word text)
+
+-- a role, and the permission behind it
+unfoldable pub role_and_permission : List ℕ → Option (ℕ × ℕ × ℕ)
+role_and_permission text =
+    option_and_then (λ words.
+    option_and_then (λ role.
+    option_map (λ permission. (role, permission.0, permission.1))
+    (operation_and_object words.1)) (narrow_number words.0)) (split_word text)
+
+-- the command of a name and the numbers behind it
+unfoldable pub named_command : List ℕ → List ℕ → Option Command
+named_command name numbers =
+    if bytes_eq name (codes "assign") then option_map (λ n. Assign n.0 n.1) (user_and_role numbers)
+    else (if bytes_eq name (codes "deassign") then option_map (λ n. Deassign n.0 n.1) (user_and_role numbers)
+    else (if bytes_eq name (codes "grant") then option_map (λ n. Grant n.0 n.1 n.2) (role_and_permission numbers)
+    else (if bytes_eq name (codes "revoke") then option_map (λ n. Revoke n.0 n.1 n.2) (role_and_permission numbers)
+    else None)))
+
+-- the command that the text is
+unfoldable pub command_of : List ℕ → Option Command
+command_of text = option_and_then (λ words. named_command words.0 words.1) (split_word text)

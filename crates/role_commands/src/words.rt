@@ -1,0 +1,120 @@
+ghost use Rattle.std.specs.Prelude.{◌≡◌, IfOk, IfSome, Some, option_map, string_bytes};
+ghost use Rattle.role_commands.specs.Words.{spelling, IsCommand};
+ghost use Rattle.role_commands.specs.Numbers.{split_word};
+ghost use Rattle.role_commands.specs.Reading as reading;
+ghost use Rattle.role_commands.specs.Reading.{command_of};
+
+use crate::command::Command;
+use crate::numbers::parse_number;
+use std::alloc::{AllocError, Global};
+
+/// The command as its name and its numbers, with one space between the words.
+///
+/// # Errors
+///
+/// Only for want of memory.
+pub fn print_command(alloc: Global, command: &Command) -> Result<String, AllocError>
+    ensures { IfOk result (λ text. string_bytes text ≡ spelling command.now) }
+{
+    match *command {
+        Command::Assign { user, role } => format!(in alloc; "assign {user} {role}"),
+        Command::Deassign { user, role } => format!(in alloc; "deassign {user} {role}"),
+        Command::Grant {
+            role,
+            operation,
+            object,
+        } => format!(in alloc; "grant {role} {operation} {object}"),
+        Command::Revoke {
+            role,
+            operation,
+            object,
+        } => format!(in alloc; "revoke {role} {operation} {object}"),
+    }
+}
+
+/// The command that [`print_command`] writes as this text, if there is one.
+pub fn parse_command(text: &str) -> Option<Command>
+    ensures value { result ≡ command_of text.now }
+    ensures found { IfSome result (λ c. text.now ≡ spelling c) }
+    ensures fits { IfSome result IsCommand }
+    ensures only { (c : Command) → IsCommand c → text.now ≡ spelling c → result ≡ Some c }
+{
+    let (name, numbers) = split_word(text)?;
+    named_command(name, numbers)
+}
+
+#[tactic(auto, unfolding(crate::specs::Reading::named_command))]
+fn named_command(name: &str, numbers: &str) -> Option<Command>
+    ensures { result ≡ reading.named_command name.now numbers.now }
+{
+    if name == "assign" {
+        let (user, role) = user_and_role(numbers)?;
+        Some(Command::Assign { user, role })
+    } else if name == "deassign" {
+        let (user, role) = user_and_role(numbers)?;
+        Some(Command::Deassign { user, role })
+    } else if name == "grant" {
+        let (role, operation, object) = role_and_permission(numbers)?;
+        Some(Command::Grant {
+            role,
+            operation,
+            object,
+        })
+    } else if name == "revoke" {
+        let (role, operation, object) = role_and_permission(numbers)?;
+        Some(Command::Revoke {
+            role,
+            operation,
+            object,
+        })
+    } else {
+        None
+    }
+}
+
+#[tactic(auto, unfolding(crate::specs::Reading::user_and_role))]
+fn user_and_role(text: &str) -> Option<(u32, u16)>
+    ensures { result ≡ reading.user_and_role text.now }
+{
+    let (user, role) = split_word(text)?;
+    Some((wide_number(user)?, narrow_number(role)?))
+}
+
+#[tactic(auto, unfolding(crate::specs::Reading::role_and_permission))]
+fn role_and_permission(text: &str) -> Option<(u16, u16, u32)>
+    ensures { result ≡ reading.role_and_permission text.now }
+{
+    let (role, permission) = split_word(text)?;
+    let role = narrow_number(role)?;
+    let (operation, object) = operation_and_object(permission)?;
+    Some((role, operation, object))
+}
+
+#[tactic(auto, unfolding(crate::specs::Reading::operation_and_object))]
+fn operation_and_object(text: &str) -> Option<(u16, u32)>
+    ensures { result ≡ reading.operation_and_object text.now }
+{
+    let (operation, object) = split_word(text)?;
+    Some((narrow_number(operation)?, wide_number(object)?))
+}
+
+fn wide_number(word: &str) -> Option<u32>
+    ensures { result ≡ reading.wide_number word.now }
+{
+    let number = parse_number(word, u64::from(u32::MAX))?;
+    Some(number as u32)
+}
+
+fn narrow_number(word: &str) -> Option<u16>
+    ensures { result ≡ reading.narrow_number word.now }
+{
+    let number = parse_number(word, u64::from(u16::MAX))?;
+    Some(number as u16)
+}
+
+// What stands before the first space and what stands behind it.
+fn split_word(text: &str) -> Option<(&str, &str)>
+    ensures { split_word text.now ≡ option_map (λ words. (words.0.now, words.1.now)) result }
+{
+    text.split_once(' ')
+}
