@@ -1,0 +1,5 @@
+pub mod Same
+pub mod FirstPrefix
+pub mod KeptVotes
+pub mod Voting
+pub mod FirstDue

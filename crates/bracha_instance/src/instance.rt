@@ -1,0 +1,265 @@
+ghost use Rattle.std.specs.Prelude.{◌≡◌, ℕ, ◌<◌, List, [], ◌∷◌, ◌++◌, false, IfOk, OnOk, OnErr};
+ghost use Rattle.std.specs.Option.{option_or};
+ghost use Rattle.quorum_sizes.specs.Sizes.{Counts};
+ghost use Rattle.bracha_instance.specs.Broadcast.{Take};
+ghost use Rattle.bracha_instance.specs.States.{state};
+ghost use Rattle.bracha_instance.specs.Taking.{SendsAreFrom, effect_of, newly, sent_for, newly_sent, newly_delivered};
+ghost use Rattle.bracha_instance.specs.Next.{ready_now, deliver_now, only_if, after_send, after_echo, after_ready, after_kind, has_voted};
+
+use link_frames::Kind;
+use quorum_sizes::{NodeName, Sizes};
+use role_commands::Command;
+use std::alloc::{AllocError, Global};
+use std::marker::Model;
+
+use crate::votes::Votes;
+
+/// Whether a message counted.
+#[derive(Clone, Copy, Debug, PartialEq, Eq, Hash)]
+pub enum Effect {
+    /// That node's message of that kind was taken before, and this one changes nothing.
+    Idle,
+    /// It is that node's vote of that kind.
+    Counted,
+}
+
+/// What a message caused.
+#[derive(Clone, Copy, Debug, PartialEq, Eq, Hash)]
+pub struct Taken {
+    /// Whether it counted.
+    pub effect: Effect,
+    /// What the node sends to all nodes now: an ECHO or a READY.
+    pub broadcast: Option<(Kind, Command)>,
+    /// What the node delivers now.
+    pub delivered: Option<Command>,
+}
+
+/// One instance of the broadcast: what was echoed, readied and delivered, and the votes so far.
+///
+/// Contracts see it as its `State`, whatever keeps the votes.
+#[derive(Drop)]
+pub struct Instance {
+    echoed: Option<Command>,
+    readied: Option<Command>,
+    delivered: Option<Command>,
+    echoes: Votes,
+    readies: Votes,
+}
+
+impl Model for Instance {
+    ghost use Rattle.bracha_instance.specs.States.{State};
+    ghost use Rattle.bracha_instance.specs.Kept.{state_code, seen};
+
+    ghost Value = { State };
+
+    ghost coded = { state_code };
+
+    ghost view = { λ a. seen a.echoed a.readied a.delivered a.echoes a.readies };
+}
+
+/// What was due, or else this command where it is due now.
+fn first_of(before: Option<Command>, due: bool, command: Command) -> Option<Command>
+    ensures { result ≡ option_or before (only_if due command) }
+{
+    if before.is_none() && due {
+        Some(command)
+    } else {
+        before
+    }
+}
+
+/// What there is now and was not before.
+fn newly_of(before: Option<Command>, now: Option<Command>) -> Option<Command>
+    ensures { result ≡ newly before now }
+{
+    match before {
+        None => now,
+        Some(_) => None,
+    }
+}
+
+/// The message for what was newly echoed or readied.
+fn message_for(echoed: Option<Command>, readied: Option<Command>) -> Option<(Kind, Command)>
+    ensures { result ≡ sent_for echoed readied }
+{
+    match (echoed, readied) {
+        (Some(command), _) => Some((Kind::Echo, command)),
+        (None, Some(command)) => Some((Kind::Ready, command)),
+        (None, None) => None,
+    }
+}
+
+/// Whether so many votes are for the command that the node may be ready for it.
+#[tactic(auto, unfolding(crate::specs::Next::ready_now))]
+fn may_ready(sizes: &Sizes, echoes: &Votes, readies: &Votes, command: Command) -> bool
+    ensures { result ≡ ready_now sizes.now command echoes.now readies.now }
+{
+    usize::from(sizes.echo_quorum()) <= echoes.supporters(command)
+        || usize::from(sizes.amplify()) <= readies.supporters(command)
+}
+
+/// Whether so many votes are for the command that the node may deliver it.
+#[tactic(auto, unfolding(crate::specs::Next::deliver_now))]
+fn may_deliver(sizes: &Sizes, readies: &Votes, command: Command) -> bool
+    ensures { result ≡ deliver_now sizes.now command readies.now }
+{
+    usize::from(sizes.deliver()) <= readies.supporters(command)
+}
+
+impl Instance {
+    /// An instance in which nothing was taken. Takes no memory.
+    pub fn new(alloc: Global) -> Self
+        ensures { (s : Counts) → result ≡ state s [] }
+    {
+        Instance {
+            echoed: None,
+            readied: None,
+            delivered: None,
+            echoes: Votes::new(alloc),
+            readies: Votes::new(alloc),
+        }
+    }
+
+    /// Takes a message, whose node must be one of these sizes. An `Err` changes nothing.
+    ///
+    /// The clauses speak of every list of messages of which this is the state under these sizes. That a SEND
+    /// is idle exactly where that node's was taken needs that all SENDs are from one node, the owner.
+    pub fn take(
+        &mut self,
+        sizes: &Sizes,
+        kind: Kind,
+        from: NodeName,
+        command: Command,
+    ) -> Result<Taken, AllocError>
+        requires { from < sizes.now.nodes }
+        ensures state { OnOk result ((takes : List Take) → self.old ≡ state sizes.now takes →
+            self.new ≡ state sizes.now (takes ++ (record { kind = kind; from = from; command = command }) ∷ [])) }
+        ensures effect { IfOk result (λ taken. (takes : List Take) (owner : ℕ) → self.old ≡ state sizes.now takes →
+            SendsAreFrom owner (takes ++ (record { kind = kind; from = from; command = command }) ∷ []) →
+            taken.effect ≡ effect_of takes (record { kind = kind; from = from; command = command })) }
+        ensures broadcast { IfOk result (λ taken. (takes : List Take) → self.old ≡ state sizes.now takes →
+            taken.broadcast ≡ newly_sent sizes.now takes (takes ++ (record { kind = kind; from = from; command = command }) ∷ [])) }
+        ensures delivered { IfOk result (λ taken. (takes : List Take) → self.old ≡ state sizes.now takes →
+            taken.delivered ≡ newly_delivered sizes.now takes (takes ++ (record { kind = kind; from = from; command = command }) ∷ [])) }
+        ensures idle { IfOk result (λ taken. taken.effect ≡ Effect.Idle → self.new ≡ self.old) }
+        ensures err { OnErr result (self.new ≡ self.old) }
+    {
+        if self.has_voted(kind, from) {
+            return Ok(Taken {
+                effect: Effect::Idle,
+                broadcast: None,
+                delivered: None,
+            });
+        }
+        let echoed = self.echoed();
+        let readied = self.readied();
+        let delivered = self.delivered();
+        self.count(sizes, kind, from, command)?;
+        let newly_echoed = newly_of(echoed, self.echoed());
+        let newly_readied = newly_of(readied, self.readied());
+        Ok(Taken {
+            effect: Effect::Counted,
+            broadcast: message_for(newly_echoed, newly_readied),
+            delivered: newly_of(delivered, self.delivered()),
+        })
+    }
+
+    /// Whether a message of this kind from this node changes nothing.
+    fn has_voted(&self, kind: Kind, from: NodeName) -> bool
+        ensures { result ≡ has_voted self.now kind from }
+    {
+        match kind {
+            Kind::Send => self.echoed.is_some(),
+            Kind::Echo => self.echoes.has(from),
+            Kind::Ready => self.readies.has(from),
+        }
+    }
+
+    fn count(
+        &mut self,
+        sizes: &Sizes,
+        kind: Kind,
+        from: NodeName,
+        command: Command,
+    ) -> Result<(), AllocError>
+        requires { has_voted self.old kind from ≡ false }
+        ensures ok { OnOk result (self.new ≡ after_kind sizes.now self.old kind from command) }
+        ensures err { OnErr result (self.new ≡ self.old) }
+    {
+        match kind {
+            Kind::Send => {
+                self.count_send(command);
+                Ok(())
+            }
+            Kind::Echo => self.count_echo(sizes, from, command),
+            Kind::Ready => self.count_ready(sizes, from, command),
+        }
+    }
+
+    fn count_send(&mut self, command: Command)
+        ensures { self.new ≡ after_send self.old command }
+    {
+        self.echoed = first_of(self.echoed, true, command);
+    }
+
+    fn count_echo(
+        &mut self,
+        sizes: &Sizes,
+        from: NodeName,
+        command: Command,
+    ) -> Result<(), AllocError>
+        requires { has_voted self.old Kind.Echo from ≡ false }
+        ensures ok { OnOk result (self.new ≡ after_echo sizes.now self.old from command self.old.delivered) }
+        ensures err { OnErr result (self.new ≡ self.old) }
+    {
+        self.echoes.insert(from, command)?;
+        if self.delivered.is_some() {
+            return Ok(());
+        }
+        let due = may_ready(sizes, &self.echoes, &self.readies, command);
+        self.readied = first_of(self.readied, due, command);
+        Ok(())
+    }
+
+    fn count_ready(
+        &mut self,
+        sizes: &Sizes,
+        from: NodeName,
+        command: Command,
+    ) -> Result<(), AllocError>
+        requires { has_voted self.old Kind.Ready from ≡ false }
+        ensures ok { OnOk result (self.new ≡ after_ready sizes.now self.old from command self.old.delivered) }
+        ensures err { OnErr result (self.new ≡ self.old) }
+    {
+        self.readies.insert(from, command)?;
+        if self.delivered.is_some() {
+            return Ok(());
+        }
+        let ready = may_ready(sizes, &self.echoes, &self.readies, command);
+        self.readied = first_of(self.readied, ready, command);
+        let deliver = may_deliver(sizes, &self.readies, command);
+        self.delivered = first_of(None, deliver, command);
+        Ok(())
+    }
+
+    /// The command for which this node sent ECHO.
+    pub fn echoed(&self) -> Option<Command>
+        ensures { result ≡ self.now.echoed }
+    {
+        self.echoed
+    }
+
+    /// The command for which this node sent READY.
+    pub fn readied(&self) -> Option<Command>
+        ensures { result ≡ self.now.readied }
+    {
+        self.readied
+    }
+
+    /// The command that this node delivered.
+    pub fn delivered(&self) -> Option<Command>
+        ensures { result ≡ self.now.delivered }
+    {
+        self.delivered
+    }
+}

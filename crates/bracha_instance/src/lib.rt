@@ -1,0 +1,10 @@
+//! One instance of authenticated double-echo broadcast, as one node keeps it.
+//!
+//! `specs/Broadcast.antt` says what follows from the messages that the node took, and `specs/Taking.antt`
+//! what one more causes.
+#![tactic(auto)]
+
+mod instance;
+mod votes;
+
+pub use instance::{Effect, Instance, Taken};
