@@ -3,3 +3,7 @@ pub mod FirstPrefix
 pub mod KeptVotes
 pub mod Voting
 pub mod FirstDue
+pub mod Due
+pub mod StateSteps
+pub mod StateOf
+pub mod Counting

@@ -26,7 +26,7 @@ pub or_nothing : (o : Option Command) → option_or o None ≡ o
 or_nothing None = refl
 or_nothing (Some c) = refl
 
-map_or : (a b : Option Take) → option_map command_of (option_or a b) ≡ option_or (option_map command_of a) (option_map command_of b)
+pub map_or : (a b : Option Take) → option_map command_of (option_or a b) ≡ option_or (option_map command_of a) (option_map command_of b)
 map_or None b = refl
 map_or (Some t) b = refl
 
@@ -61,7 +61,7 @@ vote_push-other kind name ts t other =
     ∙ ap (λ b. option_or (vote kind name ts) (cond (b && (name == t.from)) (Some t.command) None)) other
     ∙ or_nothing (vote kind name ts)
 
-some_stays : (o more : Option Command) → is_some o ≡ true → option_or o more ≡ o
+pub some_stays : (o more : Option Command) → is_some o ≡ true → option_or o more ≡ o
 some_stays None more e = cc
 some_stays (Some c) more e = refl
 
