@@ -5,6 +5,7 @@
 #![tactic(auto)]
 
 mod instance;
+pub mod laws;
 mod votes;
 
 pub use instance::{Effect, Instance, Taken};
