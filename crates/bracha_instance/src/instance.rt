@@ -1,8 +1,18 @@
+<<<<<<< HEAD
 ghost use Rattle.std.specs.Prelude.{◌≡◌, ℕ, ◌<◌, List, [], ◌∷◌, ◌++◌, IfOk, OnOk, OnErr};
 ghost use Rattle.quorum_sizes.specs.Sizes.{Counts};
 ghost use Rattle.bracha_instance.specs.Broadcast.{Take};
 ghost use Rattle.bracha_instance.specs.States.{state};
 ghost use Rattle.bracha_instance.specs.Taking.{SendsAreFrom, effect_of, newly_sent, newly_delivered};
+=======
+ghost use Rattle.std.specs.Prelude.{◌≡◌, ℕ, ◌<◌, List, [], ◌∷◌, ◌++◌, false, IfOk, OnOk, OnErr};
+ghost use Rattle.std.specs.Option.{option_or};
+ghost use Rattle.quorum_sizes.specs.Sizes.{Counts};
+ghost use Rattle.bracha_instance.specs.Broadcast.{Take};
+ghost use Rattle.bracha_instance.specs.States.{state};
+ghost use Rattle.bracha_instance.specs.Taking.{SendsAreFrom, effect_of, newly, sent_for, newly_sent, newly_delivered};
+ghost use Rattle.bracha_instance.specs.Next.{ready_now, deliver_now, only_if, after_send, after_echo, after_ready, after_kind, has_voted};
+>>>>>>> c6ffc46ccdd6b052760ac11fa0b62112e3823548
 
 use link_frames::Kind;
 use quorum_sizes::{NodeName, Sizes};
@@ -44,6 +54,69 @@ pub struct Instance {
     readies: Votes,
 }
 
+<<<<<<< HEAD
+=======
+impl Model for Instance {
+    ghost use Rattle.bracha_instance.specs.States.{State};
+    ghost use Rattle.bracha_instance.specs.Kept.{state_code, seen};
+
+    ghost Value = { State };
+
+    ghost coded = { state_code };
+
+    ghost view = { λ a. seen a.echoed a.readied a.delivered a.echoes a.readies };
+}
+
+/// What was due, or else this command where it is due now.
+fn first_of(before: Option<Command>, due: bool, command: Command) -> Option<Command>
+    ensures { result ≡ option_or before (only_if due command) }
+{
+    if before.is_none() && due {
+        Some(command)
+    } else {
+        before
+    }
+}
+
+/// What there is now and was not before.
+fn newly_of(before: Option<Command>, now: Option<Command>) -> Option<Command>
+    ensures { result ≡ newly before now }
+{
+    match before {
+        None => now,
+        Some(_) => None,
+    }
+}
+
+/// The message for what was newly echoed or readied.
+fn message_for(echoed: Option<Command>, readied: Option<Command>) -> Option<(Kind, Command)>
+    ensures { result ≡ sent_for echoed readied }
+{
+    match (echoed, readied) {
+        (Some(command), _) => Some((Kind::Echo, command)),
+        (None, Some(command)) => Some((Kind::Ready, command)),
+        (None, None) => None,
+    }
+}
+
+/// Whether so many votes are for the command that the node may be ready for it.
+#[tactic(auto, unfolding(crate::specs::Next::ready_now))]
+fn may_ready(sizes: &Sizes, echoes: &Votes, readies: &Votes, command: Command) -> bool
+    ensures { result ≡ ready_now sizes.now command echoes.now readies.now }
+{
+    usize::from(sizes.echo_quorum()) <= echoes.supporters(command)
+        || usize::from(sizes.amplify()) <= readies.supporters(command)
+}
+
+/// Whether so many votes are for the command that the node may deliver it.
+#[tactic(auto, unfolding(crate::specs::Next::deliver_now))]
+fn may_deliver(sizes: &Sizes, readies: &Votes, command: Command) -> bool
+    ensures { result ≡ deliver_now sizes.now command readies.now }
+{
+    usize::from(sizes.deliver()) <= readies.supporters(command)
+}
+
+>>>>>>> c6ffc46ccdd6b052760ac11fa0b62112e3823548
 impl Instance {
     /// An instance in which nothing was taken. Takes no memory.
     pub fn new(alloc: Global) -> Self
@@ -82,6 +155,105 @@ impl Instance {
         ensures idle { IfOk result (λ taken. taken.effect ≡ Effect.Idle → self.new ≡ self.old) }
         ensures err { OnErr result (self.new ≡ self.old) }
     {
+<<<<<<< HEAD
+=======
+        if self.has_voted(kind, from) {
+            return Ok(Taken {
+                effect: Effect::Idle,
+                broadcast: None,
+                delivered: None,
+            });
+        }
+        let echoed = self.echoed();
+        let readied = self.readied();
+        let delivered = self.delivered();
+        self.count(sizes, kind, from, command)?;
+        let newly_echoed = newly_of(echoed, self.echoed());
+        let newly_readied = newly_of(readied, self.readied());
+        Ok(Taken {
+            effect: Effect::Counted,
+            broadcast: message_for(newly_echoed, newly_readied),
+            delivered: newly_of(delivered, self.delivered()),
+        })
+    }
+
+    /// Whether a message of this kind from this node changes nothing.
+    fn has_voted(&self, kind: Kind, from: NodeName) -> bool
+        ensures { result ≡ has_voted self.now kind from }
+    {
+        match kind {
+            Kind::Send => self.echoed.is_some(),
+            Kind::Echo => self.echoes.has(from),
+            Kind::Ready => self.readies.has(from),
+        }
+    }
+
+    fn count(
+        &mut self,
+        sizes: &Sizes,
+        kind: Kind,
+        from: NodeName,
+        command: Command,
+    ) -> Result<(), AllocError>
+        requires { has_voted self.old kind from ≡ false }
+        ensures ok { OnOk result (self.new ≡ after_kind sizes.now self.old kind from command) }
+        ensures err { OnErr result (self.new ≡ self.old) }
+    {
+        match kind {
+            Kind::Send => {
+                self.count_send(command);
+                Ok(())
+            }
+            Kind::Echo => self.count_echo(sizes, from, command),
+            Kind::Ready => self.count_ready(sizes, from, command),
+        }
+    }
+
+    fn count_send(&mut self, command: Command)
+        ensures { self.new ≡ after_send self.old command }
+    {
+        self.echoed = first_of(self.echoed, true, command);
+    }
+
+    fn count_echo(
+        &mut self,
+        sizes: &Sizes,
+        from: NodeName,
+        command: Command,
+    ) -> Result<(), AllocError>
+        requires { has_voted self.old Kind.Echo from ≡ false }
+        ensures ok { OnOk result (self.new ≡ after_echo sizes.now self.old from command self.old.delivered) }
+        ensures err { OnErr result (self.new ≡ self.old) }
+    {
+        self.echoes.insert(from, command)?;
+        if self.delivered.is_some() {
+            return Ok(());
+        }
+        let due = may_ready(sizes, &self.echoes, &self.readies, command);
+        self.readied = first_of(self.readied, due, command);
+        Ok(())
+    }
+
+    fn count_ready(
+        &mut self,
+        sizes: &Sizes,
+        from: NodeName,
+        command: Command,
+    ) -> Result<(), AllocError>
+        requires { has_voted self.old Kind.Ready from ≡ false }
+        ensures ok { OnOk result (self.new ≡ after_ready sizes.now self.old from command self.old.delivered) }
+        ensures err { OnErr result (self.new ≡ self.old) }
+    {
+        self.readies.insert(from, command)?;
+        if self.delivered.is_some() {
+            return Ok(());
+        }
+        let ready = may_ready(sizes, &self.echoes, &self.readies, command);
+        self.readied = first_of(self.readied, ready, command);
+        let deliver = may_deliver(sizes, &self.readies, command);
+        self.delivered = first_of(None, deliver, command);
+        Ok(())
+>>>>>>> c6ffc46ccdd6b052760ac11fa0b62112e3823548
     }
 
     /// The command for which this node sent ECHO.

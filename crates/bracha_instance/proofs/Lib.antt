@@ -1,0 +1,9 @@
+pub mod Same
+pub mod FirstPrefix
+pub mod KeptVotes
+pub mod Voting
+pub mod FirstDue
+pub mod Due
+pub mod StateSteps
+pub mod StateOf
+pub mod Counting

@@ -1,0 +1,245 @@
+-- The state of a list of messages: its fields, and that one more message is one step.
+-- Layers above can cite these.
+use Rattle.std.proofs.Common.{◌≡◌, ℕ, Bool, true, false, cond, List, [], ◌∷◌, ◌++◌, ◌==◌, ◌&&◌, find, option_map, is_some, Option, Some, None, IsSome, refl, sym, ap, ◌∙◌, inl, inr}
+use Rattle.std.proofs.lemmas.Bool.{cases_Bool}
+use Rattle.std.specs.Option.{option_or}
+use Rattle.std.specs.FinMap as maps
+use Rattle.std.specs.FinSet as sets
+use Rattle.quorum_sizes.specs.Sizes.{Counts}
+use Rattle.role_commands.specs.declared.command.Command.{Command}
+use Rattle.link_frames.specs.Kinds.{same_kind}
+use Rattle.link_frames.specs.declared.kind.Kind.{Kind}
+use Rattle.link_frames.specs.declared.kind.Kind.TheVariants.{Send, Echo, Ready}
+use Rattle.bracha_instance.specs.Broadcast.{Take, Names, command_of, is_of_kind, is_vote_of, is_for, vote, voters, supporters, echoed, readied, delivered, may_ready, may_deliver}
+use Rattle.bracha_instance.specs.States.{Votes, State, votes, kept, state}
+use Rattle.bracha_instance.specs.Laws.{or_else_if, RepeatChangesNothing}
+use Rattle.bracha_instance.specs.Next.{ready_now, deliver_now, only_if, has_voted, after_send, after_echo, after_ready, after_kind, after}
+use Rattle.bracha_instance.proofs.Voting.{or_nothing, vote_push-other, vote_push-again, echoed_push, some_stays, contains-voters, supporters_alike, voters_alike, votes_alike, votes_push-first, voters_push}
+use Rattle.bracha_instance.proofs.Due.{may_ready-votes, may_deliver-votes, may_ready-alike, may_deliver-alike, readies_its_own, delivers_its_own, not_ready, not_deliverable, delivered_is_ready}
+use Rattle.bracha_instance.proofs.StateSteps.{state_with, echo_step, ready_step, send_again}
+
+-- The fields.
+
+pub state-echoed : (s : Counts) (ts : List Take) → (state s ts).echoed ≡ echoed ts
+unfolding state
+state-echoed s ts = refl
+
+pub state-readied : (s : Counts) (ts : List Take) → (state s ts).readied ≡ readied s ts
+unfolding state
+state-readied s ts = refl
+
+pub state-delivered : (s : Counts) (ts : List Take) → (state s ts).delivered ≡ delivered s ts
+unfolding state
+state-delivered s ts = refl
+
+pub state-echoers : (s : Counts) (ts : List Take) → (state s ts).echoers ≡ voters Echo ts
+unfolding state
+state-echoers s ts = refl
+
+pub state-readiers : (s : Counts) (ts : List Take) → (state s ts).readiers ≡ voters Ready ts
+unfolding state
+state-readiers s ts = refl
+
+pub state-echo_votes : (s : Counts) (ts : List Take) → (state s ts).echo_votes ≡ kept (delivered s ts) (votes Echo ts)
+unfolding state
+state-echo_votes s ts = refl
+
+pub state-ready_votes : (s : Counts) (ts : List Take) → (state s ts).ready_votes ≡ kept (delivered s ts) (votes Ready ts)
+unfolding state
+state-ready_votes s ts = refl
+
+-- What another kind's message leaves.
+
+idle_by : (o : Option Command) (b : Bool) (c : Command) → (o ≡ None → b ≡ false) → or_else_if o b c ≡ o
+idle_by None b c never = ap (λ x. cond x (Some c) None) (never refl)
+idle_by (Some d) b c never = refl
+
+-- where no vote for the command is new, nothing is readied
+readied_same : (s : Counts) (ts : List Take) (t : Take) →
+    supporters Echo t.command (ts ++ t ∷ []) ≡ supporters Echo t.command ts → supporters Ready t.command (ts ++ t ∷ []) ≡ supporters Ready t.command ts →
+    readied s (ts ++ t ∷ []) ≡ readied s ts
+readied_same s ts t echoes readies =
+    readies_its_own s ts t
+    ∙ idle_by (readied s ts) (may_ready s (ts ++ t ∷ []) t.command) t.command
+      (λ none. may_ready-alike s ts (ts ++ t ∷ []) t.command echoes readies ∙ not_ready s ts none t.command)
+
+-- where no READY for the command is new, nothing is delivered
+delivered_same : (s : Counts) (ts : List Take) (t : Take) → supporters Ready t.command (ts ++ t ∷ []) ≡ supporters Ready t.command ts →
+    delivered s (ts ++ t ∷ []) ≡ delivered s ts
+delivered_same s ts t readies =
+    delivers_its_own s ts t
+    ∙ idle_by (delivered s ts) (may_deliver s (ts ++ t ∷ []) t.command) t.command
+      (λ none. may_deliver-alike s ts (ts ++ t ∷ []) t.command readies ∙ not_deliverable s ts none t.command)
+
+abbrev SameVotes : Kind → List Take → List Take → Type 0
+SameVotes kind ts us = (q : ℕ) → vote kind q us ≡ vote kind q ts
+
+supporters_same : (kind : Kind) (c : Command) (ts us : List Take) → SameVotes kind ts us → supporters kind c us ≡ supporters kind c ts
+supporters_same kind c ts us same = supporters_alike kind c ts us (λ q. ap (is_for c) (same q))
+
+state_by : (s : Counts) (ts us : List Take) → echoed us ≡ echoed ts → readied s us ≡ readied s ts → delivered s us ≡ delivered s ts →
+    SameVotes Echo ts us → SameVotes Ready ts us → state s us ≡ state s ts
+unfolding state
+state_by s ts us ee er ed ev rv = λ i.
+    record {
+      echoed = ee i;
+      readied = er i;
+      delivered = ed i;
+      echoers = voters_alike Echo ts us ev i;
+      readiers = voters_alike Ready ts us rv i;
+      echo_votes = kept (ed i) (votes_alike Echo ts us ev i);
+      ready_votes = kept (ed i) (votes_alike Ready ts us rv i)
+    }
+
+-- A SEND.
+
+send_by : (st : State) (c : Command) (b : Bool) → is_some st.echoed ≡ b → after_send st c ≡ cond b st (after_send st c)
+send_by st c true is = send_again st c is
+send_by st c false is = refl
+
+push_send : (s : Counts) (ts : List Take) (p : ℕ) (c : Command) →
+    state s (ts ++ (record { kind = Send; from = p; command = c }) ∷ []) ≡ after_send (state s ts) c
+unfolding state
+push_send s ts p c =
+    let t : Take = record { kind = Send; from = p; command = c } in
+    let us = ts ++ t ∷ [] in
+    let ev : SameVotes Echo ts us = λ q. vote_push-other Echo q ts t refl in
+    let rv : SameVotes Ready ts us = λ q. vote_push-other Ready q ts t refl in
+    let er = readied_same s ts t (supporters_same Echo c ts us ev) (supporters_same Ready c ts us rv) in
+    let ed = delivered_same s ts t (supporters_same Ready c ts us rv) in
+    λ i. record {
+      echoed = echoed_push ts t i;
+      readied = er i;
+      delivered = ed i;
+      echoers = voters_alike Echo ts us ev i;
+      readiers = voters_alike Ready ts us rv i;
+      echo_votes = kept (ed i) (votes_alike Echo ts us ev i);
+      ready_votes = kept (ed i) (votes_alike Ready ts us rv i)
+    }
+
+-- An ECHO.
+
+pub none_of : {X : Type 0} (o : Option X) → is_some o ≡ false → o ≡ None
+none_of None e = refl
+none_of (Some x) e = absurd cc
+
+-- a second vote, of whatever kind but SEND
+push_again : (s : Counts) (ts : List Take) (t : Take) → same_kind Send t.kind ≡ false → is_some (vote t.kind t.from ts) ≡ true →
+    state s (ts ++ t ∷ []) ≡ state s ts
+push_again s ts t no_send voted =
+    let us = ts ++ t ∷ [] in
+    let same : (kind : Kind) → SameVotes kind ts us = λ kind q. vote_push-again kind q ts t voted in
+    state_by s ts us
+      (echoed_push ts t ∙ ap (λ b. option_or (echoed ts) (cond b (Some t.command) None)) no_send ∙ or_nothing (echoed ts))
+      (readied_same s ts t (supporters_same Echo t.command ts us (same Echo)) (supporters_same Ready t.command ts us (same Ready)))
+      (delivered_same s ts t (supporters_same Ready t.command ts us (same Ready)))
+      (same Echo)
+      (same Ready)
+
+-- what is readied stays, where a command was delivered
+readied_late : (s : Counts) (ts : List Take) (t : Take) (d : Option Command) → delivered s ts ≡ d → is_some d ≡ true →
+    readied s (ts ++ t ∷ []) ≡ readied s ts
+readied_late s ts t None is some = absurd cc
+readied_late s ts t (Some c) is some = readies_its_own s ts t ∙ some_stays (readied s ts) _ (delivered_is_ready s ts c is)
+
+-- what is delivered stays
+delivered_late : (s : Counts) (ts : List Take) (t : Take) → is_some (delivered s ts) ≡ true → delivered s (ts ++ t ∷ []) ≡ delivered s ts
+delivered_late s ts t some = delivers_its_own s ts t ∙ some_stays (delivered s ts) _ some
+
+first_echo : (s : Counts) (ts : List Take) (p : ℕ) (c : Command) → vote Echo p ts ≡ None →
+    state s (ts ++ (record { kind = Echo; from = p; command = c }) ∷ []) ≡ after_echo s (state s ts) p c (delivered s ts)
+unfolding state
+first_echo s ts p c none =
+    let t : Take = record { kind = Echo; from = p; command = c } in
+    let us = ts ++ t ∷ [] in
+    let rv : SameVotes Ready ts us = λ q. vote_push-other Ready q ts t refl in
+    let echoes = votes_push-first ts t none in
+    let readies = votes_alike Ready ts us rv in
+    let may : may_ready s us c ≡ ready_now s c (maps.insert (votes Echo ts) p c) (votes Ready ts) =
+      may_ready-votes s us c ∙ (λ i. ready_now s c (echoes i) (readies i)) in
+    echo_step s p c (echoed ts) (readied s ts) (delivered s ts) (voters Echo ts) (voters Ready ts) (votes Echo ts) (votes Ready ts)
+      (echoed us) (readied s us) (delivered s us) (voters Echo us) (voters Ready us) (votes Echo us) (votes Ready us)
+      (echoed_push ts t ∙ or_nothing (echoed ts))
+      (delivered_same s ts t (supporters_same Ready c ts us rv))
+      (voters_push ts t)
+      (voters_alike Ready ts us rv)
+      echoes
+      readies
+      (λ _. readies_its_own s ts t ∙ ap (λ b. option_or (readied s ts) (only_if b c)) may)
+      (λ some. readied_late s ts t (delivered s ts) refl some)
+
+echo_by : (s : Counts) (ts : List Take) (p : ℕ) (c : Command) (b : Bool) → sets.contains (voters Echo ts) p ≡ b →
+    state s (ts ++ (record { kind = Echo; from = p; command = c }) ∷ []) ≡ cond b (state s ts) (after_echo s (state s ts) p c (delivered s ts))
+echo_by s ts p c true is = push_again s ts (record { kind = Echo; from = p; command = c }) refl (sym (contains-voters Echo ts p) ∙ is)
+echo_by s ts p c false is = first_echo s ts p c (none_of (vote Echo p ts) (sym (contains-voters Echo ts p) ∙ is))
+
+-- A READY.
+
+first_ready : (s : Counts) (ts : List Take) (p : ℕ) (c : Command) → vote Ready p ts ≡ None →
+    state s (ts ++ (record { kind = Ready; from = p; command = c }) ∷ []) ≡ after_ready s (state s ts) p c (delivered s ts)
+unfolding state
+first_ready s ts p c none =
+    let t : Take = record { kind = Ready; from = p; command = c } in
+    let us = ts ++ t ∷ [] in
+    let ev : SameVotes Echo ts us = λ q. vote_push-other Echo q ts t refl in
+    let echoes = votes_alike Echo ts us ev in
+    let readies = votes_push-first ts t none in
+    let may : may_ready s us c ≡ ready_now s c (votes Echo ts) (maps.insert (votes Ready ts) p c) =
+      may_ready-votes s us c ∙ (λ i. ready_now s c (echoes i) (readies i)) in
+    let may_now : may_deliver s us c ≡ deliver_now s c (maps.insert (votes Ready ts) p c) =
+      may_deliver-votes s us c ∙ ap (deliver_now s c) readies in
+    ready_step s p c (echoed ts) (readied s ts) (delivered s ts) (voters Echo ts) (voters Ready ts) (votes Echo ts) (votes Ready ts)
+      (echoed us) (readied s us) (delivered s us) (voters Echo us) (voters Ready us) (votes Echo us) (votes Ready us)
+      (echoed_push ts t ∙ or_nothing (echoed ts))
+      (voters_alike Echo ts us ev)
+      (voters_push ts t)
+      echoes
+      readies
+      (λ _. readies_its_own s ts t ∙ ap (λ b. option_or (readied s ts) (only_if b c)) may)
+      (λ before. delivers_its_own s ts t ∙ (λ i. option_or (before i) (only_if (may_now i) c)))
+      (λ some. readied_late s ts t (delivered s ts) refl some)
+      (λ some. delivered_late s ts t some)
+
+ready_by : (s : Counts) (ts : List Take) (p : ℕ) (c : Command) (b : Bool) → sets.contains (voters Ready ts) p ≡ b →
+    state s (ts ++ (record { kind = Ready; from = p; command = c }) ∷ []) ≡ cond b (state s ts) (after_ready s (state s ts) p c (delivered s ts))
+ready_by s ts p c true is = push_again s ts (record { kind = Ready; from = p; command = c }) refl (sym (contains-voters Ready ts p) ∙ is)
+ready_by s ts p c false is = first_ready s ts p c (none_of (vote Ready p ts) (sym (contains-voters Ready ts p) ∙ is))
+
+-- Any message.
+
+push_by : (s : Counts) (ts : List Take) (kind : Kind) (p : ℕ) (c : Command) →
+    state s (ts ++ (record { kind = kind; from = p; command = c }) ∷ []) ≡ cond (has_voted (state s ts) kind p) (state s ts) (after_kind s (state s ts) kind p c)
+unfolding state
+push_by s ts Send p c = push_send s ts p c ∙ send_by (state s ts) c (is_some (echoed ts)) refl
+push_by s ts Echo p c = echo_by s ts p c (sets.contains (voters Echo ts) p) refl
+push_by s ts Ready p c = ready_by s ts p c (sets.contains (voters Ready ts) p) refl
+
+-- the state of a longer list is one step from the state of the list
+pub state_push : (s : Counts) (ts : List Take) (t : Take) → state s (ts ++ t ∷ []) ≡ after s (state s ts) t
+unfolding after
+state_push s ts t = push_by s ts t.kind t.from t.command
+
+-- a message that its node sent before, of that kind, changes nothing
+send_voted : (p : ℕ) (ts : List Take) → is_some (option_map command_of (find (is_vote_of Send p) ts)) ≡ true → is_some (option_map command_of (find (is_of_kind Send) ts)) ≡ true
+send_voted p [] is = is
+send_voted p (t ∷ ts) is = send_voted_by (same_kind Send t.kind) (p == t.from) t (find (is_vote_of Send p) ts) (find (is_of_kind Send) ts) (send_voted p ts) is
+  where
+    send_voted_by : (a b : Bool) (t : Take) (x y : Option Take) → (is_some (option_map command_of x) ≡ true → is_some (option_map command_of y) ≡ true) →
+        is_some (option_map command_of (cond (a && b) (Some t) x)) ≡ true → is_some (option_map command_of (cond a (Some t) y)) ≡ true
+    send_voted_by true b t x y later is = refl
+    send_voted_by false b t x y later is = later is
+
+pub voted : (s : Counts) (ts : List Take) (kind : Kind) (p : ℕ) → is_some (vote kind p ts) ≡ true → has_voted (state s ts) kind p ≡ true
+unfolding state vote echoed
+voted s ts Send p is = send_voted p ts is
+voted s ts Echo p is = contains-voters Echo ts p ∙ is
+voted s ts Ready p is = contains-voters Ready ts p ∙ is
+
+pub repeat_changes_nothing : RepeatChangesNothing
+unfolding after
+repeat_changes_nothing s ts t again =
+    let us = ts ++ t ∷ [] in
+    let same : (kind : Kind) → SameVotes kind ts us = λ kind q. vote_push-again kind q ts t again in
+    (same,
+     λ kind c. supporters_same kind c ts us (same kind),
+     state_push s ts t ∙ ap (λ b. cond b (state s ts) (after_kind s (state s ts) t.kind t.from t.command)) (voted s ts t.kind t.from again))
