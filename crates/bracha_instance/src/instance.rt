@@ -1,10 +1,3 @@
-<<<<<<< HEAD
-ghost use Rattle.std.specs.Prelude.{◌≡◌, ℕ, ◌<◌, List, [], ◌∷◌, ◌++◌, IfOk, OnOk, OnErr};
-ghost use Rattle.quorum_sizes.specs.Sizes.{Counts};
-ghost use Rattle.bracha_instance.specs.Broadcast.{Take};
-ghost use Rattle.bracha_instance.specs.States.{state};
-ghost use Rattle.bracha_instance.specs.Taking.{SendsAreFrom, effect_of, newly_sent, newly_delivered};
-=======
 ghost use Rattle.std.specs.Prelude.{◌≡◌, ℕ, ◌<◌, List, [], ◌∷◌, ◌++◌, false, IfOk, OnOk, OnErr};
 ghost use Rattle.std.specs.Option.{option_or};
 ghost use Rattle.quorum_sizes.specs.Sizes.{Counts};
@@ -12,7 +5,6 @@ ghost use Rattle.bracha_instance.specs.Broadcast.{Take};
 ghost use Rattle.bracha_instance.specs.States.{state};
 ghost use Rattle.bracha_instance.specs.Taking.{SendsAreFrom, effect_of, newly, sent_for, newly_sent, newly_delivered};
 ghost use Rattle.bracha_instance.specs.Next.{ready_now, deliver_now, only_if, after_send, after_echo, after_ready, after_kind, has_voted};
->>>>>>> c6ffc46ccdd6b052760ac11fa0b62112e3823548
 
 use link_frames::Kind;
 use quorum_sizes::{NodeName, Sizes};
@@ -54,8 +46,6 @@ pub struct Instance {
     readies: Votes,
 }
 
-<<<<<<< HEAD
-=======
 impl Model for Instance {
     ghost use Rattle.bracha_instance.specs.States.{State};
     ghost use Rattle.bracha_instance.specs.Kept.{state_code, seen};
@@ -116,7 +106,6 @@ fn may_deliver(sizes: &Sizes, readies: &Votes, command: Command) -> bool
     usize::from(sizes.deliver()) <= readies.supporters(command)
 }
 
->>>>>>> c6ffc46ccdd6b052760ac11fa0b62112e3823548
 impl Instance {
     /// An instance in which nothing was taken. Takes no memory.
     pub fn new(alloc: Global) -> Self
@@ -155,8 +144,6 @@ impl Instance {
         ensures idle { IfOk result (λ taken. taken.effect ≡ Effect.Idle → self.new ≡ self.old) }
         ensures err { OnErr result (self.new ≡ self.old) }
     {
-<<<<<<< HEAD
-=======
         if self.has_voted(kind, from) {
             return Ok(Taken {
                 effect: Effect::Idle,
@@ -253,7 +240,6 @@ impl Instance {
         let deliver = may_deliver(sizes, &self.readies, command);
         self.delivered = first_of(None, deliver, command);
         Ok(())
->>>>>>> c6ffc46ccdd6b052760ac11fa0b62112e3823548
     }
 
     /// The command for which this node sent ECHO.

@@ -9,9 +9,3 @@ pub mod laws;
 mod votes;
 
 pub use instance::{Effect, Instance, Taken};
-<<<<<<< HEAD
-
-#[cfg(test)]
-mod tests;
-=======
->>>>>>> c6ffc46ccdd6b052760ac11fa0b62112e3823548
