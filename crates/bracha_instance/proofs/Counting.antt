@@ -1,6 +1,5 @@
 -- What the code of an instance shows of each of its steps.
-use Rattle.std.proofs.Common.{◌≡◌, ℕ, Bool, true, false, cond, List, [], ◌∷◌, ◌++◌, length, All, is_some, Option, Some, None, refl, sym, ap, ◌∙◌, ◌==◌, ◌&&◌, find, option_map, zero, suc, zero-le, suc-le-suc, le_of_suc-le-suc, not-suc-le-zero, eq-eqb}
-use Rattle.std.proofs.lemmas.Bool.{cases_Bool}
+use Rattle.std.proofs.Common.{◌≡◌, ℕ, Bool, true, false, cond, List, [], ◌∷◌, ◌++◌, All, is_some, Option, Some, None, refl, sym, ap, ◌∙◌, ◌==◌, ◌&&◌, find, option_map, zero, suc, zero-le, suc-le-suc, le_of_suc-le-suc, not-suc-le-zero, eq-eqb}
 use Rattle.std.specs.Option.{option_or}
 use Rattle.std.specs.FinMap as maps
 use Rattle.std.specs.FinSet as sets
@@ -9,7 +8,6 @@ use Rattle.role_commands.specs.declared.command.Command.{Command}
 use Rattle.link_frames.specs.Kinds.{same_kind}
 use Rattle.link_frames.specs.declared.kind.Kind.{Kind}
 use Rattle.link_frames.specs.declared.kind.Kind.TheVariants.{Send, Echo, Ready}
-use Rattle.bracha_instance.specs.declared.instance.Effect.{Effect}
 use Rattle.bracha_instance.specs.declared.instance.Effect.TheVariants.{Idle, Counted}
 use Rattle.bracha_instance.specs.Prefixes.{at_first_prefix}
 use Rattle.bracha_instance.specs.Broadcast.{Take, command_of, is_of_kind, is_vote_of, vote, voters, echoed, readied, delivered}
@@ -34,7 +32,7 @@ state-empty s echoes readies no_echoes no_readies = λ i.
       echoers = (ap names_of no_echoes ∙ names_of-empty) i;
       readiers = (ap names_of no_readies ∙ names_of-empty) i;
       echo_votes = no_echoes i;
-      ready_votes = no_readies i
+      ready_votes = no_readies i;
     }
 
 -- a name without a vote
@@ -50,8 +48,8 @@ pub echo_late : (s : Counts) (p : ℕ) (c : Command) (e r d : Option Command) (e
     seen e r d more readies ≡ after_echo s (seen e r d echoes readies) p c d
 echo_late s p c e r d echoes readies more late inserted =
     echo_step s p c e r d (names_of echoes) (names_of readies) echoes readies e r d (names_of more) (names_of readies) more readies
-      refl refl (ap names_of inserted ∙ names_of-insert echoes p c) refl inserted refl
-      (λ before. late_or_not d _ before late) (λ _. refl)
+    refl refl (ap names_of inserted ∙ names_of-insert echoes p c) refl inserted refl
+    (λ before. late_or_not d _ before late) (λ _. refl)
 
 -- an ECHO before it
 pub echo_early : (s : Counts) (p : ℕ) (c : Command) (e r d now : Option Command) (due : Bool) (echoes readies more : Votes) → is_some d ≡ false → more ≡ maps.insert echoes p c →
@@ -59,17 +57,17 @@ pub echo_early : (s : Counts) (p : ℕ) (c : Command) (e r d now : Option Comman
     seen e now d more readies ≡ after_echo s (seen e r d echoes readies) p c d
 echo_early s p c e r d now due echoes readies more early inserted is_due is_now =
     echo_step s p c e r d (names_of echoes) (names_of readies) echoes readies e now d (names_of more) (names_of readies) more readies
-      refl refl (ap names_of inserted ∙ names_of-insert echoes p c) refl inserted refl
-      (λ _. is_now ∙ ap (λ b. option_or r (only_if b c)) (is_due ∙ ap (λ v. ready_now s c v readies) inserted))
-      (λ late. late_or_not d _ (none_of d early) late)
+    refl refl (ap names_of inserted ∙ names_of-insert echoes p c) refl inserted refl
+    (λ _. is_now ∙ ap (λ b. option_or r (only_if b c)) (is_due ∙ ap (λ v. ready_now s c v readies) inserted))
+    (λ late. late_or_not d _ (none_of d early) late)
 
 -- a READY after a delivery
 pub ready_late : (s : Counts) (p : ℕ) (c : Command) (e r d : Option Command) (echoes readies more : Votes) → is_some d ≡ true → more ≡ maps.insert readies p c →
     seen e r d echoes more ≡ after_ready s (seen e r d echoes readies) p c d
 ready_late s p c e r d echoes readies more late inserted =
     ready_step s p c e r d (names_of echoes) (names_of readies) echoes readies e r d (names_of echoes) (names_of more) echoes more
-      refl refl (ap names_of inserted ∙ names_of-insert readies p c) refl inserted
-      (λ before. late_or_not d _ before late) (λ before. late_or_not d _ before late) (λ _. refl) (λ _. refl)
+    refl refl (ap names_of inserted ∙ names_of-insert readies p c) refl inserted
+    (λ before. late_or_not d _ before late) (λ before. late_or_not d _ before late) (λ _. refl) (λ _. refl)
 
 -- a READY before it
 pub ready_early : (s : Counts) (p : ℕ) (c : Command) (e r d now then : Option Command) (due deliver : Bool) (echoes readies more : Votes) → is_some d ≡ false → more ≡ maps.insert readies p c →
@@ -77,11 +75,11 @@ pub ready_early : (s : Counts) (p : ℕ) (c : Command) (e r d now then : Option 
     seen e now then echoes more ≡ after_ready s (seen e r d echoes readies) p c d
 ready_early s p c e r d now then due deliver echoes readies more early inserted is_due is_now is_deliver is_then =
     ready_step s p c e r d (names_of echoes) (names_of readies) echoes readies e now then (names_of echoes) (names_of more) echoes more
-      refl refl (ap names_of inserted ∙ names_of-insert readies p c) refl inserted
-      (λ _. is_now ∙ ap (λ b. option_or r (only_if b c)) (is_due ∙ ap (ready_now s c echoes) inserted))
-      (λ _. is_then ∙ ap (λ b. only_if b c) (is_deliver ∙ ap (deliver_now s c) inserted))
-      (λ late. late_or_not d _ (none_of d early) late)
-      (λ late. late_or_not d _ (none_of d early) late)
+    refl refl (ap names_of inserted ∙ names_of-insert readies p c) refl inserted
+    (λ _. is_now ∙ ap (λ b. option_or r (only_if b c)) (is_due ∙ ap (ready_now s c echoes) inserted))
+    (λ _. is_then ∙ ap (λ b. only_if b c) (is_deliver ∙ ap (deliver_now s c) inserted))
+    (λ late. late_or_not d _ (none_of d early) late)
+    (λ late. late_or_not d _ (none_of d early) late)
 
 -- The answers of `take`.
 
@@ -141,7 +139,7 @@ owner_first owner [] all = refl
 owner_first owner (t ∷ ts) all =
     ap (cond (is_vote_of Send owner t) (Some t)) (owner_first owner ts (λ k d within. all (suc k) d (suc-le-suc within)))
     ∙ same_test (same_kind Send t.kind) (owner == t.from) t (find (is_of_kind Send) ts)
-      (λ is. eq-eqb owner t.from (sym (all zero t (suc-le-suc zero-le) (sym (same_kind-true Send t.kind is)))))
+    (λ is. eq-eqb owner t.from (sym (all zero t (suc-le-suc zero-le) (sym (same_kind-true Send t.kind is)))))
 
 vote_is : (s : Counts) (ts : List Take) (owner : ℕ) (kind : Kind) (p : ℕ) (c : Command) → SendsAreFrom owner (ts ++ (record { kind = kind; from = p; command = c }) ∷ []) →
     has_voted (state s ts) kind p ≡ is_some (vote kind p ts)

@@ -1,6 +1,6 @@
 -- What is due at the first moment at which something is, where one more message can make only its own command due.
-use Rattle.std.proofs.Common.{◌≡◌, ℕ, ◌<◌, ◌≤◌, Bool, true, false, cond, List, [], ◌∷◌, ◌++◌, map, find, length, take, is_some, Option, Some, None, IsSome, refl, sym, ap, subst, ◌∙◌, inl, inr}
-use Rattle.std.proofs.lemmas.Bool.{cases_Bool, both_ways}
+use Rattle.std.proofs.Common.{◌≡◌, ℕ, ◌<◌, ◌≤◌, Bool, true, false, cond, List, [], ◌∷◌, ◌++◌, map, find, length, take, is_some, Option, Some, None, IsSome, refl, sym, ap, subst, ◌∙◌}
+use Rattle.std.proofs.lemmas.Bool.{both_ways}
 use Rattle.std.proofs.lemmas.List.{map-append}
 use Rattle.std.proofs.lemmas.Option.{same_Some}
 use Rattle.std.specs.Option.{option_or}
@@ -9,7 +9,7 @@ use Rattle.role_commands.specs.Same.{same_command}
 use Rattle.bracha_instance.specs.Prefixes.{at_first_prefix}
 use Rattle.bracha_instance.specs.Broadcast.{Take, command_of, command_that}
 use Rattle.bracha_instance.specs.Laws.{or_else_if}
-use Rattle.bracha_instance.proofs.Same.{same_command-true, same_command-refl}
+use Rattle.bracha_instance.proofs.Same.{same_command-true}
 use Rattle.bracha_instance.proofs.FirstPrefix.{prefix_push, prefix_kept, prefix_none, prefix_last, prefix_found}
 
 passes_by : {X : Type 0} (p : X → Bool) (y x : X) (rest : Option X) → (rest ≡ Some x → p x ≡ true) → (b : Bool) → p y ≡ b → cond b (Some y) rest ≡ Some x → p x ≡ true
@@ -54,7 +54,6 @@ some_unless_none (Some x) not_none = refl
 module _ (may : List Take → Command → Bool)
     (others : (ts : List Take) (t : Take) (d : Command) → same_command d t.command ≡ false → may (ts ++ t ∷ []) d ≡ may ts d)
     (nobodys : (ts : List Take) (d : Command) → find (same_command d) (map command_of ts) ≡ None → may ts d ≡ false) where
-
   -- what is due in these takes
   abbrev pub due : List Take → Option Command
   due past = command_that (may past) past

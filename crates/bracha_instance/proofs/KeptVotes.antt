@@ -1,7 +1,7 @@
 -- The names and the supporters in a map of votes, and the map that a list of votes is.
 use Rattle.std.proofs.Common.{◌≡◌, ℕ, ◌+◌, ◌<◌, ◌==◌, ◌≢◌, Bool, true, false, cond, ◌&&◌, ◌||◌, List, [], ◌∷◌, ◌++◌, map, length, get_or, count_by, is_some, Option, Some, None, refl, sym, ap, ◌∙◌, inl, inr, arith, zero, suc, zero-le, suc-le-suc, le_of_suc-le-suc, eqb-true, eq-eqb}
 use Rattle.std.proofs.lemmas.Bool.{cases_Bool, or_parts, both_ways, ne_eqb}
-use Rattle.std.proofs.lemmas.List.{map-append, get_or_append_left}
+use Rattle.std.proofs.lemmas.List.{map-append}
 use Rattle.std.proofs.lemmas.List.Sums.{sum_by-cons}
 use Rattle.std.proofs.lemmas.List.Quantifiers.{all_pairs_push}
 use Rattle.std.specs.List.{list_any}
@@ -96,6 +96,7 @@ len_supporters_in-insert c d v p none =
   where
     one_more : (n : ℕ) → n + 1 ≡ 1 + n
     one_more n = omega arith
+
     none_more : (n : ℕ) → n ≡ 0 + n
     none_more n = omega arith
 
@@ -114,6 +115,7 @@ has_name xs q = sym (ap is_some (get-votes_in xs q) ∙ by_entries xs)
   where
     turned : (m n : ℕ) → eq_by_cmp nat_cmp m n ≡ (n == m)
     turned m n = unsigned_tied m n ∙ nat_eq_equiv.symm m n
+
     by_entries : (xs : List Vote) → is_some (maps.find nat_cmp q (map entry_of xs)) ≡ list_any (λ (v : Vote). v.name == q) xs
     by_entries [] = refl
     by_entries (x ∷ xs) =

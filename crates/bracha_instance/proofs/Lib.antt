@@ -7,3 +7,4 @@ pub mod Due
 pub mod StateSteps
 pub mod StateOf
 pub mod Counting
+pub mod Exported

@@ -1,7 +1,6 @@
 -- The state of a list of messages: its fields, and that one more message is one step.
 -- Layers above can cite these.
-use Rattle.std.proofs.Common.{◌≡◌, ℕ, Bool, true, false, cond, List, [], ◌∷◌, ◌++◌, ◌==◌, ◌&&◌, find, option_map, is_some, Option, Some, None, IsSome, refl, sym, ap, ◌∙◌, inl, inr}
-use Rattle.std.proofs.lemmas.Bool.{cases_Bool}
+use Rattle.std.proofs.Common.{◌≡◌, ℕ, Bool, true, false, cond, List, [], ◌∷◌, ◌++◌, ◌==◌, ◌&&◌, find, option_map, is_some, Option, Some, None, refl, sym, ap, ◌∙◌}
 use Rattle.std.specs.Option.{option_or}
 use Rattle.std.specs.FinMap as maps
 use Rattle.std.specs.FinSet as sets
@@ -10,13 +9,13 @@ use Rattle.role_commands.specs.declared.command.Command.{Command}
 use Rattle.link_frames.specs.Kinds.{same_kind}
 use Rattle.link_frames.specs.declared.kind.Kind.{Kind}
 use Rattle.link_frames.specs.declared.kind.Kind.TheVariants.{Send, Echo, Ready}
-use Rattle.bracha_instance.specs.Broadcast.{Take, Names, command_of, is_of_kind, is_vote_of, is_for, vote, voters, supporters, echoed, readied, delivered, may_ready, may_deliver}
-use Rattle.bracha_instance.specs.States.{Votes, State, votes, kept, state}
+use Rattle.bracha_instance.specs.Broadcast.{Take, command_of, is_of_kind, is_vote_of, is_for, vote, voters, supporters, echoed, readied, delivered, may_ready, may_deliver}
+use Rattle.bracha_instance.specs.States.{State, votes, kept, state}
 use Rattle.bracha_instance.specs.Laws.{or_else_if, RepeatChangesNothing}
 use Rattle.bracha_instance.specs.Next.{ready_now, deliver_now, only_if, has_voted, after_send, after_echo, after_ready, after_kind, after}
 use Rattle.bracha_instance.proofs.Voting.{or_nothing, vote_push-other, vote_push-again, echoed_push, some_stays, contains-voters, supporters_alike, voters_alike, votes_alike, votes_push-first, voters_push}
 use Rattle.bracha_instance.proofs.Due.{may_ready-votes, may_deliver-votes, may_ready-alike, may_deliver-alike, readies_its_own, delivers_its_own, not_ready, not_deliverable, delivered_is_ready}
-use Rattle.bracha_instance.proofs.StateSteps.{state_with, echo_step, ready_step, send_again}
+use Rattle.bracha_instance.proofs.StateSteps.{echo_step, ready_step, send_again}
 
 -- The fields.
 
@@ -61,7 +60,7 @@ readied_same : (s : Counts) (ts : List Take) (t : Take) →
 readied_same s ts t echoes readies =
     readies_its_own s ts t
     ∙ idle_by (readied s ts) (may_ready s (ts ++ t ∷ []) t.command) t.command
-      (λ none. may_ready-alike s ts (ts ++ t ∷ []) t.command echoes readies ∙ not_ready s ts none t.command)
+    (λ none. may_ready-alike s ts (ts ++ t ∷ []) t.command echoes readies ∙ not_ready s ts none t.command)
 
 -- where no READY for the command is new, nothing is delivered
 delivered_same : (s : Counts) (ts : List Take) (t : Take) → supporters Ready t.command (ts ++ t ∷ []) ≡ supporters Ready t.command ts →
@@ -69,13 +68,18 @@ delivered_same : (s : Counts) (ts : List Take) (t : Take) → supporters Ready t
 delivered_same s ts t readies =
     delivers_its_own s ts t
     ∙ idle_by (delivered s ts) (may_deliver s (ts ++ t ∷ []) t.command) t.command
-      (λ none. may_deliver-alike s ts (ts ++ t ∷ []) t.command readies ∙ not_deliverable s ts none t.command)
+    (λ none. may_deliver-alike s ts (ts ++ t ∷ []) t.command readies ∙ not_deliverable s ts none t.command)
 
 abbrev SameVotes : Kind → List Take → List Take → Type 0
 SameVotes kind ts us = (q : ℕ) → vote kind q us ≡ vote kind q ts
 
 supporters_same : (kind : Kind) (c : Command) (ts us : List Take) → SameVotes kind ts us → supporters kind c us ≡ supporters kind c ts
 supporters_same kind c ts us same = supporters_alike kind c ts us (λ q. ap (is_for c) (same q))
+
+-- only a READY can deliver
+pub delivered_push-other : (s : Counts) (ts : List Take) (t : Take) → same_kind Ready t.kind ≡ false → delivered s (ts ++ t ∷ []) ≡ delivered s ts
+delivered_push-other s ts t other =
+    delivered_same s ts t (supporters_same Ready t.command ts (ts ++ t ∷ []) (λ q. vote_push-other Ready q ts t other))
 
 state_by : (s : Counts) (ts us : List Take) → echoed us ≡ echoed ts → readied s us ≡ readied s ts → delivered s us ≡ delivered s ts →
     SameVotes Echo ts us → SameVotes Ready ts us → state s us ≡ state s ts
@@ -88,7 +92,7 @@ state_by s ts us ee er ed ev rv = λ i.
       echoers = voters_alike Echo ts us ev i;
       readiers = voters_alike Ready ts us rv i;
       echo_votes = kept (ed i) (votes_alike Echo ts us ev i);
-      ready_votes = kept (ed i) (votes_alike Ready ts us rv i)
+      ready_votes = kept (ed i) (votes_alike Ready ts us rv i);
     }
 
 -- A SEND.
@@ -114,7 +118,7 @@ push_send s ts p c =
       echoers = voters_alike Echo ts us ev i;
       readiers = voters_alike Ready ts us rv i;
       echo_votes = kept (ed i) (votes_alike Echo ts us ev i);
-      ready_votes = kept (ed i) (votes_alike Ready ts us rv i)
+      ready_votes = kept (ed i) (votes_alike Ready ts us rv i);
     }
 
 -- An ECHO.
@@ -130,11 +134,11 @@ push_again s ts t no_send voted =
     let us = ts ++ t ∷ [] in
     let same : (kind : Kind) → SameVotes kind ts us = λ kind q. vote_push-again kind q ts t voted in
     state_by s ts us
-      (echoed_push ts t ∙ ap (λ b. option_or (echoed ts) (cond b (Some t.command) None)) no_send ∙ or_nothing (echoed ts))
-      (readied_same s ts t (supporters_same Echo t.command ts us (same Echo)) (supporters_same Ready t.command ts us (same Ready)))
-      (delivered_same s ts t (supporters_same Ready t.command ts us (same Ready)))
-      (same Echo)
-      (same Ready)
+    (echoed_push ts t ∙ ap (λ b. option_or (echoed ts) (cond b (Some t.command) None)) no_send ∙ or_nothing (echoed ts))
+    (readied_same s ts t (supporters_same Echo t.command ts us (same Echo)) (supporters_same Ready t.command ts us (same Ready)))
+    (delivered_same s ts t (supporters_same Ready t.command ts us (same Ready)))
+    (same Echo)
+    (same Ready)
 
 -- what is readied stays, where a command was delivered
 readied_late : (s : Counts) (ts : List Take) (t : Take) (d : Option Command) → delivered s ts ≡ d → is_some d ≡ true →
@@ -156,17 +160,17 @@ first_echo s ts p c none =
     let echoes = votes_push-first ts t none in
     let readies = votes_alike Ready ts us rv in
     let may : may_ready s us c ≡ ready_now s c (maps.insert (votes Echo ts) p c) (votes Ready ts) =
-      may_ready-votes s us c ∙ (λ i. ready_now s c (echoes i) (readies i)) in
+    may_ready-votes s us c ∙ (λ i. ready_now s c (echoes i) (readies i)) in
     echo_step s p c (echoed ts) (readied s ts) (delivered s ts) (voters Echo ts) (voters Ready ts) (votes Echo ts) (votes Ready ts)
-      (echoed us) (readied s us) (delivered s us) (voters Echo us) (voters Ready us) (votes Echo us) (votes Ready us)
-      (echoed_push ts t ∙ or_nothing (echoed ts))
-      (delivered_same s ts t (supporters_same Ready c ts us rv))
-      (voters_push ts t)
-      (voters_alike Ready ts us rv)
-      echoes
-      readies
-      (λ _. readies_its_own s ts t ∙ ap (λ b. option_or (readied s ts) (only_if b c)) may)
-      (λ some. readied_late s ts t (delivered s ts) refl some)
+    (echoed us) (readied s us) (delivered s us) (voters Echo us) (voters Ready us) (votes Echo us) (votes Ready us)
+    (echoed_push ts t ∙ or_nothing (echoed ts))
+    (delivered_same s ts t (supporters_same Ready c ts us rv))
+    (voters_push ts t)
+    (voters_alike Ready ts us rv)
+    echoes
+    readies
+    (λ _. readies_its_own s ts t ∙ ap (λ b. option_or (readied s ts) (only_if b c)) may)
+    (λ some. readied_late s ts t (delivered s ts) refl some)
 
 echo_by : (s : Counts) (ts : List Take) (p : ℕ) (c : Command) (b : Bool) → sets.contains (voters Echo ts) p ≡ b →
     state s (ts ++ (record { kind = Echo; from = p; command = c }) ∷ []) ≡ cond b (state s ts) (after_echo s (state s ts) p c (delivered s ts))
@@ -185,20 +189,20 @@ first_ready s ts p c none =
     let echoes = votes_alike Echo ts us ev in
     let readies = votes_push-first ts t none in
     let may : may_ready s us c ≡ ready_now s c (votes Echo ts) (maps.insert (votes Ready ts) p c) =
-      may_ready-votes s us c ∙ (λ i. ready_now s c (echoes i) (readies i)) in
+    may_ready-votes s us c ∙ (λ i. ready_now s c (echoes i) (readies i)) in
     let may_now : may_deliver s us c ≡ deliver_now s c (maps.insert (votes Ready ts) p c) =
-      may_deliver-votes s us c ∙ ap (deliver_now s c) readies in
+    may_deliver-votes s us c ∙ ap (deliver_now s c) readies in
     ready_step s p c (echoed ts) (readied s ts) (delivered s ts) (voters Echo ts) (voters Ready ts) (votes Echo ts) (votes Ready ts)
-      (echoed us) (readied s us) (delivered s us) (voters Echo us) (voters Ready us) (votes Echo us) (votes Ready us)
-      (echoed_push ts t ∙ or_nothing (echoed ts))
-      (voters_alike Echo ts us ev)
-      (voters_push ts t)
-      echoes
-      readies
-      (λ _. readies_its_own s ts t ∙ ap (λ b. option_or (readied s ts) (only_if b c)) may)
-      (λ before. delivers_its_own s ts t ∙ (λ i. option_or (before i) (only_if (may_now i) c)))
-      (λ some. readied_late s ts t (delivered s ts) refl some)
-      (λ some. delivered_late s ts t some)
+    (echoed us) (readied s us) (delivered s us) (voters Echo us) (voters Ready us) (votes Echo us) (votes Ready us)
+    (echoed_push ts t ∙ or_nothing (echoed ts))
+    (voters_alike Echo ts us ev)
+    (voters_push ts t)
+    echoes
+    readies
+    (λ _. readies_its_own s ts t ∙ ap (λ b. option_or (readied s ts) (only_if b c)) may)
+    (λ before. delivers_its_own s ts t ∙ (λ i. option_or (before i) (only_if (may_now i) c)))
+    (λ some. readied_late s ts t (delivered s ts) refl some)
+    (λ some. delivered_late s ts t some)
 
 ready_by : (s : Counts) (ts : List Take) (p : ℕ) (c : Command) (b : Bool) → sets.contains (voters Ready ts) p ≡ b →
     state s (ts ++ (record { kind = Ready; from = p; command = c }) ∷ []) ≡ cond b (state s ts) (after_ready s (state s ts) p c (delivered s ts))
@@ -239,7 +243,8 @@ pub repeat_changes_nothing : RepeatChangesNothing
 unfolding after
 repeat_changes_nothing s ts t again =
     let us = ts ++ t ∷ [] in
-    let same : (kind : Kind) → SameVotes kind ts us = λ kind q. vote_push-again kind q ts t again in
-    (same,
-     λ kind c. supporters_same kind c ts us (same kind),
-     state_push s ts t ∙ ap (λ b. cond b (state s ts) (after_kind s (state s ts) t.kind t.from t.command)) (voted s ts t.kind t.from again))
+    let same : (kind : Kind) → SameVotes kind ts us = λ kind q. vote_push-again kind q ts t again in (
+      same,
+      λ kind c. supporters_same kind c ts us (same kind),
+      state_push s ts t ∙ ap (λ b. cond b (state s ts) (after_kind s (state s ts) t.kind t.from t.command)) (voted s ts t.kind t.from again),
+    )

@@ -1,6 +1,6 @@
 -- First votes, voters and supporters, as one more message comes.
-use Rattle.std.proofs.Common.{◌≡◌, ℕ, ◌==◌, Bool, true, false, cond, ◌&&◌, ◌||◌, List, [], ◌∷◌, ◌++◌, map, filter, find, is_some, Option, Some, None, option_map, refl, sym, ap, subst, ◌∙◌, inl, inr, eqb-true, eq-eqb}
-use Rattle.std.proofs.lemmas.Bool.{cases_Bool, and_parts, both_ways}
+use Rattle.std.proofs.Common.{◌≡◌, ℕ, ◌==◌, Bool, true, false, cond, ◌&&◌, ◌||◌, List, [], ◌∷◌, ◌++◌, map, filter, find, is_some, Option, Some, None, option_map, refl, sym, ap, ◌∙◌, eqb-true}
+use Rattle.std.proofs.lemmas.Bool.{and_parts}
 use Rattle.std.proofs.lemmas.List.Folds.{find-append}
 use Rattle.std.specs.Option.{option_or}
 use Rattle.std.specs.List.{list_any}
@@ -12,12 +12,12 @@ use Rattle.role_commands.specs.declared.command.Command.{Command}
 use Rattle.role_commands.specs.Same.{same_command}
 use Rattle.link_frames.specs.Kinds.{same_kind}
 use Rattle.link_frames.specs.declared.kind.Kind.{Kind}
-use Rattle.link_frames.specs.declared.kind.Kind.TheVariants.{Send, Echo, Ready}
-use Rattle.bracha_instance.specs.Broadcast.{Take, Names, command_of, from_of, is_of_kind, is_vote_of, is_for, vote, voters, supporters, echoed}
-use Rattle.bracha_instance.specs.States.{Votes, votes}
+use Rattle.link_frames.specs.declared.kind.Kind.TheVariants.{Send}
+use Rattle.bracha_instance.specs.Broadcast.{Take, command_of, from_of, is_of_kind, is_vote_of, is_for, vote, voters, supporters, echoed}
+use Rattle.bracha_instance.specs.States.{votes}
 use Rattle.bracha_instance.specs.Kept.{names_of}
 use Rattle.bracha_instance.specs.Next.{supporters_in}
-use Rattle.bracha_instance.proofs.Same.{same_command-true, same_command-refl, same_kind-true, same_kind-refl}
+use Rattle.bracha_instance.proofs.Same.{same_kind-true, same_kind-refl}
 use Rattle.bracha_instance.proofs.KeptVotes.{same_names, same_votes, get-insert, contains-insert, contains-names_of, contains-supporters_in}
 
 -- Options.
@@ -71,12 +71,23 @@ again_by kind name ts t voted false is = or_nothing (vote kind name ts)
 again_by kind name ts t voted true is =
     let parts = and_parts _ _ is in
     some_stays (vote kind name ts) (Some t.command)
-      (ap (λ k. is_some (vote k name ts)) (same_kind-true kind t.kind parts.0) ∙ ap (λ n. is_some (vote t.kind n ts)) (eqb-true name t.from parts.1) ∙ voted)
+    (ap (λ k. is_some (vote k name ts)) (same_kind-true kind t.kind parts.0) ∙ ap (λ n. is_some (vote t.kind n ts)) (eqb-true name t.from parts.1) ∙ voted)
 
 -- a second vote counts for nothing
 pub vote_push-again : (kind : Kind) (name : ℕ) (ts : List Take) (t : Take) → is_some (vote t.kind t.from ts) ≡ true →
     vote kind name (ts ++ t ∷ []) ≡ vote kind name ts
 vote_push-again kind name ts t voted = vote_push kind name ts t ∙ again_by kind name ts t voted (is_vote_of kind name t) refl
+
+or_is : (o more : Option Command) (c : Command) → o ≡ Some c → option_or o more ≡ Some c
+or_is o more c e = ap (λ x. option_or x more) e
+
+-- a vote stays
+pub vote_stays : (kind : Kind) (name : ℕ) (before later : List Take) (c : Command) → vote kind name before ≡ Some c → vote kind name (before ++ later) ≡ Some c
+unfolding vote
+vote_stays kind name before later c e =
+    ap (option_map command_of) (find-append (is_vote_of kind name) before later)
+    ∙ map_or (find (is_vote_of kind name) before) (find (is_vote_of kind name) later)
+    ∙ or_is (option_map command_of (find (is_vote_of kind name) before)) _ c e
 
 -- The voters, the map of votes and the supporters, by the votes.
 

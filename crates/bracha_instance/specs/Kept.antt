@@ -1,6 +1,5 @@
 -- How an instance keeps its votes, and what contracts see of it. Serves the models of the code, and no contract.
-use Rattle.std.specs.Prelude.{◌≢◌, ℕ, Bool, List, map, AllPairs, Option, refl}
-use Rattle.std.specs.Ordering.{nat_cmp}
+use Rattle.std.specs.Prelude.{◌≢◌, ℕ, List, map, AllPairs, Option, refl}
 use Rattle.std.specs.Coded.{Coded, code_by, coded×, coded_ℕ, coded_option}
 use Rattle.std.specs.FinMap as maps
 use Rattle.std.specs.FinSet as sets
@@ -44,24 +43,24 @@ seen echoed readied delivered echoes readies =
       echoers = names_of echoes;
       readiers = names_of readies;
       echo_votes = kept delivered echoes;
-      ready_votes = kept delivered readies
+      ready_votes = kept delivered readies;
     }
 
 -- a state is stored as its fields
 abbrev pub state_code : Coded State
 state_code =
     code_by
-      (Option Command × (Option Command × (Option Command × (Names × (Names × (Votes × Votes))))))
-      (coded× (coded_option command_code) (coded× (coded_option command_code) (coded× (coded_option command_code)
-        (coded× names_code (coded× names_code (coded× votes_code votes_code))))))
-      (λ s. (s.echoed, (s.readied, (s.delivered, (s.echoers, (s.readiers, (s.echo_votes, s.ready_votes)))))))
-      (λ p. record {
-        echoed = p.0;
-        readied = p.1.0;
-        delivered = p.1.1.0;
-        echoers = p.1.1.1.0;
-        readiers = p.1.1.1.1.0;
-        echo_votes = p.1.1.1.1.1.0;
-        ready_votes = p.1.1.1.1.1.1
-      })
-      (λ _. refl)
+    (Option Command × (Option Command × (Option Command × (Names × (Names × (Votes × Votes))))))
+    (coded× (coded_option command_code) (coded× (coded_option command_code) (coded× (coded_option command_code)
+    (coded× names_code (coded× names_code (coded× votes_code votes_code))))))
+    (λ s. (s.echoed, (s.readied, (s.delivered, (s.echoers, (s.readiers, (s.echo_votes, s.ready_votes)))))))
+    (λ p. record {
+      echoed = p.0;
+      readied = p.1.0;
+      delivered = p.1.1.0;
+      echoers = p.1.1.1.0;
+      readiers = p.1.1.1.1.0;
+      echo_votes = p.1.1.1.1.1.0;
+      ready_votes = p.1.1.1.1.1.1;
+    })
+    (λ _. refl)

@@ -1,5 +1,5 @@
 -- One more message, as a step from state to state. Serves private functions and proofs, and no public contract:
--- `state_push` in proofs/Law.antt says that this is the state of the longer list.
+-- `state_push` in proofs/StateOf.antt says that this is the state of the longer list.
 use Rattle.std.specs.Prelude.{ℕ, Bool, cond, ◌||◌, nat_le, is_some, Option, Some, None}
 use Rattle.std.specs.Option.{option_or}
 use Rattle.std.specs.FinMap as maps
@@ -27,64 +27,31 @@ abbrev pub only_if : Bool → Command → Option Command
 only_if due c = cond due (Some c) None
 
 abbrev pub after_send : State → Command → State
-after_send st c =
-    record {
-      echoed = option_or st.echoed (Some c);
-      readied = st.readied;
-      delivered = st.delivered;
-      echoers = st.echoers;
-      readiers = st.readiers;
-      echo_votes = st.echo_votes;
-      ready_votes = st.ready_votes
-    }
+after_send st c = record st { echoed = option_or st.echoed (Some c) }
 
 -- the last argument is what was delivered: after a delivery only the name is kept
 abbrev pub after_echo : Counts → State → ℕ → Command → Option Command → State
 after_echo s st p c None =
     let v = maps.insert st.echo_votes p c in
-    record {
-      echoed = st.echoed;
+    record st {
       readied = option_or st.readied (only_if (ready_now s c v st.ready_votes) c);
-      delivered = st.delivered;
       echoers = sets.insert st.echoers p;
-      readiers = st.readiers;
       echo_votes = v;
-      ready_votes = st.ready_votes
     }
-after_echo s st p c (Some d) =
-    record {
-      echoed = st.echoed;
-      readied = st.readied;
-      delivered = st.delivered;
-      echoers = sets.insert st.echoers p;
-      readiers = st.readiers;
-      echo_votes = st.echo_votes;
-      ready_votes = st.ready_votes
-    }
+after_echo s st p c (Some d) = record st { echoers = sets.insert st.echoers p }
 
 abbrev pub after_ready : Counts → State → ℕ → Command → Option Command → State
 after_ready s st p c None =
     let v = maps.insert st.ready_votes p c in
     let d = only_if (deliver_now s c v) c in
-    record {
-      echoed = st.echoed;
+    record st {
       readied = option_or st.readied (only_if (ready_now s c st.echo_votes v) c);
       delivered = d;
-      echoers = st.echoers;
       readiers = sets.insert st.readiers p;
       echo_votes = kept d st.echo_votes;
-      ready_votes = kept d v
+      ready_votes = kept d v;
     }
-after_ready s st p c (Some d) =
-    record {
-      echoed = st.echoed;
-      readied = st.readied;
-      delivered = st.delivered;
-      echoers = st.echoers;
-      readiers = sets.insert st.readiers p;
-      echo_votes = st.echo_votes;
-      ready_votes = st.ready_votes
-    }
+after_ready s st p c (Some d) = record st { readiers = sets.insert st.readiers p }
 
 abbrev pub has_voted : State → Kind → ℕ → Bool
 has_voted st Send p = is_some st.echoed

@@ -1,5 +1,5 @@
 -- The state of an instance: all that matters of the messages that were taken for what comes next.
-use Rattle.std.specs.Prelude.{ℕ, List, map, filter, Option, Some, None}
+use Rattle.std.specs.Prelude.{List, map, filter, Option, Some, None}
 use Rattle.std.specs.Ordering.{nat_cmp}
 use Rattle.std.specs.FinMap as maps
 use Rattle.quorum_sizes.specs.Sizes.{Counts}
@@ -39,5 +39,5 @@ state s takes =
       echoers = voters Echo takes;
       readiers = voters Ready takes;
       echo_votes = kept (delivered s takes) (votes Echo takes);
-      ready_votes = kept (delivered s takes) (votes Ready takes)
+      ready_votes = kept (delivered s takes) (votes Ready takes);
     }

@@ -6,13 +6,12 @@ ghost use Rattle.bracha_instance.specs.States.{state};
 ghost use Rattle.bracha_instance.specs.Taking.{SendsAreFrom, effect_of, newly, sent_for, newly_sent, newly_delivered};
 ghost use Rattle.bracha_instance.specs.Next.{ready_now, deliver_now, only_if, after_send, after_echo, after_ready, after_kind, has_voted};
 
+use crate::votes::Votes;
 use link_frames::Kind;
 use quorum_sizes::{NodeName, Sizes};
 use role_commands::Command;
 use std::alloc::{AllocError, Global};
 use std::marker::Model;
-
-use crate::votes::Votes;
 
 /// Whether a message counted.
 #[derive(Clone, Copy, Debug, PartialEq, Eq, Hash)]
@@ -34,7 +33,8 @@ pub struct Taken {
     pub delivered: Option<Command>,
 }
 
-/// One instance of the broadcast: what was echoed, readied and delivered, and the votes so far.
+/// One instance of authenticated double-echo broadcast (Bracha 1987): what was echoed, readied and
+/// delivered, and the votes so far.
 ///
 /// Contracts see it as its `State`, whatever keeps the votes.
 #[derive(Drop)]
@@ -120,10 +120,14 @@ impl Instance {
         }
     }
 
-    /// Takes a message, whose node must be one of these sizes. An `Err` changes nothing.
+    /// Takes a message, whose node must be one of these sizes.
     ///
     /// The clauses speak of every list of messages of which this is the state under these sizes. That a SEND
     /// is idle exactly where that node's was taken needs that all SENDs are from one node, the owner.
+    ///
+    /// # Errors
+    ///
+    /// `AllocError`, where there is no memory for one more vote. It changes nothing.
     pub fn take(
         &mut self,
         sizes: &Sizes,
@@ -175,6 +179,7 @@ impl Instance {
         }
     }
 
+    /// Counts a message that is no repeat. An `Err` changes nothing.
     fn count(
         &mut self,
         sizes: &Sizes,
@@ -196,12 +201,14 @@ impl Instance {
         }
     }
 
+    /// Counts a SEND: only the first is echoed.
     fn count_send(&mut self, command: Command)
         ensures { self.new ≡ after_send self.old command }
     {
         self.echoed = first_of(self.echoed, true, command);
     }
 
+    /// Counts a node's first ECHO. After a delivery it can make nothing ready.
     fn count_echo(
         &mut self,
         sizes: &Sizes,
@@ -221,6 +228,7 @@ impl Instance {
         Ok(())
     }
 
+    /// Counts a node's first READY. After a delivery it can cause nothing.
     fn count_ready(
         &mut self,
         sizes: &Sizes,

@@ -9,3 +9,6 @@ pub mod laws;
 mod votes;
 
 pub use instance::{Effect, Instance, Taken};
+
+#[cfg(test)]
+mod tests;

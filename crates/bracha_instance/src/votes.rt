@@ -83,6 +83,9 @@ impl Votes {
     pub fn supporters(&self, command: Command) -> usize
         ensures { result ≡ sets.len (supporters_in command self.now) }
     {
-        self.votes.iter().filter(|vote| is_same(&command, &vote.command)).count()
+        self.votes
+            .iter()
+            .filter(|vote| is_same(&command, &vote.command))
+            .count()
     }
 }

@@ -1,5 +1,4 @@
-use Rattle.std.proofs.Common.{◌≡◌, [], ◌∷◌, ◌++◌, true, false, sym, ◌∙◌}
-use Rattle.bracha_instance.specs.Broadcast.{Take}
+use Rattle.std.proofs.Common.{◌≡◌, true, false, sym, ◌∙◌}
 use Rattle.bracha_instance.specs.Taking.{newly, sent_for}
 use Rattle.bracha_instance.specs.Next.{has_voted}
 use Rattle.bracha_instance.proofs.Counting.{idle_state, counted_state, effect_at, sent_of, delivered_of, nothing_sent, nothing_delivered}
@@ -31,12 +30,12 @@ returns-then-has_voted-clause-delivered c = λ takes is.
 pub returns-clause-state : goal.returns-clause-state
 returns-clause-state c = λ takes is.
     counted_state c.args.sizes.now takes (record { kind = c.args.kind; from = c.args.from; command = c.args.command }) c.args.self.now c.count.new.self
-      (sym c.has_voted.ensures ∙ c.if-has_voted.false) c.in_ok-count.ensures.ok is
+    (sym c.has_voted.ensures ∙ c.if-has_voted.false) c.in_ok-count.ensures.ok is
 
 pub returns-clause-effect : goal.returns-clause-effect
 returns-clause-effect c = λ takes owner is all.
     effect_at c.args.sizes.now takes (record { kind = c.args.kind; from = c.args.from; command = c.args.command }) owner c.args.self.now false
-      (sym c.has_voted.ensures ∙ c.if-has_voted.false) is all
+    (sym c.has_voted.ensures ∙ c.if-has_voted.false) is all
 
 pub returns-clause-broadcast : goal.returns-clause-broadcast
 returns-clause-broadcast c = λ takes is.
@@ -46,6 +45,7 @@ returns-clause-broadcast c = λ takes is.
   where
     newly_echoed : c.newly_of-newly_echoed.result ≡ newly c.args.self.now.echoed c.count.new.self.echoed
     newly_echoed = c.newly_of-newly_echoed.ensures ∙ (λ i. newly (c.echoed-echoed.ensures i) (c.echoed.ensures i))
+
     newly_readied : c.newly_of-newly_readied.result ≡ newly c.args.self.now.readied c.count.new.self.readied
     newly_readied = c.newly_of-newly_readied.ensures ∙ (λ i. newly (c.readied-readied.ensures i) (c.readied.ensures i))
 

@@ -1,6 +1,6 @@
-use Rattle.std.proofs.Common.{ap, ◌∙◌, sym}
+use Rattle.std.proofs.Common.{ap, ◌∙◌}
 use Rattle.std.specs.FinMap as maps
-use Rattle.bracha_instance.specs.Kept.{votes_in, EachNameOnce}
+use Rattle.bracha_instance.specs.Kept.{votes_in}
 use Rattle.bracha_instance.proofs.KeptVotes.{EachNameOnce_push, votes_in_push}
 use Rattle.bracha_instance.proofs.votes.Votes.insert.Goals as goal
 

@@ -1,0 +1,105 @@
+use super::*;
+use link_frames::Kind;
+use quorum_sizes::Sizes;
+use role_commands::Command;
+use std::test::Fail;
+
+const ASSIGN: Command = Command::Assign { user: 7, role: 2 };
+
+const GRANT: Command = Command::Grant {
+    role: 2,
+    operation: 5,
+    object: 9,
+};
+
+const IDLE: Taken = Taken {
+    effect: Effect::Idle,
+    broadcast: None,
+    delivered: None,
+};
+
+const COUNTED: Taken = Taken {
+    effect: Effect::Counted,
+    broadcast: None,
+    delivered: None,
+};
+
+fn sends(kind: Kind) -> Taken {
+    Taken {
+        effect: Effect::Counted,
+        broadcast: Some((kind, ASSIGN)),
+        delivered: None,
+    }
+}
+
+fn delivers() -> Taken {
+    Taken {
+        effect: Effect::Counted,
+        broadcast: None,
+        delivered: Some(ASSIGN),
+    }
+}
+
+fn taken(instance: &mut Instance, kind: Kind, from: u8, command: Command) -> Result<Taken, Fail> {
+    let sizes = Sizes::new(4, 1)?;
+    let name = sizes.name(from).ok_or("no such node")?;
+    Ok(instance.take(&sizes, kind, name, command)?)
+}
+
+#[test]
+fn from_send_to_delivery(rt: HostRuntime) -> Result<(), Fail> {
+    let mut instance = Instance::new(rt.alloc());
+    for (kind, from, command, due) in [
+        (Kind::Send, 0, ASSIGN, sends(Kind::Echo)),
+        (Kind::Echo, 0, ASSIGN, COUNTED),
+        (Kind::Echo, 1, ASSIGN, COUNTED),
+        (Kind::Echo, 1, GRANT, IDLE),
+        (Kind::Echo, 2, ASSIGN, sends(Kind::Ready)),
+        (Kind::Ready, 0, ASSIGN, COUNTED),
+        (Kind::Ready, 1, ASSIGN, COUNTED),
+        (Kind::Ready, 2, ASSIGN, delivers()),
+        (Kind::Ready, 3, ASSIGN, COUNTED),
+        (Kind::Ready, 3, ASSIGN, IDLE),
+    ] {
+        assert_eq!(rt;
+            taken(&mut instance, kind, from, command)?,
+            due,
+            "{kind:?} from {from}"
+        );
+    }
+    assert_eq!(rt; instance.echoed(), Some(ASSIGN));
+    assert_eq!(rt; instance.readied(), Some(ASSIGN));
+    assert_eq!(rt; instance.delivered(), Some(ASSIGN));
+    Ok(())
+}
+
+#[test]
+fn readies_amplify(rt: HostRuntime) -> Result<(), Fail> {
+    let mut instance = Instance::new(rt.alloc());
+    assert_eq!(rt; taken(&mut instance, Kind::Ready, 1, ASSIGN)?, COUNTED);
+    assert_eq!(rt; instance.readied(), None);
+    assert_eq!(rt;
+        taken(&mut instance, Kind::Ready, 2, ASSIGN)?,
+        sends(Kind::Ready)
+    );
+    assert_eq!(rt; instance.readied(), Some(ASSIGN));
+    Ok(())
+}
+
+#[test]
+fn a_late_send_causes_an_echo(rt: HostRuntime) -> Result<(), Fail> {
+    let mut instance = Instance::new(rt.alloc());
+    for (kind, from, due) in [
+        (Kind::Ready, 1, COUNTED),
+        (Kind::Ready, 2, sends(Kind::Ready)),
+        (Kind::Ready, 3, delivers()),
+        (Kind::Send, 0, sends(Kind::Echo)),
+    ] {
+        assert_eq!(rt;
+            taken(&mut instance, kind, from, ASSIGN)?,
+            due,
+            "{kind:?} from {from}"
+        );
+    }
+    Ok(())
+}
