@@ -13,8 +13,8 @@ use Rattle.bracha_instance.specs.Prefixes.{at_first_prefix}
 use Rattle.bracha_instance.specs.Broadcast.{Take, command_of, is_of_kind, is_vote_of, vote, voters, echoed, readied, delivered}
 use Rattle.bracha_instance.specs.States.{Votes, State, votes, state}
 use Rattle.bracha_instance.specs.Kept.{names_of, seen}
-use Rattle.bracha_instance.specs.Taking.{SendsAreFrom, effect_of, newly, sent_for, newly_sent, newly_delivered}
-use Rattle.bracha_instance.specs.Next.{ready_now, deliver_now, only_if, has_voted, after_echo, after_ready, after_kind, after}
+use Rattle.bracha_instance.specs.Taking.{SendsAreFrom, effect_of, newly, sent_for, newly_sent, newly_delivered, has_voted}
+use Rattle.bracha_instance.specs.Next.{ready_now, deliver_now, only_if, after_echo, after_ready, after_kind, after}
 use Rattle.bracha_instance.proofs.KeptVotes.{contains-names_of, names_of-insert, names_of-empty}
 use Rattle.bracha_instance.proofs.Same.{same_kind-true}
 use Rattle.bracha_instance.proofs.Voting.{contains-voters}
@@ -154,3 +154,9 @@ pub effect_at : (s : Counts) (ts : List Take) (t : Take) (owner : ℕ) (st : Sta
     SendsAreFrom owner (ts ++ t ∷ []) → cond b Idle Counted ≡ effect_of ts t
 effect_at s ts t owner st b is is_state all =
     ap (λ x. cond x Idle Counted) (sym is ∙ ap (λ x. has_voted x t.kind t.from) is_state ∙ vote_is s ts owner t.kind t.from t.command all)
+
+-- what the state says of a vote is what the messages say
+pub voted_at : (s : Counts) (ts : List Take) (owner : ℕ) (kind : Kind) (p : ℕ) (c : Command) (st : State) (b : Bool) → b ≡ has_voted st kind p → st ≡ state s ts →
+    SendsAreFrom owner (ts ++ (record { kind = kind; from = p; command = c }) ∷ []) → b ≡ is_some (vote kind p ts)
+voted_at s ts owner kind p c st b is is_state all =
+    is ∙ ap (λ x. has_voted x kind p) is_state ∙ vote_is s ts owner kind p c all

@@ -12,7 +12,8 @@ use Rattle.link_frames.specs.declared.kind.Kind.TheVariants.{Send, Echo, Ready}
 use Rattle.bracha_instance.specs.Broadcast.{Take, command_of, is_of_kind, is_vote_of, is_for, vote, voters, supporters, echoed, readied, delivered, may_ready, may_deliver}
 use Rattle.bracha_instance.specs.States.{State, votes, kept, state}
 use Rattle.bracha_instance.specs.Laws.{or_else_if, RepeatChangesNothing}
-use Rattle.bracha_instance.specs.Next.{ready_now, deliver_now, only_if, has_voted, after_send, after_echo, after_ready, after_kind, after}
+use Rattle.bracha_instance.specs.Next.{ready_now, deliver_now, only_if, after_send, after_echo, after_ready, after_kind, after}
+use Rattle.bracha_instance.specs.Taking.{has_voted}
 use Rattle.bracha_instance.proofs.Voting.{or_nothing, vote_push-other, vote_push-again, echoed_push, some_stays, contains-voters, supporters_alike, voters_alike, votes_alike, votes_push-first, voters_push}
 use Rattle.bracha_instance.proofs.Due.{may_ready-votes, may_deliver-votes, may_ready-alike, may_deliver-alike, readies_its_own, delivers_its_own, not_ready, not_deliverable, delivered_is_ready}
 use Rattle.bracha_instance.proofs.StateSteps.{echo_step, ready_step, send_again}

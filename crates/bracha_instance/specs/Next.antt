@@ -1,6 +1,6 @@
 -- One more message, as a step from state to state. Serves private functions and proofs, and no public contract:
 -- `state_push` in proofs/StateOf.antt says that this is the state of the longer list.
-use Rattle.std.specs.Prelude.{ℕ, Bool, cond, ◌||◌, nat_le, is_some, Option, Some, None}
+use Rattle.std.specs.Prelude.{ℕ, Bool, cond, ◌||◌, nat_le, Option, Some, None}
 use Rattle.std.specs.Option.{option_or}
 use Rattle.std.specs.FinMap as maps
 use Rattle.std.specs.FinSet as sets
@@ -10,6 +10,7 @@ use Rattle.link_frames.specs.declared.kind.Kind.{Kind}
 use Rattle.link_frames.specs.declared.kind.Kind.TheVariants.{Send, Echo, Ready}
 use Rattle.bracha_instance.specs.Broadcast.{Take, Names, is_for}
 use Rattle.bracha_instance.specs.States.{Votes, State, kept}
+use Rattle.bracha_instance.specs.Taking.{has_voted}
 use Rattle.bracha_instance.specs.Kept.{names_of}
 
 -- the nodes that have this command
@@ -52,11 +53,6 @@ after_ready s st p c None =
       ready_votes = kept d v;
     }
 after_ready s st p c (Some d) = record st { readiers = sets.insert st.readiers p }
-
-abbrev pub has_voted : State → Kind → ℕ → Bool
-has_voted st Send p = is_some st.echoed
-has_voted st Echo p = sets.contains st.echoers p
-has_voted st Ready p = sets.contains st.readiers p
 
 abbrev pub after_kind : Counts → State → Kind → ℕ → Command → State
 after_kind s st Send p c = after_send st c

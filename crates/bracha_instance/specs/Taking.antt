@@ -1,10 +1,12 @@
 -- What one more message causes: whether it counts, what the node sends to all, and what it delivers.
-use Rattle.std.specs.Prelude.{◌≡◌, ℕ, List, All, cond, is_some, Option, Some, None}
+use Rattle.std.specs.Prelude.{◌≡◌, ℕ, Bool, List, All, cond, is_some, Option, Some, None}
 use Rattle.quorum_sizes.specs.Sizes.{Counts}
 use Rattle.role_commands.specs.declared.command.Command.{Command}
 use Rattle.link_frames.specs.declared.kind.Kind.{Kind}
 use Rattle.link_frames.specs.declared.kind.Kind.TheVariants.{Send, Echo, Ready}
+use Rattle.std.specs.FinSet as sets
 use Rattle.bracha_instance.specs.Broadcast.{Take, vote, echoed, readied, delivered}
+use Rattle.bracha_instance.specs.States.{State}
 use Rattle.bracha_instance.specs.declared.instance.Effect.{Effect}
 use Rattle.bracha_instance.specs.declared.instance.Effect.TheVariants.{Idle, Counted}
 
@@ -15,6 +17,12 @@ SendsAreFrom owner takes = All (λ (t : Take). t.kind ≡ Send → t.from ≡ ow
 -- a message is idle where that node's vote of that kind was taken before
 abbrev pub effect_of : List Take → Take → Effect
 effect_of takes t = cond (is_some (vote t.kind t.from takes)) Idle Counted
+
+-- what the state of the messages so far says of that, where all SENDs are from one node
+abbrev pub has_voted : State → Kind → ℕ → Bool
+has_voted st Send p = is_some st.echoed
+has_voted st Echo p = sets.contains st.echoers p
+has_voted st Ready p = sets.contains st.readiers p
 
 -- what there is now and was not before
 abbrev pub newly : Option Command → Option Command → Option Command

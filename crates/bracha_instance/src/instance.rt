@@ -1,10 +1,11 @@
-ghost use Rattle.std.specs.Prelude.{◌≡◌, ℕ, ◌<◌, List, [], ◌∷◌, ◌++◌, false, IfOk, OnOk, OnErr};
+ghost use Rattle.std.specs.Prelude.{◌≡◌, ℕ, ◌<◌, List, [], ◌∷◌, ◌++◌, false, is_some, IfOk, OnOk, OnErr};
 ghost use Rattle.std.specs.Option.{option_or};
 ghost use Rattle.quorum_sizes.specs.Sizes.{Counts};
-ghost use Rattle.bracha_instance.specs.Broadcast.{Take};
+ghost use Rattle.role_commands.specs.declared.command.Command.{Command};
+ghost use Rattle.bracha_instance.specs.Broadcast.{Take, vote};
 ghost use Rattle.bracha_instance.specs.States.{state};
-ghost use Rattle.bracha_instance.specs.Taking.{SendsAreFrom, effect_of, newly, sent_for, newly_sent, newly_delivered};
-ghost use Rattle.bracha_instance.specs.Next.{ready_now, deliver_now, only_if, after_send, after_echo, after_ready, after_kind, has_voted};
+ghost use Rattle.bracha_instance.specs.Taking.{SendsAreFrom, has_voted, effect_of, newly, sent_for, newly_sent, newly_delivered};
+ghost use Rattle.bracha_instance.specs.Next.{ready_now, deliver_now, only_if, after_send, after_echo, after_ready, after_kind};
 
 use crate::votes::Votes;
 use link_frames::Kind;
@@ -148,7 +149,7 @@ impl Instance {
         ensures idle { IfOk result (λ taken. taken.effect ≡ Effect.Idle → self.new ≡ self.old) }
         ensures err { OnErr result (self.new ≡ self.old) }
     {
-        if self.has_voted(kind, from) {
+        if self.voted(kind, from) {
             return Ok(Taken {
                 effect: Effect::Idle,
                 broadcast: None,
@@ -168,18 +169,6 @@ impl Instance {
         })
     }
 
-    /// Whether a message of this kind from this node changes nothing.
-    fn has_voted(&self, kind: Kind, from: NodeName) -> bool
-        ensures { result ≡ has_voted self.now kind from }
-    {
-        match kind {
-            Kind::Send => self.echoed.is_some(),
-            Kind::Echo => self.echoes.has(from),
-            Kind::Ready => self.readies.has(from),
-        }
-    }
-
-    /// Counts a message that is no repeat. An `Err` changes nothing.
     fn count(
         &mut self,
         sizes: &Sizes,
@@ -248,6 +237,22 @@ impl Instance {
         let deliver = may_deliver(sizes, &self.readies, command);
         self.delivered = first_of(None, deliver, command);
         Ok(())
+    }
+
+    /// Whether that node's message of that kind was taken: [`take`](Self::take) would answer that it is idle.
+    ///
+    /// Takes no memory.
+    pub fn voted(&self, kind: Kind, from: NodeName) -> bool
+        ensures seen { result ≡ has_voted self.now kind from }
+        ensures vote { (s : Counts) (takes : List Take) (owner : ℕ) (command : Command) → self.now ≡ state s takes →
+            SendsAreFrom owner (takes ++ (record { kind = kind; from = from; command = command }) ∷ []) →
+            result ≡ is_some (vote kind from takes) }
+    {
+        match kind {
+            Kind::Send => self.echoed.is_some(),
+            Kind::Echo => self.echoes.has(from),
+            Kind::Ready => self.readies.has(from),
+        }
     }
 
     /// The command for which this node sent ECHO.

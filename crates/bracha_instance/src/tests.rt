@@ -100,6 +100,9 @@ fn a_late_send_causes_an_echo(rt: HostRuntime) -> Result<(), Fail> {
             due,
             "{kind:?} from {from}"
         );
+        let name = Sizes::new(4, 1)?.name(from).ok_or("no such node")?;
+        assert!(rt; instance.voted(kind, name));
+        assert!(rt; !instance.voted(Kind::Echo, name));
     }
     Ok(())
 }

@@ -2,3 +2,4 @@ pub mod NumberLemmas
 pub mod WordLemmas
 pub mod SameLemmas
 pub mod ByteLemmas
+pub mod TableLemmas

@@ -5,6 +5,10 @@ use Rattle.std.specs.Int.{w16, w32, to_be_bytes}
 use Rattle.role_commands.specs.declared.command.Command.{Command}
 use Rattle.role_commands.specs.declared.command.Command.TheVariants.{Assign, Deassign, Grant, Revoke}
 
+-- how many bytes a command has
+abbrev pub command_length : ℕ
+command_length = 9
+
 abbrev pub fields_bytes : ℕ → ℕ → ℕ → ℕ → List ℕ
 fields_bytes tag role user_or_object operation = tag ∷ (to_be_bytes w16 role ++ to_be_bytes w32 user_or_object ++ to_be_bytes w16 operation)
 

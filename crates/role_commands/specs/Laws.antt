@@ -3,7 +3,7 @@ use Rattle.std.specs.Prelude.{◌≡◌, ℕ, List, length, Some, true}
 use Rattle.role_commands.specs.Words.{spelling, IsCommand}
 use Rattle.role_commands.specs.Reading.{command_of}
 use Rattle.role_commands.specs.Same.{same_command}
-use Rattle.role_commands.specs.Bytes.{bytes_of}
+use Rattle.role_commands.specs.Bytes.{bytes_of, command_length}
 use Rattle.role_commands.specs.declared.command.Command.{Command}
 
 -- a command that is written is read
@@ -32,4 +32,4 @@ BytesDiffer = (c d : Command) → IsCommand c → IsCommand d → bytes_of c ≡
 
 -- a command has nine bytes
 abbrev pub NineBytes : Type 0
-NineBytes = (c : Command) → length (bytes_of c) ≡ 9
+NineBytes = (c : Command) → length (bytes_of c) ≡ command_length

@@ -3,4 +3,7 @@ pub mod Words
 pub mod Reading
 pub mod Same
 pub mod Bytes
+pub mod Rules
+pub mod Tables
+pub mod TableFaults
 pub mod Laws

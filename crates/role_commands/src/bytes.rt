@@ -7,25 +7,35 @@ use crate::command::Command;
 /// How many bytes a command has.
 pub const COMMAND_LEN: usize = 9;
 
+// The tags, one for each kind of command.
+const ASSIGN: u8 = 1;
+
+const DEASSIGN: u8 = 2;
+
+const GRANT: u8 = 3;
+
+const REVOKE: u8 = 4;
+
 /// The bytes of the command: its tag, its role, its user or object, and its operation, each number
 /// with its highest byte first.
 #[tactic(auto, unfolding(crate::specs::Bytes::bytes_of))]
 pub fn encode(command: &Command) -> [u8; COMMAND_LEN]
-    ensures { result ≡ bytes_of command.now }
+    ensures value { result ≡ bytes_of command.now }
+    ensures fits { IsCommand command.now }
 {
     match *command {
-        Command::Assign { user, role } => join_fields(1, role, user, 0),
-        Command::Deassign { user, role } => join_fields(2, role, user, 0),
+        Command::Assign { user, role } => join_fields(ASSIGN, role, user, 0),
+        Command::Deassign { user, role } => join_fields(DEASSIGN, role, user, 0),
         Command::Grant {
             role,
             operation,
             object,
-        } => join_fields(3, role, object, operation),
+        } => join_fields(GRANT, role, object, operation),
         Command::Revoke {
             role,
             operation,
             object,
-        } => join_fields(4, role, object, operation),
+        } => join_fields(REVOKE, role, object, operation),
     }
 }
 
@@ -38,20 +48,20 @@ pub fn decode(bytes: &[u8; COMMAND_LEN]) -> Option<Command>
 {
     let (tag, role, user_or_object, operation) = split_fields(bytes);
     match tag {
-        1 if operation == 0 => Some(Command::Assign {
+        ASSIGN if operation == 0 => Some(Command::Assign {
             user: user_or_object,
             role,
         }),
-        2 if operation == 0 => Some(Command::Deassign {
+        DEASSIGN if operation == 0 => Some(Command::Deassign {
             user: user_or_object,
             role,
         }),
-        3 => Some(Command::Grant {
+        GRANT => Some(Command::Grant {
             role,
             operation,
             object: user_or_object,
         }),
-        4 => Some(Command::Revoke {
+        REVOKE => Some(Command::Revoke {
             role,
             operation,
             object: user_or_object,

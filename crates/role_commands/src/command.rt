@@ -1,3 +1,6 @@
+ghost use Rattle.std.specs.Prelude.{◌≡◌};
+ghost use Rattle.role_commands.specs.Rules.{role_of};
+
 /// A command of an owner's stream.
 #[derive(Clone, Copy, Debug, PartialEq, Eq, Hash)]
 pub enum Command {
@@ -23,4 +26,18 @@ pub enum Command {
         operation: u16,
         object: u32,
     },
+}
+
+impl Command {
+    /// The role that the command is about.
+    pub fn role(&self) -> u16
+        ensures { result ≡ role_of self.now }
+    {
+        match *self {
+            Command::Assign { role, .. }
+            | Command::Deassign { role, .. }
+            | Command::Grant { role, .. }
+            | Command::Revoke { role, .. } => role,
+        }
+    }
 }

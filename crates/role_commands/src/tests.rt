@@ -1,4 +1,5 @@
 use super::*;
+use quorum_sizes::{NodeName, Sizes};
 use std::test::Fail;
 
 #[test]
@@ -91,6 +92,87 @@ fn bytes(rt: HostRuntime) -> Result<(), Fail> {
         [0; 9],
     ] {
         assert_eq!(rt; decode(&bytes), None);
+    }
+    Ok(())
+}
+
+#[test]
+fn tables(rt: HostRuntime) -> Result<(), Fail> {
+    let sizes = Sizes::new(4, 1)?;
+    let mut table = RoleTable::new(rt.alloc(), sizes);
+    assert_eq!(rt; table.add(2, 0), Ok(()));
+    assert_eq!(rt; table.add(7, 3), Ok(()));
+    assert_eq!(rt; table.add(2, 1), Err(TableFault::Repeated));
+    assert_eq!(rt; table.add(3, 4), Err(TableFault::NoSuchNode));
+    assert_eq!(rt; table.add(2, 4), Err(TableFault::NoSuchNode));
+    let copy = table.copy(rt.alloc())?;
+    for owners in [&table, &copy] {
+        assert_eq!(rt; owners.sizes(), sizes);
+        assert_eq!(rt; owners.owner(2), sizes.name(0));
+        assert_eq!(rt; owners.owner(7), sizes.name(3));
+        assert_eq!(rt; owners.owner(3), None);
+    }
+    Ok(())
+}
+
+#[test]
+fn full_table(rt: HostRuntime) -> Result<(), Fail> {
+    let mut table = RoleTable::new(rt.alloc(), Sizes::new(1, 0)?);
+    for role in 0..1024 {
+        assert_eq!(rt; table.add(role, 0), Ok(()));
+    }
+    assert_eq!(rt; table.add(1024, 0), Err(TableFault::TooManyRoles));
+    assert_eq!(rt; table.add(1023, 0), Err(TableFault::Repeated));
+    assert_eq!(rt; table.add(1024, 1), Err(TableFault::NoSuchNode));
+    Ok(())
+}
+
+#[test]
+fn table_faults(rt: HostRuntime) -> Result<(), Fail> {
+    for (fault, text) in [
+        (TableFault::NoSuchNode, "C1 NoSuchNode"),
+        (TableFault::Repeated, "C2 Repeated"),
+        (TableFault::TooManyRoles, "C3 TooManyRoles"),
+        (TableFault::Memory, "out of memory"),
+    ] {
+        assert_eq!(rt; format!(in rt.alloc(); "{fault}")?.as_str(), text);
+    }
+    Ok(())
+}
+
+#[derive(Drop, Debug)]
+enum Lists {
+    Users(Items<u32>),
+    Roles(Items<u16>),
+    Permissions(Items<(u16, u32)>),
+    Bytes(Items<u8>),
+    Keys(Items<[u8; 32]>),
+}
+
+#[test]
+fn items(rt: HostRuntime) -> Result<(), Fail> {
+    let users = Items::new(vec![in rt.alloc(); 7u32, 9]?);
+    assert_eq!(rt; users.as_slice(), [7, 9].as_slice());
+    for (lists, text) in [
+        (Lists::Users(users), "Users(Items { items: [7, 9] })"),
+        (
+            Lists::Roles(Items::new(vec![in rt.alloc(); 2u16]?)),
+            "Roles(Items { items: [2] })",
+        ),
+        (
+            Lists::Permissions(Items::new(vec![in rt.alloc(); (5u16, 9u32)]?)),
+            "Permissions(Items { items: [(5, 9)] })",
+        ),
+        (
+            Lists::Bytes(Items::new(Vec::new(rt.alloc()))),
+            "Bytes(Items { items: [] })",
+        ),
+        (
+            Lists::Keys(Items::new(Vec::new(rt.alloc()))),
+            "Keys(Items { items: [] })",
+        ),
+    ] {
+        assert_eq!(rt; format!(in rt.alloc(); "{lists:?}")?.as_str(), text);
     }
     Ok(())
 }

@@ -14,7 +14,8 @@ use std::alloc::{AllocError, Global};
 ///
 /// Only for want of memory.
 pub fn print_command(alloc: Global, command: &Command) -> Result<String, AllocError>
-    ensures { IfOk result (λ text. string_bytes text ≡ spelling command.now) }
+    ensures ok { IfOk result (λ text. string_bytes text ≡ spelling command.now) }
+    ensures fits { IsCommand command.now }
 {
     match *command {
         Command::Assign { user, role } => format!(in alloc; "assign {user} {role}"),

@@ -1,6 +1,7 @@
 use Rattle.std.proofs.Common.{ap, sym, ◌∙◌}
 use Rattle.link_frames.specs.declared.kind.Kind.TheVariants.{Echo}
-use Rattle.bracha_instance.specs.Next.{has_voted, after_echo}
+use Rattle.bracha_instance.specs.Next.{after_echo}
+use Rattle.bracha_instance.specs.Taking.{has_voted}
 use Rattle.bracha_instance.proofs.Counting.{no_vote, echo_late, echo_early}
 use Rattle.bracha_instance.proofs.instance.Instance.count_echo.Goals as goal
 

@@ -1,41 +1,40 @@
 use Rattle.std.proofs.Common.{◌≡◌, true, false, sym, ◌∙◌}
-use Rattle.bracha_instance.specs.Taking.{newly, sent_for}
-use Rattle.bracha_instance.specs.Next.{has_voted}
+use Rattle.bracha_instance.specs.Taking.{newly, sent_for, has_voted}
 use Rattle.bracha_instance.proofs.Counting.{idle_state, counted_state, effect_at, sent_of, delivered_of, nothing_sent, nothing_delivered}
 use Rattle.bracha_instance.proofs.instance.Instance.take.Goals as goal
 
 -- A message that was taken before.
 
-voted : (c : goal.Then-has_voted) → has_voted c.args.self.now c.args.kind c.args.from ≡ true
-voted c = sym c.has_voted.ensures ∙ c.if-has_voted.true
+is_voted : (c : goal.Then-voted) → has_voted c.args.self.now c.args.kind c.args.from ≡ true
+is_voted c = sym c.voted.ensures.seen ∙ c.if-voted.true
 
-pub returns-then-has_voted-clause-state : goal.returns-then-has_voted-clause-state
-returns-then-has_voted-clause-state c = λ takes is.
-    idle_state c.args.sizes.now takes (record { kind = c.args.kind; from = c.args.from; command = c.args.command }) c.args.self.now (voted c) is
+pub returns-then-voted-clause-state : goal.returns-then-voted-clause-state
+returns-then-voted-clause-state c = λ takes is.
+    idle_state c.args.sizes.now takes (record { kind = c.args.kind; from = c.args.from; command = c.args.command }) c.args.self.now (is_voted c) is
 
-pub returns-then-has_voted-clause-effect : goal.returns-then-has_voted-clause-effect
-returns-then-has_voted-clause-effect c = λ takes owner is all.
-    effect_at c.args.sizes.now takes (record { kind = c.args.kind; from = c.args.from; command = c.args.command }) owner c.args.self.now true (voted c) is all
+pub returns-then-voted-clause-effect : goal.returns-then-voted-clause-effect
+returns-then-voted-clause-effect c = λ takes owner is all.
+    effect_at c.args.sizes.now takes (record { kind = c.args.kind; from = c.args.from; command = c.args.command }) owner c.args.self.now true (is_voted c) is all
 
-pub returns-then-has_voted-clause-broadcast : goal.returns-then-has_voted-clause-broadcast
-returns-then-has_voted-clause-broadcast c = λ takes is.
-    nothing_sent c.args.sizes.now takes _ c.args.self.now is (returns-then-has_voted-clause-state c takes is)
+pub returns-then-voted-clause-broadcast : goal.returns-then-voted-clause-broadcast
+returns-then-voted-clause-broadcast c = λ takes is.
+    nothing_sent c.args.sizes.now takes _ c.args.self.now is (returns-then-voted-clause-state c takes is)
 
-pub returns-then-has_voted-clause-delivered : goal.returns-then-has_voted-clause-delivered
-returns-then-has_voted-clause-delivered c = λ takes is.
-    nothing_delivered c.args.sizes.now takes _ c.args.self.now is (returns-then-has_voted-clause-state c takes is)
+pub returns-then-voted-clause-delivered : goal.returns-then-voted-clause-delivered
+returns-then-voted-clause-delivered c = λ takes is.
+    nothing_delivered c.args.sizes.now takes _ c.args.self.now is (returns-then-voted-clause-state c takes is)
 
 -- A message that counts.
 
 pub returns-clause-state : goal.returns-clause-state
 returns-clause-state c = λ takes is.
     counted_state c.args.sizes.now takes (record { kind = c.args.kind; from = c.args.from; command = c.args.command }) c.args.self.now c.count.new.self
-    (sym c.has_voted.ensures ∙ c.if-has_voted.false) c.in_ok-count.ensures.ok is
+    (sym c.voted.ensures.seen ∙ c.if-voted.false) c.in_ok-count.ensures.ok is
 
 pub returns-clause-effect : goal.returns-clause-effect
 returns-clause-effect c = λ takes owner is all.
     effect_at c.args.sizes.now takes (record { kind = c.args.kind; from = c.args.from; command = c.args.command }) owner c.args.self.now false
-    (sym c.has_voted.ensures ∙ c.if-has_voted.false) is all
+    (sym c.voted.ensures.seen ∙ c.if-voted.false) is all
 
 pub returns-clause-broadcast : goal.returns-clause-broadcast
 returns-clause-broadcast c = λ takes is.
