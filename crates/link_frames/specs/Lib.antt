@@ -1,2 +1,12 @@
+pub mod FrameReads
+pub mod Frames
+pub mod Hmac
 pub mod Kinds
+pub mod KeyRings
+pub mod Keys
+pub mod Laws
+pub mod Layout
+pub mod Opening
+pub mod Packets
+pub mod Texts
 pub mod Watching

@@ -1,6 +1,13 @@
+ghost use Rattle.std.specs.Prelude.{◌≡◌, ◌<◌, ◌≤◌, IfOk};
+
 use super::*;
+use quorum_sizes::{NodeName, Sizes};
+use role_commands::Command;
+use sha2::{Digest, Sha256};
+use std::alloc::Global;
 use std::io;
 use std::io::{ErrorKind, Read, Write};
+use std::test::Fail;
 
 /// Fails each call, and then takes and gives nothing.
 #[derive(Drop)]
@@ -60,4 +67,243 @@ fn what_is_inside_answers(rt: HostRuntime) {
     assert!(rt; reader.read(&mut buf).is_ok_and(|n| n == 4));
     assert_eq!(rt; buf, *b"abcd");
     assert_eq!(rt; reader.faults(), 0);
+}
+
+#[test]
+fn hmac_of_rfc_4231(rt: HostRuntime) {
+    let first = [
+        0xb0, 0x34, 0x4c, 0x61, 0xd8, 0xdb, 0x38, 0x53, 0x5c, 0xa8, 0xaf, 0xce, 0xaf, 0x0b, 0xf1,
+        0x2b, 0x88, 0x1d, 0xc2, 0x00, 0xc9, 0x83, 0x3d, 0xa7, 0x26, 0xe9, 0x37, 0x6c, 0x2e, 0x32,
+        0xcf, 0xf7,
+    ];
+    let second = [
+        0x5b, 0xdc, 0xc1, 0x46, 0xbf, 0x60, 0x75, 0x4e, 0x6a, 0x04, 0x24, 0x26, 0x08, 0x95, 0x75,
+        0xc7, 0x5a, 0x00, 0x3f, 0x08, 0x9d, 0x27, 0x39, 0x83, 0x9d, 0xec, 0x58, 0xb9, 0x64, 0xec,
+        0x38, 0x43,
+    ];
+    assert_eq!(rt; hmac_sha256(&[0x0b; 20], b"Hi There"), first);
+    assert_eq!(rt;
+        hmac_sha256(b"Jefe", b"what do ya want for nothing?"),
+        second
+    );
+}
+
+#[test]
+fn a_long_key_is_hashed(rt: HostRuntime) {
+    let key = [0xaa; 65];
+    assert_eq!(rt;
+        hmac_sha256(&key, b"text"),
+        hmac_sha256(&Sha256::digest(&key), b"text")
+    );
+}
+
+/// The laboratory key of two nodes.
+fn lab_key(a: u8, b: u8) -> [u8; 32] {
+    let mut key = [0; 32];
+    key[0] = a.min(b);
+    key[1] = a.max(b);
+    key
+}
+
+/// The laboratory keys of one of four nodes.
+fn lab_keys(alloc: Global, sizes: &Sizes, me: NodeName) -> Result<PairKeys, KeyFault>
+    requires { me < sizes.now.nodes }
+    ensures { IfOk result (λ k. (k.me ≡ me) × (k.sizes ≡ sizes.now)) }
+{
+    let i = me.index();
+    PairKeys::new(
+        alloc,
+        sizes,
+        me,
+        &[lab_key(i, 0), lab_key(i, 1), lab_key(i, 2), lab_key(i, 3)],
+    )
+}
+
+/// The first twenty bytes of the SEND from 0 to 1, in cluster 1, of `assign 7 2` at place 0.
+const FIELDS: [u8; 20] = [
+    0x01, 0x00, 0x00, 0x00, 0x01, 0x00, 0x01, 0x01, 0x00, 0x00, 0x00, 0x01, 0x00, 0x02, 0x00, 0x00,
+    0x00, 0x07, 0x00, 0x00,
+];
+
+/// The frame of these fields under the laboratory key of two nodes.
+fn tagged(a: u8, b: u8, fields: &[u8; 20]) -> [u8; 52] {
+    let mut frame = [0; 52];
+    frame[..20].copy_from_slice(fields);
+    frame[20..].copy_from_slice(&hmac_sha256(&lab_key(a, b), fields));
+    frame
+}
+
+/// So many bytes of a frame.
+fn cut(frame: &[u8; 52], n: usize) -> &[u8]
+    requires { n ≤ 52 }
+{
+    &frame[..n]
+}
+
+/// The frame with some bits of a byte turned.
+fn flipped(frame: &[u8; 52], at: usize, mask: u8) -> [u8; 52]
+    requires { at < 52 }
+{
+    let mut other = *frame;
+    other[at] ^= mask;
+    other
+}
+
+fn altered(fields: &[u8; 20], at: usize, value: u8) -> [u8; 20]
+    requires { at < 20 }
+{
+    let mut other = *fields;
+    other[at] = value;
+    other
+}
+
+#[test]
+fn what_is_sealed_is_opened(rt: HostRuntime) -> Result<(), Fail> {
+    let sizes = Sizes::new(4, 1)?;
+    let sender = sizes.name(0).ok_or("no name")?;
+    let receiver = sizes.name(1).ok_or("no name")?;
+    let message = Message {
+        kind: Kind::Send,
+        owner: sender,
+        place: 0,
+        command: Command::Assign { user: 7, role: 2 },
+    };
+    let packet = Packet::new(sender, receiver, message).ok_or("no packet")?;
+    assert_eq!(rt; Packet::new(receiver, sender, message), None);
+    assert_eq!(rt; packet.message(), message);
+    assert_eq!(rt;
+        (packet.from(), packet.to(), packet.kind()),
+        (sender, receiver, Kind::Send)
+    );
+    assert_eq!(rt;
+        (packet.owner(), packet.place(), packet.command()),
+        (sender, 0, message.command)
+    );
+
+    let keys = lab_keys(rt.alloc(), &sizes, sender)?;
+    let frame = seal(&keys, 1, &packet);
+    assert_eq!(rt; frame, tagged(0, 1, &FIELDS));
+    let keys = lab_keys(rt.alloc(), &sizes, receiver)?;
+    assert_eq!(rt; open_frame(&keys, &sizes, 1, &frame), Ok(packet));
+    Ok(())
+}
+
+#[test]
+fn refusals_before_the_tag(rt: HostRuntime) -> Result<(), Fail> {
+    let sizes = Sizes::new(4, 1)?;
+    let me = sizes.name(1).ok_or("no name")?;
+    let keys = lab_keys(rt.alloc(), &sizes, me)?;
+    let frame = tagged(0, 1, &FIELDS);
+    assert_eq!(rt;
+        open_frame(&keys, &sizes, 1, cut(&frame, 51)),
+        Err(LinkFault::Length)
+    );
+    for (at, value, fault) in [
+        (0, 2, LinkFault::Version),
+        (4, 2, LinkFault::Cluster),
+        (6, 2, LinkFault::NotForMe),
+        (5, 9, LinkFault::NoSuchNode),
+    ] {
+        let mut other = frame;
+        if let Some(byte) = other.get_mut(at) {
+            *byte = value;
+        }
+        assert_eq!(rt; open_frame(&keys, &sizes, 1, &other), Err(fault));
+    }
+    for at in 7..52 {
+        for mask in [1, 2, 4, 8, 16, 32, 64, 128] {
+            let other = flipped(&frame, at, mask);
+            assert_eq!(rt;
+                open_frame(&keys, &sizes, 1, &other),
+                Err(LinkFault::BadTag)
+            );
+        }
+    }
+    Ok(())
+}
+
+#[test]
+fn refusals_behind_the_tag(rt: HostRuntime) -> Result<(), Fail> {
+    let sizes = Sizes::new(4, 1)?;
+    let me = sizes.name(1).ok_or("no name")?;
+    let keys = lab_keys(rt.alloc(), &sizes, me)?;
+    for (from, fields, fault) in [
+        (0, altered(&FIELDS, 7, 4), LinkFault::BadKind),
+        (0, altered(&FIELDS, 8, 4), LinkFault::BadOwner),
+        (0, altered(&FIELDS, 19, 1), LinkFault::BadCommand),
+        (2, altered(&FIELDS, 5, 2), LinkFault::SendNotByOwner),
+    ] {
+        let frame = tagged(from, 1, &fields);
+        assert_eq!(rt; open_frame(&keys, &sizes, 1, &frame), Err(fault));
+    }
+    assert_eq!(rt;
+        format!(in rt.alloc(); "{}", LinkFault::SendNotByOwner)?.as_str(),
+        "L10 SendNotByOwner"
+    );
+    Ok(())
+}
+
+#[test]
+fn each_node_has_a_key(rt: HostRuntime) -> Result<(), Fail> {
+    let sizes = Sizes::new(4, 1)?;
+    let me = sizes.name(1).ok_or("no name")?;
+    let keys = [lab_key(1, 0), lab_key(1, 1), lab_key(1, 2)];
+    let refused = PairKeys::new(rt.alloc(), &sizes, me, &keys);
+    assert!(rt; refused.is_err_and(|fault| fault == KeyFault::WrongCount));
+    assert_eq!(rt;
+        format!(in rt.alloc(); "{}", KeyFault::WrongCount)?.as_str(),
+        "K1 WrongCount"
+    );
+    Ok(())
+}
+
+#[test]
+fn frames_are_read(rt: HostRuntime) -> Result<(), Fail> {
+    let frame = tagged(0, 1, &FIELDS);
+    let mut whole = Watched::new(frame.as_slice());
+    assert_eq!(rt; read_frame(&mut whole), Ok(Some(frame)));
+    assert_eq!(rt; read_frame(&mut whole), Ok(None));
+
+    let mut cut = Watched::new(cut(&frame, 30));
+    assert_eq!(rt; read_frame(&mut cut), Err(ReadFault::Truncated(30)));
+
+    let mut slow = Watched::new(Faulty::new(
+        Faulty::new(frame.as_slice(), Mishap::Short, 0, 9),
+        Mishap::Interrupt,
+        3,
+        4,
+    ));
+    assert_eq!(rt; read_frame(&mut slow), Ok(Some(frame)));
+    assert_eq!(rt; slow.faults(), 4);
+
+    let mut broken = Watched::new(Faulty::new(frame.as_slice(), Mishap::Fail, 0, 1));
+    assert_eq!(rt; read_frame(&mut broken), Err(ReadFault::Device));
+    assert_eq!(rt; broken.faults(), 1);
+    Ok(())
+}
+
+#[test]
+fn interrupted_for_ever(rt: HostRuntime) -> Result<(), Fail> {
+    let mut reader = Watched::new(Faulty::new(b"".as_slice(), Mishap::Interrupt, 0, u64::MAX));
+    assert_eq!(rt; read_frame(&mut reader), Err(ReadFault::TooManyTurns));
+    assert_eq!(rt; reader.faults(), 1024);
+    assert_eq!(rt;
+        format!(in rt.alloc(); "{}", ReadFault::TooManyTurns)?.as_str(),
+        "P3 TooManyTurns"
+    );
+    Ok(())
+}
+
+#[test]
+fn a_writer_goes_wrong(rt: HostRuntime) -> Result<(), Fail> {
+    let mut writer = Faulty::new(Vec::new(rt.alloc()), Mishap::Short, 1, 1);
+    assert!(rt; writer.write(b"ab").is_ok_and(|n| n == 2));
+    assert!(rt; writer.write(b"cd").is_ok_and(|n| n == 1));
+    assert!(rt; writer.flush().is_ok());
+    assert_eq!(rt; writer.made(), 2);
+    assert_eq!(rt; writer.inner().as_slice(), b"abc".as_slice());
+    let mut idle = Faulty::new(Vec::new(rt.alloc()), Mishap::Nothing, 0, 1);
+    assert!(rt; idle.write(b"ab").is_ok_and(|n| n == 0));
+    assert_eq!(rt; idle.inner().len(), 0);
+    Ok(())
 }

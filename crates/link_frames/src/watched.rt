@@ -1,7 +1,7 @@
 ghost use Rattle.std.specs.Prelude.{◌≡◌, length};
 ghost use Rattle.std.specs.Io.{ReadsAtMost, WritesAtMost};
 ghost use Rattle.std.specs.Io.KnownBytes.{ReadConsumes, WriteAppends, Keeps};
-ghost use Rattle.link_frames.specs.Watching.{watched_inner, watched_faults, read_fails, write_fails, faults_after};
+ghost use Rattle.link_frames.specs.Watching.{watched_inner, watched_faults, read_fails, write_fails, one_more, faults_after};
 
 use std::io;
 use std::io::{Read, Write};
@@ -30,6 +30,14 @@ impl<T> Watched<T> {
     {
         self.faults
     }
+
+    fn count_fault(&mut self)
+        ensures inner { watched_inner self.new ≡ watched_inner self.old }
+        ensures faults { watched_faults self.new ≡ one_more (watched_faults self.old) }
+    {
+        let faults = &mut self.faults;
+        *faults = faults.saturating_add(1);
+    }
 }
 
 impl<R: Read> Read for Watched<R> {
@@ -42,7 +50,7 @@ impl<R: Read> Read for Watched<R> {
     {
         let result = self.inner.read(buf);
         if result.is_err() {
-            self.faults = self.faults.saturating_add(1);
+            self.count_fault();
         }
         result
     }
@@ -62,7 +70,7 @@ impl<W: Write> Write for Watched<W> {
             Err(_) => true,
         };
         if failed {
-            self.faults = self.faults.saturating_add(1);
+            self.count_fault();
         }
         result
     }

@@ -1,0 +1,6 @@
+pub mod CommandReading
+pub mod FrameLaws
+pub mod FrameReadLemmas
+pub mod OpeningLemmas
+pub mod PacketReading
+pub mod SameTags

@@ -1,0 +1,42 @@
+-- Packets: a message of the broadcast from one node to another.
+use Rattle.std.specs.Prelude.{◌≡◌, ℕ, ◌^◌, ◌<◌, ◌==◌, not, ◌&&◌, if◌then◌else◌, Option, Some, None}
+use Rattle.role_commands.specs.Words.{IsCommand}
+use Rattle.role_commands.specs.declared.command.Command.{Command}
+use Rattle.link_frames.specs.Kinds.{same_kind}
+use Rattle.link_frames.specs.declared.kind.Kind.{Kind}
+use Rattle.link_frames.specs.declared.kind.Kind.TheVariants.{Send}
+use Rattle.link_frames.specs.declared.packet.Message.{Message}
+
+-- who sends, who is sent to, and the message: its kind, and the command at a place of the owner's stream
+pub record PacketValue : Type 0 where
+  pub from : ℕ
+  pub to : ℕ
+  pub kind : Kind
+  pub owner : ℕ
+  pub place : ℕ
+  pub command : Command
+
+-- a SEND comes from its owner
+abbrev pub SentByOwner : PacketValue → Type 0
+SentByOwner p = p.kind ≡ Send → p.from ≡ p.owner
+
+-- what each packet keeps: places have 16 bits, and the command's numbers are within their widths
+abbrev pub IsPacket : PacketValue → Type 0
+IsPacket p = SentByOwner p × (p.place < 2 ^ 16) × IsCommand p.command
+
+abbrev pub packet_of : ℕ → ℕ → Message → PacketValue
+packet_of from to m = record {
+  from = from;
+  to = to;
+  kind = m.kind;
+  owner = m.owner;
+  place = m.place;
+  command = m.command;
+}
+
+abbrev pub message_of : PacketValue → Message
+message_of p = record { kind = p.kind; owner = p.owner; place = p.place; command = p.command }
+
+-- the packet of a message, if it isn't another's SEND
+abbrev pub packet_due : ℕ → ℕ → Message → Option PacketValue
+packet_due from to m = if same_kind m.kind Send && not (from == m.owner) then None else Some (packet_of from to m)

@@ -1,0 +1,16 @@
+//! What is true of frames and of opening them.
+
+ghost use Rattle.link_frames.specs.Laws.{SealedIsOpened, OpenedIsSealed, OneFrame, FramesDiffer, FrameLength};
+
+/// Sealing and opening undo each other.
+pub fn links()
+    ensures opened { SealedIsOpened }
+    ensures sealed { OpenedIsSealed }
+{}
+
+/// A packet has one frame, and a frame one packet.
+pub fn one_frame()
+    ensures one { OneFrame }
+    ensures differ { FramesDiffer }
+    ensures len { FrameLength }
+{}

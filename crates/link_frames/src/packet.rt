@@ -1,0 +1,108 @@
+ghost use Rattle.std.specs.Prelude.{◌≡◌, ◌≢◌, IfSome, IfNone};
+ghost use Rattle.link_frames.specs.Packets.{IsPacket, packet_of, message_of, packet_due};
+
+use crate::kind::Kind;
+use quorum_sizes::NodeName;
+use role_commands::Command;
+use std::marker::Model;
+
+/// A place in an owner's stream of commands.
+pub type Place = u16;
+
+/// A message of the broadcast: a command at a place of its owner's stream.
+#[derive(Clone, Copy, Debug, PartialEq, Eq, Hash)]
+pub struct Message {
+    /// What is said of the command.
+    pub kind: Kind,
+    /// The node in whose stream the command stands.
+    pub owner: NodeName,
+    /// Where it stands there.
+    pub place: Place,
+    /// The command.
+    pub command: Command,
+}
+
+/// A message from one node to another. A SEND comes from its owner.
+#[derive(Clone, Copy, Debug, PartialEq, Eq, Hash)]
+pub struct Packet {
+    from: NodeName,
+    to: NodeName,
+    message: Message,
+}
+
+impl Model for Packet {
+    ghost use Rattle.link_frames.specs.Packets.{PacketValue, IsPacket, packet_of, message_of};
+
+    ghost Value = { PacketValue };
+
+    ghost view = { λ a. packet_of a.from a.to a.message };
+
+    ghost invariant = { λ a. IsPacket (packet_of a.from a.to a.message) };
+
+    ghost inverse = { λ p. record { from = p.from; to = p.to; message = message_of p } };
+}
+
+impl Packet {
+    /// The packet of a message, or `None` where the message is a SEND of which `from` is not the owner.
+    pub fn new(from: NodeName, to: NodeName, message: Message) -> Option<Packet>
+        ensures value { result ≡ packet_due from to message }
+        ensures found { IfSome result (λ p. (p ≡ packet_of from to message) × IsPacket p) }
+        ensures none { IfNone result ((message.kind ≡ Kind.Send) × (from ≢ message.owner)) }
+    {
+        if matches!(message.kind, Kind::Send) && from.index() != message.owner.index() {
+            return None;
+        }
+        Some(Packet { from, to, message })
+    }
+
+    /// The node that sends the packet.
+    pub fn from(&self) -> NodeName
+        ensures { result ≡ self.now.from }
+    {
+        self.from
+    }
+
+    /// The node that it is sent to.
+    pub fn to(&self) -> NodeName
+        ensures { result ≡ self.now.to }
+    {
+        self.to
+    }
+
+    /// The kind of its message.
+    pub fn kind(&self) -> Kind
+        ensures { result ≡ self.now.kind }
+    {
+        self.message.kind
+    }
+
+    /// The owner of its message.
+    pub fn owner(&self) -> NodeName
+        ensures { result ≡ self.now.owner }
+    {
+        self.message.owner
+    }
+
+    /// The place of its message.
+    pub fn place(&self) -> Place
+        ensures { result ≡ self.now.place }
+    {
+        self.message.place
+    }
+
+    /// The command of its message.
+    pub fn command(&self) -> Command
+        ensures { result ≡ self.now.command }
+    {
+        self.message.command
+    }
+
+    /// Its message. What the packet keeps is known of it: a SEND comes from its owner, and the numbers
+    /// are within their widths.
+    pub fn message(&self) -> Message
+        ensures value { result ≡ message_of self.now }
+        ensures kept { IsPacket self.now }
+    {
+        self.message
+    }
+}

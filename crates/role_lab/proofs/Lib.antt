@@ -1,0 +1,10 @@
+pub mod Waiting
+pub mod Writing
+pub mod Fronts
+pub mod Words
+pub mod Spelled
+pub mod Ascii
+pub mod Answering
+pub mod LineLemmas
+pub mod MachineLemmas
+pub mod RunLemmas

@@ -1,0 +1,12 @@
+pub mod Lines
+pub mod Buffers
+pub mod Devices
+pub mod Machine
+pub mod Grammar
+pub mod Texts
+pub mod Scripts
+pub mod Stages
+pub mod Spellings
+pub mod Runs
+pub mod Steps
+pub mod Statuses

@@ -1,0 +1,35 @@
+-- What the program keeps of the lines so far.
+use Rattle.std.specs.Prelude.{◌≡◌, ℕ, List, Option, Some, None, ⊤}
+use Rattle.quorum_sizes.specs.Sizes.{AreSizes}
+use Rattle.bracha_instance.specs.Broadcast.{Take}
+use Rattle.bracha_instance.specs.States.{state}
+use Rattle.bracha_instance.specs.Taking.{SendsAreFrom}
+use Rattle.role_lab.specs.Grammar.{owner}
+use Rattle.role_lab.specs.Scripts.{Script, Unread, OfInstance}
+use Rattle.role_lab.specs.declared.stage.Stage.{Stage}
+use Rattle.role_lab.specs.declared.stage.Stage.TheVariants.{Start, Running}
+use Rattle.role_lab.specs.declared.grammar.Said.{Said}
+
+-- the message that was said
+abbrev pub take_said : Said → Take
+take_said said = record { kind = said.kind; from = said.from; command = said.command }
+
+-- the stage after these lines
+abbrev pub Follows : Stage → Script → Type 0
+Follows Start Unread = ⊤
+Follows (Running sizes instance) (OfInstance s takes) = (sizes ≡ s) × AreSizes s × (instance ≡ state s takes) × SendsAreFrom owner takes
+Follows _ _ = ⊥
+
+-- what a line did to the stage, and the text for it; nothing where the line is bad
+abbrev pub Answers : Option (Script × List ℕ) → Stage → Option (List ℕ) → Type 0
+Answers None stage None = ⊤
+Answers None stage (Some text) = ⊥
+Answers (Some due) stage None = ⊥
+Answers (Some due) stage (Some text) = Follows stage due.0 × (text ≡ due.1)
+
+-- the same of a first line, which makes a stage
+abbrev pub StartAnswers : Option (Script × List ℕ) → Option (Stage × List ℕ) → Type 0
+StartAnswers None None = ⊤
+StartAnswers None (Some first) = ⊥
+StartAnswers (Some due) None = ⊥
+StartAnswers (Some due) (Some first) = Follows first.0 due.0 × (first.1 ≡ due.1)

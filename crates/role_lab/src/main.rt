@@ -1,0 +1,37 @@
+//! A laboratory for the broadcast. It reads a script on standard input and writes one line for each line of it.
+//!
+//! `specs/Scripts.antt` says what a script means, and `specs/Runs.antt` what running it does.
+#![tactic(auto)]
+
+mod ahead;
+mod device;
+pub mod fault;
+mod grammar;
+pub mod laws;
+mod lines;
+pub mod run;
+mod stage;
+mod texts;
+
+use fault::ScriptFault;
+use link_frames::Watched;
+use run::run_script;
+use std::io;
+use std::process::ExitCode;
+
+fn main(rt: HostRuntime) -> ExitCode {
+    let mut reader = Watched::new(rt.reader());
+    let mut writer = Watched::new(io::writer(&rt));
+    match run_script(rt.alloc(), &mut reader, &mut writer) {
+        Ok(()) => ExitCode::SUCCESS,
+        Err(fault) => {
+            if matches!(&fault, ScriptFault::BadScript { .. }) {
+                let _ = eprintln!(rt; "role_lab: {fault}");
+            }
+            ExitCode::from(fault.status())
+        }
+    }
+}
+
+#[cfg(test)]
+mod tests;
