@@ -3,3 +3,4 @@ pub mod WordLemmas
 pub mod SameLemmas
 pub mod ByteLemmas
 pub mod TableLemmas
+pub mod ByteReading

@@ -1,5 +1,5 @@
 ghost use Rattle.std.specs.Prelude.{◌≡◌, IfSome};
-ghost use Rattle.role_commands.specs.Bytes.{fields_bytes, bytes_of};
+ghost use Rattle.role_commands.specs.Bytes.{fields_bytes, bytes_of, command_in};
 ghost use Rattle.role_commands.specs.Words.{IsCommand};
 
 use crate::command::Command;
@@ -40,8 +40,17 @@ pub fn encode(command: &Command) -> [u8; COMMAND_LEN]
 }
 
 /// The command that [`encode`] writes as these bytes, if there is one.
-#[tactic(auto, unfolding(crate::specs::Bytes::bytes_of))]
 pub fn decode(bytes: &[u8; COMMAND_LEN]) -> Option<Command>
+    ensures value { result ≡ command_in bytes.now }
+    ensures found { IfSome result (λ c. bytes.now ≡ bytes_of c) }
+    ensures fits { IfSome result IsCommand }
+    ensures only { (c : Command) → IsCommand c → bytes.now ≡ bytes_of c → result ≡ Some c }
+{
+    read_fields(bytes)
+}
+
+#[tactic(auto, unfolding(crate::specs::Bytes::bytes_of))]
+fn read_fields(bytes: &[u8; COMMAND_LEN]) -> Option<Command>
     ensures found { IfSome result (λ c. bytes.now ≡ bytes_of c) }
     ensures fits { IfSome result IsCommand }
     ensures only { (c : Command) → IsCommand c → bytes.now ≡ bytes_of c → result ≡ Some c }
