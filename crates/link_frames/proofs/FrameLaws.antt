@@ -2,14 +2,13 @@
 use Rattle.std.proofs.Common.{◌≡◌, ℕ, List, ◌<◌, get_or, Some, sym, ap, subst, ◌∙◌, arith, length-append, take_at}
 use Rattle.std.proofs.lemmas.Nat.{from_be_bytes-to_be_bytes_2, from_be_bytes-to_be_bytes_4}
 use Rattle.std.specs.Int.{w16, w32, from_be_bytes}
-use Rattle.role_commands.specs.Bytes.{bytes_of}
+use Rattle.role_commands.specs.Bytes.{bytes_of, part}
 use Rattle.role_commands.specs.declared.command.Command.{Command}
 use Rattle.role_commands.proofs.ByteLemmas.{bytes_of_injective, length-bytes_of}
 use Rattle.link_frames.specs.Frames.{header, fields_of, frame}
 use Rattle.link_frames.specs.Hmac.{hmac}
 use Rattle.link_frames.specs.KeyRings.{key_with}
 use Rattle.link_frames.specs.Laws.{SealedIsOpened, OneFrame, FramesDiffer, FrameLength}
-use Rattle.link_frames.specs.Layout.{part}
 use Rattle.link_frames.specs.Opening.{kind_in}
 use Rattle.link_frames.specs.Packets.{PacketValue}
 use Rattle.link_frames.specs.declared.kind.Kind.{Kind}

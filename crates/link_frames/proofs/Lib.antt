@@ -1,4 +1,3 @@
-pub mod CommandReading
 pub mod FrameLaws
 pub mod FrameReadLemmas
 pub mod OpeningLemmas

@@ -1,11 +1,11 @@
 -- What is read of a packet's fields is the packet that has them.
+use Rattle.role_commands.specs.Bytes.{part, command_in}
 use Rattle.std.proofs.Common.{◌≡◌, ℕ, ◌<◌, ◌⊎◌, Bool, true, false, cond, not, eqb, ◌&&◌, List, get_or, Option, Some, None, Result, Ok, refl, sym, ap, subst, ◌∙◌, inl, inr, arith}
 use Rattle.std.specs.Int.{w16, from_be_bytes}
 use Rattle.std.proofs.lemmas.Bool.{ltb-true, lt-ltb, eqb-true, eq-eqb}
 use Rattle.link_frames.specs.Frames.{kind_byte}
 use Rattle.link_frames.specs.Kinds.{same_kind}
-use Rattle.link_frames.specs.Layout.{part}
-use Rattle.link_frames.specs.Opening.{demand, with_some, kind_in, command_in, packet_in}
+use Rattle.link_frames.specs.Opening.{demand, with_some, kind_in, packet_in}
 use Rattle.link_frames.specs.Packets.{PacketValue, SentByOwner, packet_of, message_of, packet_due}
 use Rattle.link_frames.specs.declared.kind.Kind.{Kind}
 use Rattle.link_frames.specs.declared.kind.Kind.TheVariants.{Send, Echo, Ready}

@@ -2,7 +2,8 @@
 use Rattle.std.specs.Prelude.{◌≡◌, ℕ, ◌<◌, ◌^◌, List, length, Ok}
 use Rattle.link_frames.specs.Frames.{frame, IsFrameFor}
 use Rattle.link_frames.specs.KeyRings.{KeyRing, IsKeyRing, key_with}
-use Rattle.link_frames.specs.Layout.{frame_len, IsBytes}
+use Rattle.role_commands.specs.Bytes.{IsBytes}
+use Rattle.link_frames.specs.Layout.{frame_len}
 use Rattle.link_frames.specs.Opening.{open_due}
 use Rattle.link_frames.specs.Packets.{PacketValue, IsPacket}
 

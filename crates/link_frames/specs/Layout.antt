@@ -1,5 +1,5 @@
 -- Where the fields of a frame of version 1 stand, and how many bytes they have.
-use Rattle.std.specs.Prelude.{ℕ, ◌<◌, ◌^◌, List, take, drop, slice_index}
+use Rattle.std.specs.Prelude.{ℕ}
 
 abbrev pub version : ℕ
 version = 1
@@ -36,10 +36,5 @@ command_at = 11
 abbrev pub tag_at : ℕ
 tag_at = 20
 
--- so many bytes from a place on
-abbrev pub part : ℕ → ℕ → List ℕ → List ℕ
-part at n bytes = take n (drop at bytes)
-
--- each number is a byte
-abbrev pub IsBytes : List ℕ → Type 0
-IsBytes bytes = (i : ℕ) → slice_index bytes i < 2 ^ 8
+abbrev pub tag_len : ℕ
+tag_len = 32

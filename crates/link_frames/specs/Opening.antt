@@ -1,13 +1,11 @@
 -- What comes of opening bytes as a frame: the packet, or the first fault that holds.
-use Rattle.std.specs.Prelude.{ℕ, Bool, ◌==◌, nat_lt, if◌then◌else◌, List, length, slice_index, Option, Some, None, option_and_then, Result, Ok, Err}
+use Rattle.std.specs.Prelude.{ℕ, Bool, ◌==◌, nat_lt, if◌then◌else◌, List, length, slice_index, Option, Some, None, Result, Ok, Err}
 use Rattle.std.specs.Int.{w16, w32, from_be_bytes}
 use Rattle.std.specs.Str.{bytes_eq}
-use Rattle.role_commands.specs.Bytes.{bytes_of}
-use Rattle.role_commands.specs.declared.command.Command.{Command}
-use Rattle.role_commands.specs.declared.command.Command.TheVariants.{Assign, Deassign, Grant, Revoke}
+use Rattle.role_commands.specs.Bytes.{part, command_in, command_length}
 use Rattle.link_frames.specs.Hmac.{hmac}
 use Rattle.link_frames.specs.KeyRings.{KeyRing, key_with}
-use Rattle.link_frames.specs.Layout.{version, frame_len, version_at, cluster_at, from_at, to_at, kind_at, owner_at, place_at, command_at, tag_at, part}
+use Rattle.link_frames.specs.Layout.{version, frame_len, version_at, cluster_at, from_at, to_at, kind_at, owner_at, place_at, command_at, tag_at, tag_len}
 use Rattle.link_frames.specs.Packets.{PacketValue, packet_due}
 use Rattle.link_frames.specs.declared.kind.Kind.{Kind}
 use Rattle.link_frames.specs.declared.kind.Kind.TheVariants.{Send, Echo, Ready}
@@ -26,26 +24,12 @@ with_some (Some x) fault rest = rest x
 abbrev pub kind_in : ℕ → Option Kind
 kind_in b = if b == 1 then Some Send else (if b == 2 then Some Echo else (if b == 3 then Some Ready else None))
 
--- the command of a tag and three numbers
-abbrev pub tagged : ℕ → ℕ → ℕ → ℕ → Option Command
-tagged tag role party operation =
-    if tag == 1 then Some (Assign party role)
-    else (if tag == 2 then Some (Deassign party role)
-    else (if tag == 3 then Some (Grant role operation party)
-    else (if tag == 4 then Some (Revoke role operation party)
-    else None)))
-
--- the command whose bytes these are
-unfoldable pub command_in : List ℕ → Option Command
-command_in bytes = option_and_then (λ c. if bytes_eq bytes (bytes_of c) then Some c else None)
-    (tagged (slice_index bytes 0) (from_be_bytes w16 (part 1 2 bytes)) (from_be_bytes w32 (part 3 4 bytes)) (from_be_bytes w16 (part 7 2 bytes)))
-
 -- the packet that the fields say, from and to these nodes, in a cluster of so many
 unfoldable pub packet_in : ℕ → ℕ → ℕ → List ℕ → Result PacketValue LinkFault
 packet_in nodes from to bytes =
     with_some (kind_in (slice_index bytes kind_at)) faults.BadKind (λ kind.
     demand (nat_lt (slice_index bytes owner_at) nodes) faults.BadOwner (
-    with_some (command_in (part command_at 9 bytes)) faults.BadCommand (λ command.
+    with_some (command_in (part command_at command_length bytes)) faults.BadCommand (λ command.
     with_some (packet_due from to (record { kind = kind; owner = slice_index bytes owner_at; place = from_be_bytes w16 (part place_at 2 bytes); command = command })) faults.SendNotByOwner Ok)))
 
 -- the first fault of these bytes at the ring's node, or the packet whose frame they are
@@ -57,5 +41,5 @@ open_due ring cluster bytes =
     demand (from_be_bytes w32 (part cluster_at 4 bytes) == cluster) faults.Cluster (
     demand (slice_index bytes to_at == ring.me) faults.NotForMe (
     demand (nat_lt from ring.sizes.nodes) faults.NoSuchNode (
-    demand (bytes_eq (part tag_at 32 bytes) (hmac (key_with ring from) (part 0 tag_at bytes))) faults.BadTag (
+    demand (bytes_eq (part tag_at tag_len bytes) (hmac (key_with ring from) (part 0 tag_at bytes))) faults.BadTag (
     packet_in ring.sizes.nodes from ring.me bytes))))))

@@ -1,8 +1,8 @@
 ghost use Rattle.std.specs.Prelude.{◌≡◌, ◌+◌, ◌<◌, ◌≤◌, length, IfOk};
 ghost use Rattle.std.specs.Str.{bytes_eq};
 ghost use Rattle.link_frames.specs.Frames.{IsFrameFor};
-ghost use Rattle.link_frames.specs.Layout.{part};
-ghost use Rattle.link_frames.specs.Opening.{kind_in, command_in, packet_in, open_due};
+ghost use Rattle.role_commands.specs.Bytes.{part};
+ghost use Rattle.link_frames.specs.Opening.{kind_in, packet_in, open_due};
 ghost use Rattle.link_frames.specs.Packets.{PacketValue};
 
 use crate::hmac::hmac_sha256;
@@ -14,7 +14,7 @@ use crate::layout::{
 };
 use crate::packet::{Message, Packet};
 use quorum_sizes::{NodeName, Sizes};
-use role_commands::{COMMAND_LEN, Command, decode};
+use role_commands::decode;
 use std::error::Error;
 use std::fmt;
 
@@ -149,7 +149,7 @@ fn read_packet(
     let kind = read_kind(bytes[KIND_AT]).ok_or(LinkFault::BadKind)?;
     let owner = sizes.name(bytes[OWNER_AT]).ok_or(LinkFault::BadOwner)?;
     let place = u16::from_be_bytes(part_of(bytes, PLACE_AT));
-    let command = read_command(&part_of(bytes, COMMAND_AT)).ok_or(LinkFault::BadCommand)?;
+    let command = decode(&part_of(bytes, COMMAND_AT)).ok_or(LinkFault::BadCommand)?;
     let message = Message {
         kind,
         owner,
@@ -168,12 +168,6 @@ fn read_kind(byte: u8) -> Option<Kind>
         3 => Some(Kind::Ready),
         _ => None,
     }
-}
-
-fn read_command(bytes: &[u8; COMMAND_LEN]) -> Option<Command>
-    ensures { result ≡ command_in bytes.now }
-{
-    decode(bytes)
 }
 
 /// So many bytes from a place on.
