@@ -1,0 +1,5 @@
+use Rattle.owner_streams.proofs.StreamLaws.{stream_is_one_lem}
+use Rattle.owner_streams.proofs.laws.stream_is_one.Goals as goal
+
+pub returns : goal.returns
+returns c = stream_is_one_lem

@@ -1,0 +1,6 @@
+pub mod Places
+pub mod Steps
+pub mod Values
+pub mod Laws
+pub mod Slots
+pub mod Kept

@@ -1,0 +1,134 @@
+ghost use Rattle.std.specs.Prelude.{◌≡◌, ◌≢◌, ℕ, ◌+◌, ◌<◌, ◌≤◌, List, [], ◌∷◌, ◌++◌, IfOk, OnOk, OnErr, slice_get};
+ghost use Rattle.link_frames.specs.Packets.{PacketValue};
+ghost use Rattle.bracha_instance.specs.declared.instance.Effect.TheVariants.{Idle};
+ghost use Rattle.owner_streams.specs.Places.{place_count, window, stream, reach as reach_of};
+ghost use Rattle.owner_streams.specs.Steps.{SendsAreOwners, step_due, IsAnswer, effect_due, again_due};
+ghost use Rattle.owner_streams.specs.Values.{IsStateOf};
+ghost use Rattle.owner_streams.specs.Kept.{AreOwnerStreams};
+
+use crate::owner_stream::OwnerStream;
+use crate::steps::{Again, StreamFault, StreamStep};
+use bracha_instance::Effect;
+use link_frames::{Packet, Place};
+use quorum_sizes::{NodeName, Sizes};
+use role_commands::Command;
+use std::alloc::{AllocError, Global};
+use std::marker::Model;
+
+/// The streams of all owners, as one node delivers them: one instance of authenticated double-echo broadcast
+/// (Bracha 1987) for each owner and place.
+///
+/// Contracts see for each owner and place the state of that instance, whatever keeps it.
+#[derive(Drop)]
+pub struct Streams {
+    sizes: Sizes,
+    owners: Vec<OwnerStream>,
+}
+
+impl Model for Streams {
+    ghost use Rattle.owner_streams.specs.Values.{StreamsValue, streams_code};
+
+    ghost Value = { StreamsValue };
+
+    ghost coded = { streams_code };
+
+    ghost use Rattle.owner_streams.specs.Kept.{streams_value, AreOwnerStreams};
+
+    ghost view = { streams_value };
+
+    ghost invariant = { AreOwnerStreams };
+}
+
+impl Streams {
+    /// The streams of a cluster of these sizes, of which nothing was taken.
+    ///
+    /// # Errors
+    ///
+    /// Memory runs out.
+    pub fn new(alloc: Global, sizes: Sizes) -> Result<Streams, AllocError>
+        ensures sizes { IfOk result (λ streams. streams.sizes ≡ sizes) }
+        ensures state { IfOk result (λ streams. IsStateOf streams []) }
+    {
+        let mut owners = Vec::new(alloc);
+        for _name in 0..sizes.n() {
+            owners.push(OwnerStream::new(alloc))?;
+        }
+        Ok(Streams { sizes, owners })
+    }
+
+    /// Takes a packet, whose owner and sender must be of these sizes.
+    ///
+    /// The clauses speak of every list of packets of which this is the state. A message counts exactly where
+    /// none of that kind from that node was among them at that owner and place. An instance is made when its
+    /// first message is counted, and is kept for good.
+    ///
+    /// # Errors
+    ///
+    /// [`StreamFault::Beyond`], exactly where the place is not below the owner's reach and [`WINDOW`](crate::WINDOW);
+    /// else [`StreamFault::Memory`], only where the message would count. Each changes nothing.
+    pub fn take(&mut self, packet: &Packet) -> Result<StreamStep, StreamFault>
+        requires from { packet.now.from < self.old.sizes.nodes }
+        requires owner { packet.now.owner < self.old.sizes.nodes }
+        ensures sizes { self.new.sizes ≡ self.old.sizes }
+        ensures due { (packets : List PacketValue) →
+            IsStateOf self.old packets → SendsAreOwners packets →
+            IsAnswer (step_due self.old.sizes packets packet.now) result }
+        ensures state { OnOk result ((packets : List PacketValue) → IsStateOf self.old packets →
+            IsStateOf self.new (packets ++ packet.now ∷ [])) }
+        ensures onward { IfOk result (λ step. step.from ≤ step.to) }
+        ensures few { IfOk result (λ step. step.to ≤ step.from + window) }
+        ensures bound { IfOk result (λ step. step.to ≤ place_count) }
+        ensures idle { IfOk result (λ step. step.effect ≡ Idle → self.new ≡ self.old) }
+        ensures err { OnErr result (self.new ≡ self.old) }
+    {
+        let owner = usize::from(packet.owner().index());
+        self.owners[owner].take(&self.sizes, packet)
+    }
+
+    /// The effect that [`take`](Self::take) would answer, or its refusal. Its conditions are those of `take`.
+    /// Takes no memory.
+    ///
+    /// # Errors
+    ///
+    /// [`StreamFault::Beyond`], as `take`.
+    pub fn look(&self, packet: &Packet) -> Result<Effect, StreamFault>
+        requires from { packet.now.from < self.now.sizes.nodes }
+        requires owner { packet.now.owner < self.now.sizes.nodes }
+        ensures due { (packets : List PacketValue) →
+            IsStateOf self.now packets → SendsAreOwners packets →
+            result ≡ effect_due (step_due self.now.sizes packets packet.now) }
+        ensures memory { result ≢ Err StreamFault.Memory }
+    {
+        self.owners[usize::from(packet.owner().index())].look(packet)
+    }
+
+    /// How far the owner's stream reaches: so many of its first places are delivered without a gap. The owner
+    /// must be of these sizes.
+    pub fn reach(&self, owner: NodeName) -> u32
+        requires { owner < self.now.sizes.nodes }
+        ensures due { (packets : List PacketValue) → IsStateOf self.now packets →
+            result ≡ reach_of self.now.sizes owner packets }
+        ensures bound { result ≤ place_count }
+    {
+        self.owners[usize::from(owner.index())].reach()
+    }
+
+    /// The command at a place of the owner's stream, if the stream reaches beyond it. The owner must be of
+    /// these sizes.
+    pub fn command(&self, owner: NodeName, place: Place) -> Option<Command>
+        requires { owner < self.now.sizes.nodes }
+        ensures { (packets : List PacketValue) → IsStateOf self.now packets →
+            result ≡ slice_get (stream self.now.sizes owner packets) place }
+    {
+        self.owners[usize::from(owner.index())].command(place)
+    }
+
+    /// What this node has sent to all at a place of the owner's stream. The owner must be of these sizes.
+    pub fn again(&self, owner: NodeName, place: Place) -> Again
+        requires { owner < self.now.sizes.nodes }
+        ensures { (packets : List PacketValue) → IsStateOf self.now packets →
+            result ≡ again_due self.now.sizes owner place packets }
+    {
+        self.owners[usize::from(owner.index())].again(place)
+    }
+}

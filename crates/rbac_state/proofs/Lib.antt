@@ -1,0 +1,4 @@
+pub mod PairLemmas
+pub mod StreamLemmas
+pub mod ApplyLemmas
+pub mod ListingLemmas

@@ -1,0 +1,13 @@
+use Rattle.std.proofs.Common.{refl, ap, ◌∙◌}
+use Rattle.std.specs.FinSet as set
+use Rattle.rbac_state.specs.Policies.{assignment_cmp, grant_cmp}
+use Rattle.rbac_state.proofs.policy.Policy.new.Goals as goal
+
+pub returns : goal.returns
+returns c = record {
+  table = refl;
+  assigned = λ user role. ap (λ l. set.contains (set.from_list {R = assignment_cmp} l) (user, role)) c.new.ensures.items ∙ set.contains-empty assignment_cmp (user, role);
+  granted = λ operation object role.
+      ap (λ l. set.contains (set.from_list {R = grant_cmp} l) ((operation, object), role)) c.new-2.ensures.items
+      ∙ set.contains-empty grant_cmp ((operation, object), role);
+}

@@ -1,0 +1,5 @@
+pub mod Says
+pub mod Assignments
+pub mod Policies
+pub mod Listings
+pub mod Laws

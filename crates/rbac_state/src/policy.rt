@@ -1,0 +1,237 @@
+ghost use Rattle.std.specs.Prelude.{◌≡◌, ◌+◌, ◌<◌, ◌≤◌, IfOk, OnOk};
+ghost use Rattle.std.specs.Ordering.{nat_cmp};
+ghost use Rattle.role_commands.specs.Rules.{role_of};
+ghost use Rattle.rbac_state.specs.Policies.{permission_cmp, assigned_in, granted_in, HasRole, RoleMay, UserMay, least_room, IsBlank, SameRelations, IsApplied};
+ghost use Rattle.rbac_state.specs.Assignments.{owns};
+ghost use Rattle.rbac_state.specs.Listings.{IsListing};
+
+use crate::listing::ascending;
+use crate::{pairs, select};
+use quorum_sizes::NodeName;
+use role_commands::{Command, RoleTable};
+use std::alloc::{AllocError, Global};
+use std::marker::Model;
+
+/// An operation and an object.
+pub type Permission = (u16, u32);
+
+/// So many commands can be applied after room was made.
+const LEAST_ROOM: usize = 64;
+
+/// Who has which role, and which role may do what. Contracts see it as the role table, the two
+/// relations and the room.
+#[derive(Drop, Debug)]
+pub struct Policy {
+    roles: RoleTable,
+    /// Users, each with a role.
+    assigned: Vec<(u32, u16)>,
+    /// Permissions, each with a role.
+    granted: Vec<(Permission, u16)>,
+}
+
+impl Model for Policy {
+    ghost use Rattle.std.specs.Prelude.{◌-◌, min, vec_len, vec_capacity};
+    ghost use Rattle.std.specs.FinSet as set;
+    ghost use Rattle.rbac_state.specs.Policies.{PolicyValue, policy_code};
+
+    ghost Value = { PolicyValue };
+
+    ghost coded = { policy_code };
+
+    ghost view = { λ a. record {
+      table = a.roles;
+      assignments = set.from_list a.assigned.items;
+      grants = set.from_list a.granted.items;
+      room = min (vec_capacity a.assigned - vec_len a.assigned) (vec_capacity a.granted - vec_len a.granted);
+    } };
+}
+
+/// The role that a command is about.
+fn role(command: Command) -> u16
+    ensures { result ≡ role_of command }
+{
+    match command {
+        Command::Assign { role, .. } => role,
+        Command::Deassign { role, .. } => role,
+        Command::Grant { role, .. } => role,
+        Command::Revoke { role, .. } => role,
+    }
+}
+
+/// Whether the table has the role, with this node as its owner.
+fn is_owner(roles: &RoleTable, node: NodeName, role: u16) -> bool
+    ensures { result ≡ owns roles.now node role }
+{
+    match roles.owner(role) {
+        Some(owner) => owner.index() == node.index(),
+        None => false,
+    }
+}
+
+impl Policy {
+    /// The policy of these roles, in which no user has a role and no role may do anything. It takes
+    /// no memory.
+    pub fn new(alloc: Global, roles: RoleTable) -> Self
+        ensures { IsBlank roles result }
+    {
+        Policy {
+            roles,
+            assigned: Vec::new(alloc),
+            granted: Vec::new(alloc),
+        }
+    }
+
+    /// Makes room for 64 commands.
+    ///
+    /// # Errors
+    ///
+    /// Only for want of memory. The relations stay as they were.
+    pub fn make_room(&mut self) -> Result<(), AllocError>
+        ensures ok { OnOk result (least_room ≤ self.new.room) }
+        ensures more { self.old.room ≤ self.new.room }
+        ensures same { SameRelations self.old self.new }
+    {
+        self.assigned.try_reserve(LEAST_ROOM)?;
+        self.granted.try_reserve(LEAST_ROOM)?;
+        Ok(())
+    }
+
+    /// How many commands can be applied before room has to be made.
+    pub fn room(&self) -> usize
+        ensures { result ≡ self.now.room }
+    {
+        pairs::spare(&self.assigned).min(pairs::spare(&self.granted))
+    }
+
+    /// Applies the next command of a node's stream. It changes the one pair that it names, where the
+    /// node is the owner of its role, and has no effect elsewhere. It takes no memory.
+    pub fn apply(&mut self, owner: NodeName, command: Command)
+        requires { 0 < self.old.room }
+        ensures applied { IsApplied owner command self.old self.new }
+        ensures room { self.old.room ≤ self.new.room + 1 }
+    {
+        if !is_owner(&self.roles, owner, role(command)) {
+            return;
+        }
+        match command {
+            Command::Assign { user, role } => pairs::put(&mut self.assigned, (user, role)),
+            Command::Deassign { user, role } => pairs::take_away(&mut self.assigned, &(user, role)),
+            Command::Grant {
+                role,
+                operation,
+                object,
+            } => { pairs::put(&mut self.granted, ((operation, object), role)) }
+            Command::Revoke {
+                role,
+                operation,
+                object,
+            } => { pairs::take_away(&mut self.granted, &((operation, object), role)) }
+        }
+    }
+
+    /// The role table.
+    pub fn roles(&self) -> &RoleTable
+        ensures { result.now ≡ self.now.table }
+    {
+        &self.roles
+    }
+
+    /// Whether the user has the role.
+    pub fn is_assigned(&self, user: u32, role: u16) -> bool
+        ensures { result ≡ assigned_in self.now user role }
+    {
+        self.assigned.contains(&(user, role))
+    }
+
+    /// Whether the role may do the operation on the object.
+    pub fn is_granted(&self, role: u16, operation: u16, object: u32) -> bool
+        ensures { result ≡ granted_in self.now operation object role }
+    {
+        self.granted.contains(&((operation, object), role))
+    }
+
+    /// The users that have the role, in ascending order.
+    ///
+    /// # Errors
+    ///
+    /// Only for want of memory.
+    pub fn assigned_users(&self, role: u16) -> Result<Vec<u32>, AllocError>
+        ensures { IfOk result (λ users.
+            IsListing nat_cmp (λ user. HasRole self.now user role) users.items) }
+    {
+        let users = select::users(self.alloc(), &self.assigned, role)?;
+        Ok(ascending(users))
+    }
+
+    /// The roles that the user has, in ascending order.
+    ///
+    /// # Errors
+    ///
+    /// Only for want of memory.
+    pub fn assigned_roles(&self, user: u32) -> Result<Vec<u16>, AllocError>
+        ensures { IfOk result (λ roles.
+            IsListing nat_cmp (λ role. HasRole self.now user role) roles.items) }
+    {
+        let roles = select::roles(self.alloc(), &self.assigned, user)?;
+        Ok(ascending(roles))
+    }
+
+    /// What the role may do, in ascending order of the operation and then of the object.
+    ///
+    /// # Errors
+    ///
+    /// Only for want of memory.
+    pub fn role_permissions(&self, role: u16) -> Result<Vec<Permission>, AllocError>
+        ensures { IfOk result (λ permissions.
+            IsListing permission_cmp (λ p. RoleMay self.now role p.0 p.1) permissions.items) }
+    {
+        let permissions = select::permissions(self.alloc(), &self.granted, &[role])?;
+        Ok(ascending(permissions))
+    }
+
+    /// What some role of the user may do, in ascending order of the operation and then of the object.
+    ///
+    /// # Errors
+    ///
+    /// Only for want of memory.
+    pub fn user_permissions(&self, user: u32) -> Result<Vec<Permission>, AllocError>
+        ensures { IfOk result (λ permissions.
+            IsListing permission_cmp (λ p. UserMay self.now user p.0 p.1) permissions.items) }
+    {
+        let roles = self.assigned_roles(user)?;
+        let permissions = select::permissions(self.alloc(), &self.granted, &roles)?;
+        Ok(ascending(permissions))
+    }
+
+    /// The operations that the role may do on the object, in ascending order.
+    ///
+    /// # Errors
+    ///
+    /// Only for want of memory.
+    pub fn role_operations(&self, role: u16, object: u32) -> Result<Vec<u16>, AllocError>
+        ensures { IfOk result (λ operations.
+            IsListing nat_cmp (λ operation. RoleMay self.now role operation object) operations.items) }
+    {
+        let operations = select::operations(self.alloc(), &self.granted, &[role], object)?;
+        Ok(ascending(operations))
+    }
+
+    /// The operations that some role of the user may do on the object, in ascending order.
+    ///
+    /// # Errors
+    ///
+    /// Only for want of memory.
+    pub fn user_operations(&self, user: u32, object: u32) -> Result<Vec<u16>, AllocError>
+        ensures { IfOk result (λ operations.
+            IsListing nat_cmp (λ operation. UserMay self.now user operation object) operations.items) }
+    {
+        let roles = self.assigned_roles(user)?;
+        let operations = select::operations(self.alloc(), &self.granted, &roles, object)?;
+        Ok(ascending(operations))
+    }
+
+    /// Where the policy's lists have their memory from.
+    fn alloc(&self) -> Global {
+        *self.assigned.allocator()
+    }
+}
