@@ -147,6 +147,9 @@ impl Instance {
         ensures delivered { IfOk result (λ taken. (takes : List Take) → self.old ≡ state sizes.now takes →
             taken.delivered ≡ newly_delivered sizes.now takes (takes ++ (record { kind = kind; from = from; command = command }) ∷ [])) }
         ensures idle { IfOk result (λ taken. taken.effect ≡ Effect.Idle → self.new ≡ self.old) }
+        ensures memory { OnErr result ((takes : List Take) (owner : ℕ) → self.old ≡ state sizes.now takes →
+            SendsAreFrom owner (takes ++ (record { kind = kind; from = from; command = command }) ∷ []) →
+            effect_of takes (record { kind = kind; from = from; command = command }) ≡ Effect.Counted) }
         ensures err { OnErr result (self.new ≡ self.old) }
     {
         if self.voted(kind, from) {

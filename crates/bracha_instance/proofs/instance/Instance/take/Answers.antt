@@ -1,4 +1,5 @@
-use Rattle.std.proofs.Common.{◌≡◌, true, false, sym, ◌∙◌}
+use Rattle.std.proofs.Common.{◌≡◌, true, false, Result, Ok, Err, sym, ◌∙◌}
+use Rattle.std.specs.Prelude.{OnErr}
 use Rattle.bracha_instance.specs.Taking.{newly, sent_for, has_voted}
 use Rattle.bracha_instance.proofs.Counting.{idle_state, counted_state, effect_at, sent_of, delivered_of, nothing_sent, nothing_delivered}
 use Rattle.bracha_instance.proofs.instance.Instance.take.Goals as goal
@@ -53,3 +54,14 @@ returns-clause-delivered c = λ takes is.
     c.newly_of.ensures
     ∙ (λ i. newly (c.delivered-delivered.ensures i) (c.delivered.ensures i))
     ∙ delivered_of c.args.sizes.now takes _ c.args.self.now c.count.new.self is (returns-clause-state c takes is)
+
+-- Memory is wanting only for a message that counts.
+
+on_err : {T E P : Type 0} (r : Result T E) → P → OnErr r P
+on_err (Ok x) p = tt
+on_err (Err e) p = p
+
+pub returns-in_err-count-clause-memory : goal.returns-in_err-count-clause-memory
+returns-in_err-count-clause-memory c = on_err c.from_residual.result (λ takes owner is all.
+    sym (effect_at c.args.sizes.now takes (record { kind = c.args.kind; from = c.args.from; command = c.args.command }) owner c.args.self.now false
+    (sym c.voted.ensures.seen ∙ c.if-voted.false) is all))
