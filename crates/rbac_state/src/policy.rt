@@ -1,4 +1,4 @@
-ghost use Rattle.std.specs.Prelude.{◌≡◌, ◌+◌, ◌<◌, ◌≤◌, IfOk, OnOk};
+ghost use Rattle.std.specs.Prelude.{◌≡◌, ℕ, Contains, IsTrue, ◌+◌, ◌<◌, ◌≤◌, IfOk, OnOk};
 ghost use Rattle.std.specs.Ordering.{nat_cmp};
 ghost use Rattle.role_commands.specs.Rules.{role_of};
 ghost use Rattle.rbac_state.specs.Policies.{permission_cmp, assigned_in, granted_in, HasRole, RoleMay, UserMay, least_room, IsBlank, SameRelations, IsApplied};
@@ -200,6 +200,18 @@ impl Policy {
     {
         let roles = self.assigned_roles(user)?;
         let permissions = select::permissions(self.alloc(), &self.granted, &roles)?;
+        Ok(ascending(permissions))
+    }
+
+    /// What some role of these may do, in ascending order of the operation and then of the object.
+    ///
+    /// # Errors
+    ///
+    /// Only for want of memory.
+    pub fn permissions_of(&self, roles: &[u16]) -> Result<Vec<Permission>, AllocError>
+        ensures { IfOk result (λ permissions. IsListing permission_cmp (λ p. (role : ℕ) × Contains roles.now role × IsTrue (granted_in self.now p.0 p.1 role)) permissions.items) }
+    {
+        let permissions = select::permissions(self.alloc(), &self.granted, roles)?;
         Ok(ascending(permissions))
     }
 
