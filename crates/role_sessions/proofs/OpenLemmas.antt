@@ -1,0 +1,107 @@
+-- The entries of an `IndexMap` of sessions are a finite map.
+use Rattle.std.proofs.Common.{◌≡◌, ℕ, ◌+◌, ◌-◌, Bool, true, false, cond, ◌==◌, if◌then◌else◌, nat_eq, List, [], ◌∷◌, length, Option, Some, None, is_some, Result, Ok, Err, OnOk, OnErr, refl, sym, ap, ◌∙◌, arith}
+use Rattle.std.specs.Cmp.{nat_cmp_total, nat_eq_equiv, unsigned_tied}
+use Rattle.std.specs.FinMap as map
+use Rattle.std.specs.FinMap.{find, get-from_entries, len-insert, len-remove, get-empty, len-empty, same_map, nat_cmp-IsAntisymmetric}
+use Rattle.std.specs.Map.{lookup, set_value}
+use Rattle.std.proofs.lemmas.Map.Steps.{set_value_same}
+use Rattle.std.specs.Option.{option_map_or}
+use Rattle.std.specs.Ordering.{nat_cmp, eq_by_cmp}
+use Rattle.role_sessions.specs.Sessions.{Session}
+use Rattle.role_sessions.specs.Changes.{changed_at}
+use Rattle.role_sessions.proofs.StateLemmas.{get-inserted, get-removed}
+
+abbrev Entries : Type 0
+Entries = List (ℕ × Session)
+
+-- the finite map of the entries
+abbrev pub map_of : Entries → map.FinMap nat_cmp Session
+map_of es = map.from_entries es
+
+-- as many entries as keys
+abbrev pub IsLong : Entries → Type 0
+IsLong es = map.len (map_of es) ≡ length es
+
+-- the new entries have this at the key, and the old ones' elsewhere
+abbrev pub Gives : ℕ → Option Session → Entries → Entries → Type 0
+Gives id w old new = (q : ℕ) → lookup (nat_eq q) new ≡ cond (nat_eq id q) w (lookup (nat_eq q) old)
+
+find-lookup : (q : ℕ) (es : Entries) → find nat_cmp q es ≡ lookup (nat_eq q) es
+find-lookup q [] = refl
+find-lookup q (e ∷ es) = λ i. cond (unsigned_tied q e.0 i) (Some e.1) (find-lookup q es i)
+
+pub get-map_of : (es : Entries) (q : ℕ) → map.get (map_of es) q ≡ lookup (nat_eq q) es
+get-map_of es q = get-from_entries nat_cmp_total es q ∙ find-lookup q es
+
+given : (old new : Entries) (id : ℕ) (w : Option Session) → Gives id w old new → (q : ℕ) → map.get (map_of new) q ≡ (if q == id then w else map.get (map_of old) q)
+given old new id w gives q =
+    get-map_of new q ∙ gives q ∙ (λ i. if nat_eq_equiv.symm id q i then w else sym (get-map_of old q) i)
+
+pub map_of-insert : (old new : Entries) (id : ℕ) (session : Session) → Gives id (Some session) old new → map_of new ≡ map.insert (map_of old) id session
+map_of-insert old new id session gives =
+    same_map nat_cmp_total nat_cmp-IsAntisymmetric _ _ (λ q. given old new id (Some session) gives q ∙ sym (get-inserted (map_of old) id session q))
+
+pub map_of-remove : (old new : Entries) (id : ℕ) → Gives id None old new → map_of new ≡ map.remove (map_of old) id
+map_of-remove old new id gives =
+    same_map nat_cmp_total nat_cmp-IsAntisymmetric _ _ (λ q. given old new id None gives q ∙ sym (get-removed (map_of old) id q))
+
+pub IsLong-none : IsLong []
+IsLong-none = len-empty nat_cmp Session
+
+pub IsLong-insert : (old new : Entries) (id : ℕ) (session : Session) → IsLong old → Gives id (Some session) old new →
+    length new ≡ length old + (if is_some (lookup (nat_eq id) old) then 0 else 1) → IsLong new
+IsLong-insert old new id session long gives len =
+    ap map.len (map_of-insert old new id session gives) ∙ len-insert nat_cmp_total (map_of old) id session
+    ∙ by (map.contains_key (map_of old) id) (ap is_some (get-map_of old id)) ∙ sym len
+  where
+    by : (b : Bool) → b ≡ is_some (lookup (nat_eq id) old) →
+        cond b (map.len (map_of old)) (map.len (map_of old) + 1) ≡ length old + (if is_some (lookup (nat_eq id) old) then 0 else 1)
+    by true e = rw (← e) (omega (arith, long))
+    by false e = rw (← e) (omega (arith, long))
+
+pub IsLong-remove : (old new : Entries) (id : ℕ) → IsLong old → Gives id None old new →
+    length new + (if is_some (lookup (nat_eq id) old) then 1 else 0) ≡ length old → IsLong new
+IsLong-remove old new id long gives len =
+    ap map.len (map_of-remove old new id gives) ∙ len-remove nat_cmp_total (map_of old) id
+    ∙ by (map.contains_key (map_of old) id) (ap is_some (get-map_of old id)) len
+  where
+    by : (b : Bool) → b ≡ is_some (lookup (nat_eq id) old) → length new + (if is_some (lookup (nat_eq id) old) then 1 else 0) ≡ length old →
+        cond b (map.len (map_of old) - 1) (map.len (map_of old)) ≡ length new
+    by true e len = let more : length new + 1 ≡ length old = rw (← e) at len in omega (arith, long)
+    by false e len = let same : length new + 0 ≡ length old = rw (← e) at len in omega (arith, long)
+
+-- the session at the id is written anew
+module _ (old new : Entries) (id : ℕ) (session written : Session) (here : Some session ≡ lookup (nat_eq id) old) (gives : Gives id (Some written) old new) where
+  pub IsLong-written : IsLong old → length new ≡ length old → IsLong new
+  IsLong-written long len =
+      let there : is_some (lookup (nat_eq id) old) ≡ true = ap is_some (sym here) in
+      IsLong-insert old new id written long gives (rw there (omega (arith, len)))
+
+  pub map_of-written : (m : map.FinMap nat_cmp Session) (change : Session → Session) → map_of old ≡ m → written ≡ change session → map_of new ≡ changed_at m id change
+  map_of-written m change view is =
+      let found : map.get m id ≡ Some session = ap (λ n. map.get n id) (sym view) ∙ get-map_of old id ∙ sym here in
+      map_of-insert old new id written gives
+      ∙ (λ i. map.insert (view i) id (is i))
+      ∙ ap (λ o. option_map_or (λ s. map.insert m id (change s)) o m) (sym found)
+
+-- what stood there, written anew, changes nothing
+pub map_of-same : (old new : Entries) (id : ℕ) (session written : Session) → Some session ≡ lookup (nat_eq id) old → new ≡ set_value (nat_eq id) old written → written ≡ session →
+    map_of new ≡ map_of old
+map_of-same old new id session written here is same =
+    ap map_of (is ∙ ap (set_value (nat_eq id) old) same ∙ set_value_same (nat_eq id) old session (sym here))
+
+-- no session has the id
+pub map_of-absent : (old new : Entries) (id : ℕ) (m : map.FinMap nat_cmp Session) (change : Session → Session) → None ≡ lookup (nat_eq id) old → new ≡ old → map_of old ≡ m →
+    map_of new ≡ changed_at m id change
+map_of-absent old new id m change absent is view =
+    let missing : map.get m id ≡ None = ap (λ n. map.get n id) (sym view) ∙ get-map_of old id ∙ sym absent in
+    ap map_of is ∙ view ∙ ap (λ o. option_map_or (λ s. map.insert m id (change s)) o m) (sym missing)
+
+-- what a result says, further on
+pub then_on_ok : {X E P Q : Type 0} (r : Result X E) → (P → Q) → OnOk r P → OnOk r Q
+then_on_ok (Ok x) f p = f p
+then_on_ok (Err e) f p = tt
+
+pub then_on_err : {X E P Q : Type 0} (r : Result X E) → (P → Q) → OnErr r P → OnErr r Q
+then_on_err (Ok x) f p = tt
+then_on_err (Err e) f p = f p

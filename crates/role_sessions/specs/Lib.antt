@@ -1,0 +1,6 @@
+pub mod Sessions
+pub mod Decisions
+pub mod Changes
+pub mod Refusals
+pub mod Kept
+pub mod Laws
