@@ -57,7 +57,8 @@ impl Session {
         user: u32,
         role: u16,
     ) -> Result<(), SessionFault>
-        ensures { AnswersExactly (activate_in policy.now.table (relations_of policy.now) (Some self.now) user role) result }
+        ensures { let due = activate_in policy.now.table (relations_of policy.now) (Some self.now) user role in
+            AnswersExactly due result }
     {
         if self.user != user {
             return Err(SessionFault::NotYours);
@@ -150,7 +151,8 @@ impl Session {
 
     /// The first active role that counts and has the permission.
     fn granting(&self, policy: &Policy, operation: u16, object: u32) -> Option<u16>
-        ensures { let relations = relations_of policy.now in result ≡ find (λ role. relations.assigned self.now.user role && relations.granted operation object role) self.now.active }
+        ensures { let relations = relations_of policy.now in
+            result ≡ find (λ role. relations.assigned self.now.user role && relations.granted operation object role) self.now.active }
     {
         self.active.iter().copied().find(|role| {
             policy.is_assigned(self.user, *role) && policy.is_granted(*role, operation, object)
@@ -170,7 +172,8 @@ impl Session {
 
     /// What some role that counts may do, in ascending order.
     pub(crate) fn permissions(&self, policy: &Policy) -> Result<Vec<Permission>, AllocError>
-        ensures { IfOk result (λ permissions. IsListing permission_cmp (λ p. SessionMay (relations_of policy.now) self.now p.0 p.1) permissions.items) }
+        ensures { IfOk result (λ permissions.
+            IsListing permission_cmp (λ p. SessionMay (relations_of policy.now) self.now p.0 p.1) permissions.items) }
     {
         let counted = self.counted(policy)?;
         policy.permissions_of(&counted)

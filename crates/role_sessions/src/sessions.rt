@@ -114,7 +114,8 @@ impl Sessions {
         user: u32,
         role: u16,
     ) -> Result<(), SessionFault>
-        ensures { AnswersExactly (activate_due policy.now.table (relations_of policy.now) self.now.state session user role) result }
+        ensures { let due = activate_due policy.now.table (relations_of policy.now) self.now.state session user role in
+            AnswersExactly due result }
     {
         match self.open_sessions.get(session) {
             Some(found) => found.may_activate(policy, user, role),
@@ -136,7 +137,8 @@ impl Sessions {
         user: u32,
         role: u16,
     ) -> Result<(), SessionFault>
-        ensures due { AnswersDue (activate_due policy.now.table (relations_of policy.now) self.old.state session user role) result }
+        ensures due { let due = activate_due policy.now.table (relations_of policy.now) self.old.state session user role in
+            AnswersDue due result }
         ensures ok { OnOk result (Happened (Activate session user role) self.old.state self.new.state) }
         ensures err { OnErr result (self.new ≡ self.old) }
         ensures kept { KeepsRight self.old self.new }
@@ -223,7 +225,8 @@ impl Sessions {
         object: u32,
     ) -> Verdict
         requires { KeptAreRight (relations_of policy.now) self.old }
-        ensures verdict { result ≡ verdict (relations_of policy.now) (map.get self.old.state.open_sessions session) user operation object }
+        ensures verdict { let found = map.get self.old.state.open_sessions session in
+            result ≡ verdict (relations_of policy.now) found user operation object }
         ensures state { self.new.state ≡ self.old.state }
         ensures kept { KeptAreRight (relations_of policy.now) self.new }
     {
@@ -240,7 +243,8 @@ impl Sessions {
     /// The session isn't open; then want of memory.
     pub fn session_roles(&self, policy: &Policy, session: u64) -> Result<Vec<u16>, SessionFault>
         ensures due { AnswersDue (listing_due self.now.state session) result }
-        ensures roles { IfOk result (λ roles. IsSomeAnd (map.get self.now.state.open_sessions session) (λ found. roles.items ≡ counted_roles (relations_of policy.now) found)) }
+        ensures roles { IfOk result (λ roles. IsSomeAnd (map.get self.now.state.open_sessions session) (λ found.
+            roles.items ≡ counted_roles (relations_of policy.now) found)) }
     {
         let Some(found) = self.open_sessions.get(session) else {
             return Err(SessionFault::NoSession);
@@ -263,7 +267,8 @@ impl Sessions {
         session: u64,
     ) -> Result<Vec<Permission>, SessionFault>
         ensures due { AnswersDue (listing_due self.now.state session) result }
-        ensures permissions { IfOk result (λ permissions. IsSomeAnd (map.get self.now.state.open_sessions session) (λ found. IsListing permission_cmp (λ p. SessionMay (relations_of policy.now) found p.0 p.1) permissions.items)) }
+        ensures permissions { IfOk result (λ permissions. IsSomeAnd (map.get self.now.state.open_sessions session) (λ found.
+            IsListing permission_cmp (λ p. SessionMay (relations_of policy.now) found p.0 p.1) permissions.items)) }
     {
         let Some(found) = self.open_sessions.get(session) else {
             return Err(SessionFault::NoSession);
