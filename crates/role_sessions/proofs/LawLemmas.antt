@@ -1,26 +1,21 @@
 -- The laws of the decision and of the sessions.
-use Rattle.std.proofs.Common.{◌≡◌, ◌≢◌, ℕ, zero, suc, ◌+◌, ◌≤◌, ◌<◌, Bool, true, false, cond, not, ◌&&◌, ◌==◌, if◌then◌else◌, ◌⊎◌, List, [], ◌∷◌, ◌++◌, filter, find, length, Option, Some, None, unwrap_or, IfSome, IsSomeAnd, Contains, IsTrue, All, refl, sym, ap, subst, ◌∙◌, inl, inr, eq-eqb, eqb-true, append_assoc, append-nil, arith}
+use Rattle.std.proofs.Common.{◌≡◌, ℕ, zero, suc, ◌+◌, ◌≤◌, ◌<◌, Bool, true, false, cond, not, ◌&&◌, ◌==◌, if◌then◌else◌, ◌⊎◌, List, [], ◌∷◌, ◌++◌, filter, find, length, Option, Some, None, unwrap_or, Contains, refl, sym, ap, subst, ◌∙◌, inl, inr, eq-eqb, eqb-true, append_assoc, append-nil, arith}
 use Rattle.std.proofs.lemmas.Bool.{cases_lt, true≢false}
-use Rattle.std.proofs.lemmas.Bool.Decides.{eqb_tells, nat_tests}
+use Rattle.std.proofs.lemmas.Bool.Decides.{nat_tests}
 use Rattle.std.proofs.lemmas.List.Elements.{All-contains, All-contains_itself, All-filter, filter_agree, filter_passes, Contains-get_or, Contains-append_right, Contains-append_cases, Contains-push_cases}
 use Rattle.std.proofs.lemmas.List.Sums.{count_by-le-length}
 use Rattle.std.specs.FinSet as set
 use Rattle.std.specs.Option.{option_map}
-use Rattle.role_commands.specs.Rules.{role_of}
-use Rattle.role_commands.specs.declared.command.Command.{Command}
-use Rattle.role_commands.specs.declared.command.Command.TheVariants.{Assign, Deassign}
-use Rattle.rbac_state.specs.Assignments.{owns, said_by}
-use Rattle.rbac_state.specs.Policies.{PolicyValue, assigned_in, granted_in, SameRelations, IsApplied}
-use Rattle.rbac_state.specs.Says.{says_of_user}
+use Rattle.rbac_state.specs.Assignments.{owns}
+use Rattle.rbac_state.specs.Policies.{assigned_in}
 use Rattle.role_sessions.specs.declared.event.ClientEvent.{ClientEvent}
 use Rattle.role_sessions.specs.declared.event.ClientEvent.TheVariants.{Open, Activate, DropRole, Close}
 use Rattle.role_sessions.specs.declared.verdict.Rule.{Rule}
-use Rattle.role_sessions.specs.declared.verdict.Rule.TheVariants.{NoSession, NotYours, NoActiveRole, NoneAssigned, NotPermitted}
-use Rattle.role_sessions.specs.declared.verdict.Verdict.{Verdict}
+use Rattle.role_sessions.specs.declared.verdict.Rule.TheVariants.{NotYours, NoActiveRole, NoneAssigned}
 use Rattle.role_sessions.specs.declared.verdict.Verdict.TheVariants.{Allow, Deny}
 use Rattle.role_sessions.specs.Sessions.{Session, opened_count, is_opening, session_in}
-use Rattle.role_sessions.specs.Decisions.{Relations, relations_of, counted_roles, allowed, verdict}
-use Rattle.role_sessions.specs.Laws.{Permits, AllowedInARole, DeniedForWantOfARole, CountedAreAssigned, DeassignedCountsNoMore, ReassignedCountsAgain, RelationsStay, StateCountsTheOpened, IdsAreGivenInOrder, ClosedStayClosed}
+use Rattle.role_sessions.specs.Decisions.{relations_of, counted_roles, allowed}
+use Rattle.role_sessions.specs.Laws.{AllowedInARole, DeniedForWantOfARole, CountedAreAssigned, DeassignedCountsNoMore, ReassignedCountsAgain, RelationsStay, StateCountsTheOpened, IdsAreGivenInOrder, ClosedStayClosed}
 use Rattle.role_sessions.proofs.StateLemmas.{opened-state_of}
 use Rattle.role_sessions.proofs.EventLemmas.{opened_count-push, session_in-opened, session_in-closed, session_in-activated, session_in-dropped, session_in-beyond, session_in-zero}
 

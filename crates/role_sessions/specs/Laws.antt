@@ -1,7 +1,6 @@
 -- What the decision and the sessions mean, beyond what one call does.
-use Rattle.std.specs.Prelude.{◌≡◌, ◌≢◌, ℕ, ◌≤◌, ◌<◌, Bool, true, List, [], ◌∷◌, ◌++◌, length, Option, Some, None, IfSome, IsSomeAnd, Contains, IsTrue}
+use Rattle.std.specs.Prelude.{◌≡◌, ◌≢◌, ℕ, ◌≤◌, List, ◌++◌, length, Option, None, IfSome, IsSomeAnd, Contains, IsTrue}
 use Rattle.std.specs.FinMap as map
-use Rattle.role_commands.specs.declared.command.Command.{Command}
 use Rattle.role_commands.specs.declared.command.Command.TheVariants.{Assign, Deassign}
 use Rattle.rbac_state.specs.Assignments.{owns}
 use Rattle.rbac_state.specs.Policies.{PolicyValue, assigned_in, SameRelations, IsApplied}

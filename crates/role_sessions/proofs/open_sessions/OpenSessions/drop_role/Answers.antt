@@ -1,4 +1,4 @@
-use Rattle.std.proofs.Common.{ap, ◌∙◌, rules}
+use Rattle.std.proofs.Common.{ap, rules}
 use Rattle.role_sessions.specs.Changes.{without_role}
 use Rattle.role_sessions.proofs.OpenLemmas.{IsLong-written, map_of-written, map_of-absent}
 use Rattle.role_sessions.proofs.open_sessions.OpenSessions.drop_role.Goals as goal

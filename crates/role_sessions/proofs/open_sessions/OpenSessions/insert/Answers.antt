@@ -1,4 +1,4 @@
-use Rattle.std.proofs.Common.{sym, ap, ◌∙◌, ◌+◌, length, is_some, if◌then◌else◌}
+use Rattle.std.proofs.Common.{ap, ◌∙◌, ◌+◌, length, is_some, if◌then◌else◌}
 use Rattle.std.specs.FinMap as map
 use Rattle.role_sessions.proofs.OpenLemmas.{map_of-insert, IsLong-insert}
 use Rattle.role_sessions.proofs.open_sessions.OpenSessions.insert.Goals as goal

@@ -1,4 +1,4 @@
-use Rattle.std.proofs.Common.{sym, ap, ◌∙◌, ◌+◌, length, is_some, if◌then◌else◌, subst, ◌≡◌}
+use Rattle.std.proofs.Common.{sym, ap, ◌∙◌, ◌+◌, length, is_some, if◌then◌else◌}
 use Rattle.std.specs.FinMap as map
 use Rattle.role_sessions.proofs.OpenLemmas.{map_of-remove, IsLong-remove}
 use Rattle.role_sessions.proofs.open_sessions.OpenSessions.remove.Goals as goal
