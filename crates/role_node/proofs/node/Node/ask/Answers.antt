@@ -1,0 +1,9 @@
+use Rattle.role_node.specs.Kept.{events}
+use Rattle.role_node.proofs.Relations.{answered_after}
+use Rattle.role_node.proofs.node.Node.ask.Goals as goal
+
+pub returns-clause-answer : goal.returns-clause-answer
+returns-clause-answer c =
+    let a = c.self.inside in
+    rw (← c.self.view_is)
+    (answered_after a.config.roles (events a.entries.items) a.state c.args.question c.ask.result c.self.invariant.state c.ask.ensures.answer)

@@ -1,0 +1,5 @@
+use Rattle.role_node.proofs.Relations.{legal_inside}
+use Rattle.role_node.proofs.node.Node.history.Goals as goal
+
+pub returns-clause-legal : goal.returns-clause-legal
+returns-clause-legal c = legal_inside c.self.inside c.args.self.now c.self.invariant c.self.view_is

@@ -1,0 +1,9 @@
+pub mod Configs
+pub mod Faults
+pub mod Histories
+pub mod Access
+pub mod Answers
+pub mod Nodes
+pub mod Kept
+pub mod Questions
+pub mod Inside

@@ -1,0 +1,69 @@
+ghost use Rattle.std.specs.Prelude.{◌≡◌};
+
+use link_frames::{Message, Packet};
+use role_commands::Command;
+use role_sessions::ClientEvent;
+
+/// What happens at a node.
+#[derive(Clone, Copy, Debug, PartialEq, Eq, Hash)]
+pub enum Event {
+    /// The node publishes a command in its own stream.
+    Issue(Command),
+    /// The node takes a packet from a link.
+    Take(Packet),
+    /// A client acts.
+    Client(ClientEvent),
+}
+
+/// What a node answers to an event.
+#[derive(Clone, Copy, Debug, PartialEq, Eq, Hash)]
+pub enum Reply {
+    /// The packet repeats a message that was taken before. It is not recorded.
+    Idle,
+    /// The command has its place: the node sends this SEND to all nodes.
+    Issued(Message),
+    /// The packet counted.
+    Counted {
+        /// What the node sends to all nodes now: an ECHO or a READY.
+        send: Option<Message>,
+        /// What is delivered now at the packet's place.
+        delivered: Option<Command>,
+        /// The first place that is new in the owner's stream.
+        from: u32,
+        /// The end of the places that are new there. Where none is new it is `from`.
+        to: u32,
+    },
+    /// A session is open, with this id.
+    Session(u64),
+    /// The client's act is done.
+    Done,
+}
+
+/// An event that a node recorded, and its reply.
+#[derive(Clone, Copy, Debug, PartialEq, Eq, Hash)]
+pub struct Entry {
+    pub event: Event,
+    pub reply: Reply,
+}
+
+impl Entry {
+    pub(crate) fn new(event: &Event, reply: &Reply) -> Self
+        ensures { result ≡ record { event = event.now; reply = reply.now } }
+    {
+        Entry {
+            event: *event,
+            reply: *reply,
+        }
+    }
+}
+
+/// What a node has sent to all at a place of an owner's stream, and may send again.
+#[derive(Clone, Copy, Debug, PartialEq, Eq, Hash)]
+pub struct NodeAgain {
+    /// The command of its own SEND.
+    pub send: Option<Command>,
+    /// The command of its ECHO.
+    pub echo: Option<Command>,
+    /// The command of its READY.
+    pub ready: Option<Command>,
+}

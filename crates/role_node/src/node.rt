@@ -1,0 +1,178 @@
+ghost use Rattle.std.specs.Prelude.{◌≡◌, ◌<◌, map, slice_get, IfOk, IfErr, OnErr, Ok};
+ghost use Rattle.bracha_instance.specs.declared.instance.Effect.TheVariants.{Counted};
+ghost use Rattle.role_node.specs.Access.{stream_at, reach_at, sessions_at, verdict_at, sent_at};
+ghost use Rattle.role_node.specs.Questions.{ask_due, IsAsked, IsAnswerTo};
+ghost use Rattle.role_node.specs.Answers.{outlook, reply_to, is_recorded, IsAnswer};
+ghost use Rattle.role_node.specs.Nodes.{new_node, due_at, with_event, after_reply, IsLegalNode, AreRepliesOf};
+ghost use Rattle.role_node.specs.Kept.{event_of};
+ghost use Rattle.role_node.specs.declared.faults.NodeFault.TheVariants.{Memory};
+
+use crate::config::Config;
+use crate::event::{Entry, Event, NodeAgain, Reply};
+use crate::faults::{AskFault, NodeFault};
+use crate::question::{Answer, Question};
+use crate::state::State;
+use bracha_instance::Effect;
+use link_frames::Place;
+use quorum_sizes::NodeName;
+use role_commands::Command;
+use role_sessions::Verdict;
+use std::alloc::{AllocError, Global};
+use std::marker::Model;
+
+/// A node of the cluster. Contracts see it as its configuration, its own name, and its history: the list of the
+/// events that it recorded. All that it answers follows from these.
+#[derive(Drop)]
+pub struct Node {
+    config: Config,
+    me: NodeName,
+    entries: Vec<Entry>,
+    state: State,
+}
+
+impl Model for Node {
+    ghost use Rattle.role_node.specs.Nodes.{NodeValue, node_code};
+
+    ghost Value = { NodeValue };
+
+    ghost coded = { node_code };
+
+    ghost use Rattle.role_node.specs.Inside.{node_value, IsNode};
+
+    ghost view = { node_value };
+
+    ghost invariant = { IsNode };
+}
+
+impl Node {
+    /// A node of this configuration that has recorded nothing. `me` must be a node of its sizes.
+    ///
+    /// # Errors
+    ///
+    /// Only for want of memory.
+    pub fn new(alloc: Global, config: Config, me: NodeName) -> Result<Node, AllocError>
+        requires { me < config.roles.sizes.nodes }
+        ensures { IfOk result (λ node. node ≡ new_node config me) }
+    {
+        let state = State::new(alloc, config.roles().copy(alloc)?)?;
+        Ok(Node {
+            config,
+            me,
+            entries: Vec::new(alloc),
+            state,
+        })
+    }
+
+    /// Answers an event, and records it unless it is refused or idle.
+    ///
+    /// # Errors
+    ///
+    /// The first refusal of its kind that holds; then want of memory. The node stays as it was.
+    pub fn apply(&mut self, event: Event) -> Result<Reply, NodeFault>
+        ensures due { IsAnswer (due_at self.old event) result }
+        ensures ok { IfOk result (λ reply. self.new ≡ after_reply self.old event reply) }
+        ensures err { OnErr result (self.new ≡ self.old) }
+        ensures config { self.new.config ≡ self.old.config }
+        ensures me { self.new.me ≡ self.old.me }
+        ensures legal { IsLegalNode self.new }
+    {
+        match self.look(&event)? {
+            Effect::Idle => Ok(Reply::Idle),
+            Effect::Counted => self.record(event),
+        }
+    }
+
+    /// Whether [`apply`](Self::apply) would record the event, want of memory apart. It takes no memory.
+    pub fn records(&self, event: &Event) -> bool
+        ensures { result ≡ is_recorded (due_at self.now event.now) }
+    {
+        matches!(self.look(event), Ok(Effect::Counted))
+    }
+
+    /// The first refusal of the event, or whether it counts.
+    fn look(&self, event: &Event) -> Result<Effect, NodeFault>
+        ensures due { result ≡ outlook self.now.config self.now.me self.now.history event.now }
+        ensures legal { IsLegalNode self.now }
+    {
+        match self.state.look(self.me, event) {
+            Ok(Effect::Counted) if self.entries.len() >= self.config.limit() as usize => {
+                Err(NodeFault::Full)
+            }
+            outlook => outlook,
+        }
+    }
+
+    /// Records an event that counts.
+    fn record(&mut self, event: Event) -> Result<Reply, NodeFault>
+        requires { outlook self.old.config self.old.me self.old.history event ≡ Ok Counted }
+        ensures reply { IfOk result (λ reply. reply ≡ reply_to self.old.config.roles self.old.me self.old.history event) }
+        ensures ok { IfOk result (λ reply. self.new ≡ with_event self.old event) }
+        ensures err { OnErr result (self.new ≡ self.old) }
+        ensures memory { IfErr result (λ fault. fault ≡ Memory) }
+        ensures config { self.new.config ≡ self.old.config }
+        ensures me { self.new.me ≡ self.old.me }
+        ensures legal { IsLegalNode self.new }
+    {
+        self.entries.try_reserve(1)?;
+        let reply = self.state.answer(self.me, &event)?;
+        let _ = self.entries.push(Entry::new(&event, &reply));
+        Ok(reply)
+    }
+
+    /// The decision on an access: the first denial that holds, and where none does the first role, in the order of
+    /// activation, that counts and has the permission. It takes no memory and records nothing.
+    pub fn check(&mut self, session: u64, user: u32, operation: u16, object: u32) -> Verdict
+        ensures verdict { result ≡ verdict_at self.old.config.roles self.old.history session user operation object }
+        ensures same { self.new ≡ self.old }
+    {
+        self.state.check(session, user, operation, object)
+    }
+
+    /// The answer to a question: a decision, or a review of the node's relations and sessions. A decision takes no
+    /// memory. Nothing is recorded.
+    ///
+    /// # Errors
+    ///
+    /// A session is to be listed that is not open; then, for a listing alone, want of memory.
+    pub fn ask(&mut self, question: Question) -> Result<Answer, AskFault>
+        ensures due { IsAsked (ask_due (sessions_at self.old.history) question) question result }
+        ensures answer { IfOk result (IsAnswerTo self.old.config.roles self.old.history question) }
+        ensures same { self.new ≡ self.old }
+    {
+        self.state.ask(question)
+    }
+
+    /// The events that were recorded, oldest first, each with its reply.
+    pub fn history(&self) -> &[Entry]
+        ensures events { map event_of result.now ≡ self.now.history }
+        ensures replies { AreRepliesOf self.now result.now }
+        ensures legal { IsLegalNode self.now }
+    {
+        self.entries.as_slice()
+    }
+
+    /// How far the owner's stream reaches here. The owner must be of the node's sizes.
+    pub fn reach(&self, owner: NodeName) -> u32
+        requires { owner < self.now.config.roles.sizes.nodes }
+        ensures { result ≡ reach_at self.now.config.roles.sizes self.now.history owner }
+    {
+        self.state.streams.reach(owner)
+    }
+
+    /// The command at a place of the owner's stream, if the stream reaches beyond it here. The owner must be of the
+    /// node's sizes.
+    pub fn command(&self, owner: NodeName, place: Place) -> Option<Command>
+        requires { owner < self.now.config.roles.sizes.nodes }
+        ensures { result ≡ slice_get (stream_at self.now.config.roles.sizes self.now.history owner) place }
+    {
+        self.state.streams.command(owner, place)
+    }
+
+    /// What this node has sent to all at a place of the owner's stream. The owner must be of the node's sizes.
+    pub fn again(&self, owner: NodeName, place: Place) -> NodeAgain
+        requires { owner < self.now.config.roles.sizes.nodes }
+        ensures { result ≡ sent_at self.now.config.roles.sizes self.now.me self.now.history owner place }
+    {
+        self.state.again(self.me, owner, place)
+    }
+}
