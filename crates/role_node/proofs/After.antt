@@ -1,6 +1,6 @@
 -- The state after one more event.
-use Rattle.std.proofs.Common.{◌≡◌, ℕ, ◌+◌, ◌≤◌, Bool, true, false, cond, List, [], ◌∷◌, ◌++◌, Option, Some, None, Result, Ok, Err, refl, sym, ap, ◌∙◌, subst, le_refl, arith}
-use Rattle.std.specs.Prelude.{if◌then◌else◌, nat_le, All, OnErr}
+use Rattle.std.proofs.Common.{◌≡◌, ℕ, ◌+◌, ◌≤◌, Bool, true, false, List, [], ◌∷◌, ◌++◌, Result, Ok, Err, refl, sym, ap, ◌∙◌, subst, le_refl, arith}
+use Rattle.std.specs.Prelude.{if◌then◌else◌, nat_le, OnErr}
 use Rattle.std.specs.FinSet as set
 use Rattle.std.proofs.lemmas.List.Elements.{All-nil, All-push}
 use Rattle.quorum_sizes.specs.Sizes.{Counts}
@@ -10,8 +10,8 @@ use Rattle.link_frames.specs.Packets.{PacketValue, SentByOwner}
 use Rattle.bracha_instance.specs.declared.instance.Effect.{Effect}
 use Rattle.bracha_instance.specs.declared.instance.Effect.TheVariants as effect
 use Rattle.owner_streams.specs.Places.{stream, reach, places_end, answers_from}
-use Rattle.owner_streams.specs.Steps.{SendsAreOwners, step_of, step_due, effect_due, IsAnswer}
-use Rattle.owner_streams.specs.Values.{StreamsValue, IsStateOf}
+use Rattle.owner_streams.specs.Steps.{step_of, step_due, effect_due, IsAnswer}
+use Rattle.owner_streams.specs.Values.{IsStateOf}
 use Rattle.owner_streams.specs.declared.steps.StreamStep.{StreamStep}
 use Rattle.owner_streams.specs.declared.steps.StreamFault.{StreamFault}
 use Rattle.owner_streams.specs.declared.steps.StreamFault.TheVariants as stream_fault

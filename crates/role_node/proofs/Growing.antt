@@ -1,5 +1,5 @@
 -- How the streams grow when one more packet is taken, and the policy with them.
-use Rattle.std.proofs.Common.{◌≡◌, ℕ, zero, suc, ◌+◌, ◌<◌, ◌≤◌, Bool, true, false, cond, ◌&&◌, ◌==◌, List, [], ◌∷◌, ◌++◌, length, take, Option, Some, None, refl, sym, ap, ◌∙◌, subst, append-nil, arith}
+use Rattle.std.proofs.Common.{◌≡◌, ℕ, zero, suc, ◌+◌, ◌≤◌, Bool, true, false, ◌&&◌, ◌==◌, List, [], ◌∷◌, ◌++◌, length, take, Some, None, refl, sym, ap, ◌∙◌, subst, arith}
 use Rattle.std.specs.Prelude.{if◌then◌else◌, slice_get}
 use Rattle.std.proofs.Math.Seq.{take-append_seam}
 use Rattle.std.proofs.lemmas.List.{take_all}
@@ -9,7 +9,7 @@ use Rattle.quorum_sizes.specs.Sizes.{Counts}
 use Rattle.role_commands.specs.declared.command.Command.{Command}
 use Rattle.link_frames.specs.Packets.{PacketValue}
 use Rattle.bracha_instance.specs.Broadcast.{delivered}
-use Rattle.owner_streams.specs.Places.{takes_at, stream, reach}
+use Rattle.owner_streams.specs.Places.{stream, reach}
 use Rattle.owner_streams.proofs.Taken.{takes_at-other}
 use Rattle.owner_streams.proofs.StreamLaws.{stream_is_exact_lem, stream_is_one_lem, stream_grows_lem}
 use Rattle.rbac_state.specs.Says.{says_of_user, says_of_permission}

@@ -5,3 +5,4 @@ pub mod Entries
 pub mod Relations
 pub mod Refused
 pub mod Recording
+pub mod ListedLemmas

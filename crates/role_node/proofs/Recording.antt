@@ -1,21 +1,20 @@
 -- What a node's fields keep when an event is recorded, and when none is.
-use Rattle.std.proofs.Common.{◌≡◌, ℕ, ◌+◌, ◌<◌, ◌≤◌, Bool, true, false, cond, ◌&&◌, ◌==◌, List, [], ◌∷◌, ◌++◌, length, Option, Some, None, Result, Ok, Err, refl, sym, ap, ◌∙◌, subst, arith, length-append}
-use Rattle.std.specs.Prelude.{if◌then◌else◌, nat_le, nat_lt, not, count_by}
+use Rattle.std.proofs.Common.{◌≡◌, ℕ, ◌<◌, ◌≤◌, Bool, true, false, ◌&&◌, ◌==◌, List, [], ◌∷◌, ◌++◌, length, Some, None, Result, Ok, Err, refl, sym, ap, subst, arith, length-append}
+use Rattle.std.specs.Prelude.{if◌then◌else◌, nat_le, nat_lt}
 use Rattle.std.proofs.lemmas.Bool.Decides.{nat_tests}
 use Rattle.std.proofs.lemmas.List.Sums.{count_by-le-length}
 use Rattle.role_commands.specs.Tables.{Table}
-use Rattle.link_frames.specs.Packets.{PacketValue}
 use Rattle.bracha_instance.specs.declared.instance.Effect.{Effect}
 use Rattle.bracha_instance.specs.declared.instance.Effect.TheVariants as effect
 use Rattle.owner_streams.specs.Places.{place_count}
 use Rattle.role_sessions.specs.Sessions.{is_opening, opened_count, state_of}
 use Rattle.role_sessions.specs.declared.event.ClientEvent.{ClientEvent}
 use Rattle.role_node.specs.Configs.{most_events}
-use Rattle.role_node.specs.Histories.{issued, packets, client_events}
+use Rattle.role_node.specs.Histories.{issued, client_events}
 use Rattle.role_node.specs.Answers.{outlook, outlook_with_room, or_counted, is_routed, reply_to}
 use Rattle.role_node.specs.Inside.{IsNode, node_value}
 use Rattle.role_node.specs.Nodes.{NodeValue}
-use Rattle.role_node.specs.Kept.{IsStateAfter, Stays, Follows, RepliesTo, IsInRange, AreEntries, events}
+use Rattle.role_node.specs.Kept.{IsStateAfter, Stays, Follows, RepliesTo, IsInRange, events}
 use Rattle.role_node.specs.declared.event.Entry.{Entry}
 use Rattle.role_node.specs.declared.event.Event.{Event}
 use Rattle.role_node.specs.declared.event.Event.TheVariants.{Issue, Take, Client}

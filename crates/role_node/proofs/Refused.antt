@@ -1,6 +1,6 @@
 -- Want of memory is no refusal that is due.
-use Rattle.std.proofs.Common.{◌≡◌, ℕ, Bool, true, false, cond, List, length, Option, Some, None, Result, Ok, Err, refl, sym, ap, ◌∙◌, subst}
-use Rattle.std.specs.Prelude.{if◌then◌else◌, nat_le, not, option_map, IsTrue}
+use Rattle.std.proofs.Common.{◌≡◌, ℕ, Bool, true, false, List, length, Option, Some, None, Result, Ok, Err, refl, ap, ◌∙◌}
+use Rattle.std.specs.Prelude.{if◌then◌else◌, nat_le, option_map}
 use Rattle.std.specs.FinMap as map
 use Rattle.role_commands.specs.Tables.{Table}
 use Rattle.link_frames.specs.Packets.{PacketValue}
@@ -8,11 +8,10 @@ use Rattle.bracha_instance.specs.declared.instance.Effect.{Effect}
 use Rattle.bracha_instance.specs.declared.instance.Effect.TheVariants as effect
 use Rattle.owner_streams.specs.Steps.{step_of, step_due, effect_due}
 use Rattle.owner_streams.specs.declared.steps.StreamStep.{StreamStep}
-use Rattle.owner_streams.specs.declared.steps.StreamFault.{StreamFault}
 use Rattle.owner_streams.specs.declared.steps.StreamFault.TheVariants as stream_fault
 use Rattle.role_sessions.specs.Sessions.{Session, SessionState}
 use Rattle.role_sessions.specs.Decisions.{Relations}
-use Rattle.role_sessions.specs.Refusals.{activate_in, activate_due, drop_due, close_due, is_active}
+use Rattle.role_sessions.specs.Refusals.{activate_in, drop_due, close_due}
 use Rattle.role_sessions.specs.declared.event.ClientEvent.{ClientEvent}
 use Rattle.role_sessions.specs.declared.event.ClientEvent.TheVariants.{Open, Activate, DropRole, Close}
 use Rattle.role_sessions.specs.declared.faults.SessionFault.{SessionFault}
@@ -20,9 +19,9 @@ use Rattle.role_sessions.specs.declared.faults.SessionFault.TheVariants as sessi
 use Rattle.role_sessions.specs.declared.faults.EndFault.{EndFault}
 use Rattle.role_node.specs.Access.{relations_at, sessions_at}
 use Rattle.role_node.specs.Configs.{ConfigValue}
-use Rattle.role_node.specs.Faults.{of_stream_fault, of_session_fault}
+use Rattle.role_node.specs.Faults.{of_session_fault}
 use Rattle.role_node.specs.Histories.{packets}
-use Rattle.role_node.specs.Answers.{outlook, outlook_with_room, take_outlook, act_fault, unless_full, or_counted, of_effect_due, is_routed, answer_due, answered, reply_to, is_recorded, IsAnswer}
+use Rattle.role_node.specs.Answers.{outlook, outlook_with_room, take_outlook, act_fault, unless_full, or_counted, of_effect_due, is_routed, answer_due, answered, reply_to, IsAnswer}
 use Rattle.role_node.specs.declared.event.Event.{Event}
 use Rattle.role_node.specs.declared.event.Event.TheVariants.{Issue, Take, Client}
 use Rattle.role_node.specs.declared.event.Reply.{Reply}

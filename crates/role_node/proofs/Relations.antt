@@ -1,29 +1,21 @@
 -- What a node keeps, as its history says it.
-use Rattle.std.proofs.Common.{◌≡◌, ℕ, ◌<◌, ◌≤◌, Bool, true, false, cond, ◌&&◌, ◌==◌, List, length, Option, Some, None, Result, Ok, Err, refl, sym, ap, ◌∙◌, subst, le_refl, arith}
-use Rattle.std.specs.Prelude.{if◌then◌else◌, nat_le, nat_lt, not, vec_len, option_map, IfOk}
-use Rattle.std.specs.FinMap as map
-use Rattle.std.proofs.lemmas.Bool.Decides.{nat_tests}
+use Rattle.std.proofs.Common.{◌≡◌, ℕ, List, Result, ap, ◌∙◌, subst}
+use Rattle.std.specs.Prelude.{IfOk}
 use Rattle.role_commands.specs.Tables.{Table}
-use Rattle.bracha_instance.specs.declared.instance.Effect.{Effect}
-use Rattle.bracha_instance.specs.declared.instance.Effect.TheVariants as effect
-use Rattle.owner_streams.specs.Places.{stream, place_count}
+use Rattle.owner_streams.specs.Places.{stream}
 use Rattle.rbac_state.specs.Assignments.{is_user_assigned, is_permission_granted}
-use Rattle.role_sessions.specs.Sessions.{SessionState, state_of, opened_count}
+use Rattle.role_sessions.specs.Sessions.{SessionState}
 use Rattle.role_sessions.specs.Decisions.{Relations, relations_of}
-use Rattle.role_sessions.specs.declared.event.ClientEvent.{ClientEvent}
 use Rattle.role_node.specs.Access.{relations_at, sessions_at}
 use Rattle.role_node.specs.Questions.{IsAnswerUnder, IsAnswerTo}
 use Rattle.role_node.specs.declared.faults.AskFault.{AskFault}
 use Rattle.role_node.specs.declared.question.Answer.{Answer}
 use Rattle.role_node.specs.declared.question.Question.{Question}
-use Rattle.role_node.specs.Answers.{or_counted, of_effect_due, outlook_with_room}
-use Rattle.role_node.specs.Histories.{issued, packets, client_events}
+use Rattle.role_node.specs.Histories.{packets}
 use Rattle.role_node.specs.Kept.{IsStateAfter}
 use Rattle.role_node.specs.Inside.{IsNode, node_value}
 use Rattle.role_node.specs.Nodes.{NodeValue, IsLegalNode}
 use Rattle.role_node.specs.declared.event.Event.{Event}
-use Rattle.role_node.specs.declared.faults.NodeFault.{NodeFault}
-use Rattle.role_node.specs.declared.faults.NodeFault.TheVariants as fault
 use Rattle.role_node.specs.declared.node.Node.TheInside.{Inside}
 use Rattle.role_node.specs.declared.state.State.{State}
 use Rattle.role_node.proofs.Entries.{legal}

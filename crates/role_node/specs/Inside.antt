@@ -1,5 +1,5 @@
 -- What holds of a node's fields. Serves the code, and no public contract.
-use Rattle.std.specs.Prelude.{ℕ, ◌<◌, ◌≤◌, length}
+use Rattle.std.specs.Prelude.{◌<◌, ◌≤◌, length}
 use Rattle.role_node.specs.Configs.{most_events}
 use Rattle.role_node.specs.Nodes.{NodeValue}
 use Rattle.role_node.specs.Kept.{IsStateAfter, AreEntries, events}

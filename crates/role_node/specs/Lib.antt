@@ -7,3 +7,4 @@ pub mod Nodes
 pub mod Kept
 pub mod Questions
 pub mod Inside
+pub mod Listed

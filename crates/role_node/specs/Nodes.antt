@@ -1,5 +1,5 @@
 -- What contracts see of a node: what it was told at its start, its own name, and its history.
-use Rattle.std.specs.Prelude.{◌≡◌, ℕ, List, [], ◌∷◌, ◌++◌, refl}
+use Rattle.std.specs.Prelude.{ℕ, List, [], ◌∷◌, ◌++◌, refl}
 use Rattle.std.specs.Coded.{Coded, code_by, coded×, coded_list, coded_ℕ}
 use Rattle.role_node.specs.Configs.{ConfigValue, config_code}
 use Rattle.role_node.specs.Answers.{answer_due, IsLegal, AreReplies}

@@ -8,6 +8,7 @@
 mod config;
 mod event;
 mod faults;
+pub mod laws;
 mod node;
 mod question;
 mod state;

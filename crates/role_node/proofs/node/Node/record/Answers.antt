@@ -1,8 +1,5 @@
-use Rattle.std.proofs.Common.{◌≡◌, ◌+◌, ◌≤◌, List, [], ◌∷◌, ◌++◌, Ok, refl, sym, ap, ◌∙◌, arith}
+use Rattle.std.proofs.Common.{◌≡◌, [], ◌∷◌, ◌++◌, refl, arith}
 use Rattle.std.proofs.lemmas.Grind.{common_steps}
-use Rattle.bracha_instance.specs.declared.instance.Effect.TheVariants.{Counted}
-use Rattle.role_node.specs.Answers.{outlook}
-use Rattle.role_node.specs.Inside.{IsNode}
 use Rattle.role_node.specs.Kept.{events}
 use Rattle.role_node.proofs.Entries.{legal, counted_with_room}
 use Rattle.role_node.proofs.Recording.{inside_stays, inside_grows, counts_inside, in_range, events_are_few}

@@ -1,6 +1,4 @@
-use Rattle.std.proofs.Common.{◌≡◌, ℕ, List, [], refl, sym, ap, ◌∙◌}
-use Rattle.std.proofs.lemmas.List.Elements.{All-nil}
-use Rattle.link_frames.specs.Packets.{SentByOwner}
+use Rattle.std.proofs.Common.{◌∙◌}
 use Rattle.role_node.proofs.After.{parts_of_nothing}
 use Rattle.role_node.proofs.state.State.new.Goals as goal
 
