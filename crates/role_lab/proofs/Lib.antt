@@ -2,9 +2,14 @@ pub mod Waiting
 pub mod Writing
 pub mod Fronts
 pub mod Words
+pub mod PlainText
+pub mod LineWords
 pub mod Spelled
 pub mod Ascii
 pub mod Answering
 pub mod LineLemmas
 pub mod MachineLemmas
 pub mod RunLemmas
+pub mod SpelledOrders
+pub mod ClusterLemmas
+pub mod FlushLemmas

@@ -1,7 +1,7 @@
 -- A line of a script has one spelling.
-use Rattle.std.proofs.Common.{◌≡◌, ◌≢◌, ℕ, ◌==◌, ◌*◌, ◌-◌, ◌<◌, ◌≤◌, ◌^◌, Bool, true, false, if◌then◌else◌, nat_lt, nat_le, List, ◌∷◌, ◌++◌, codes, Option, Some, None, Result, Ok, Err, option_map, option_and_then, sym, refl, ap, arith, ◌∙◌, append_assoc, subst}
+use Rattle.std.proofs.Common.{◌≡◌, ◌≢◌, ℕ, ◌==◌, ◌*◌, ◌<◌, ◌≤◌, ◌^◌, Bool, true, false, if◌then◌else◌, nat_lt, nat_le, List, ◌∷◌, ◌++◌, codes, Option, Some, None, Result, Ok, Err, option_map, option_and_then, sym, refl, ap, arith, ◌∙◌, append_assoc, subst}
 use Rattle.std.proofs.lemmas.Bool.Decides.{nat_tests}
-use Rattle.std.proofs.lemmas.Option.{option_and_then_some, cond_some, same_Some, none-some}
+use Rattle.std.proofs.lemmas.Option.{option_and_then_some, same_Some, none-some}
 use Rattle.std.proofs.lemmas.Slice.Eq.{bytes_eq-Decides}
 use Rattle.std.specs.Result.{result_ok}
 use Rattle.std.specs.Str.{bytes_eq}
@@ -14,19 +14,16 @@ use Rattle.role_commands.specs.Numbers.{split_word}
 use Rattle.role_commands.specs.Reading.{command_of}
 use Rattle.role_commands.specs.Words.{spelling, IsCommand}
 use Rattle.role_commands.specs.declared.command.Command.{Command}
-use Rattle.role_commands.proofs.NumberLemmas.{number_of-decimal, number_of_spelled}
 use Rattle.role_commands.proofs.WordLemmas.{command_of-spelling, command_of_spelled}
 use Rattle.link_frames.specs.declared.kind.Kind.{Kind}
 use Rattle.link_frames.specs.declared.kind.Kind.TheVariants.{Send, Echo, Ready}
 use Rattle.bracha_instance.specs.Broadcast.{Take}
 use Rattle.role_lab.specs.Grammar.{owner, byte_number, sizes_of_numbers, sizes_of_line, take_from, vote_of, named_take, take_of_line}
 use Rattle.role_lab.specs.Spellings.{sizes_spelling, said_spelling, take_spelling, IsTake, SizesAreRead, SizesAreSpelled, TakesAreRead, TakesAreSpelled}
+use Rattle.role_lab.proofs.LineWords.{byte_read, byte_spelled, name_due-within, name_due_is, if_else}
 use Rattle.role_lab.proofs.Words.{split_word-word, split_word-decimal, split_word-joined}
 
 -- reading what was written
-
-byte_read : (n : ℕ) → n < 2 ^ 8 → byte_number (decimal n) ≡ Some n
-byte_read n small = number_of-decimal (2 ^ 8 - 1) n (omega arith) (omega arith)
 
 sizes_due-AreSizes : (s : Counts) → AreSizes s → sizes_due s.nodes s.liars ≡ Ok s
 sizes_due-AreSizes s are =
@@ -43,9 +40,6 @@ sizes_of_line-spelling s are =
     ∙ rw (split_word-word (codes "instance") (decimal s.nodes ++ (32 ∷ decimal s.liars)) refl)
     (rw (split_word-decimal s.nodes (decimal s.liars) (omega arith))
     (rw (byte_read s.nodes (omega arith), byte_read s.liars (omega arith)) (ap result_ok (sizes_due-AreSizes s are))))
-
-name_due-within : (s : Counts) (i : ℕ) → i < s.nodes → name_due s i ≡ Some i
-name_due-within s i h = let inside : nat_lt i s.nodes ≡ true = grind (arith, nat_tests) in rw inside refl
 
 module _ (s : Counts) (kind : Kind) (from : ℕ) (c : Command) (within : from < s.nodes) (is : IsCommand c) where
   said : Take
@@ -80,9 +74,6 @@ pub take_of_line-spelling : TakesAreRead
 take_of_line-spelling s t are is = named_spelling s t.kind t.from t.command are is.0.0 is.0.1 is.1
 
 -- writing what was read
-
-byte_spelled : (n : ℕ) (word : List ℕ) → byte_number word ≡ Some n → word ≡ decimal n
-byte_spelled n word e = (number_of_spelled (2 ^ 8 - 1) n word e).0
 
 ok_of : {A E : Type 0} (r : Result A E) (x : A) → result_ok r ≡ Some x → r ≡ Ok x
 ok_of (Ok y) x e = ap Ok (same_Some y x e)
@@ -122,12 +113,9 @@ sizes_of_line_spelled line s e =
     (λ f is_f read_f.
     let due = sizes_due_is n f s (ok_of _ _ read_f) in
     let joined : words.1 ≡ decimal s.nodes ++ (32 ∷ decimal s.liars) =
-    split_word-joined words.1 numbers cut_numbers ∙ rw (byte_spelled n numbers.0 is_n, byte_spelled f numbers.1 is_f, due.0, due.1) refl in
+    split_word-joined words.1 numbers cut_numbers ∙ rw ((byte_spelled n numbers.0 is_n).0, (byte_spelled f numbers.1 is_f).0, due.0, due.1) refl in
     let grouped : sizes_spelling s ≡ codes "instance" ++ (32 ∷ (decimal s.nodes ++ (32 ∷ decimal s.liars))) = simp append_assoc in
     (split_word-joined line words cut ∙ rw (name, joined) refl ∙ sym grouped, due.2)))))
-
-name_due_is : (s : Counts) (i n : ℕ) → name_due s i ≡ Some n → (i < s.nodes) × (i ≡ n)
-name_due_is s i n e = let parts = cond_some (nat_lt i s.nodes) i n e in (grind (arith, nat_tests), parts.1)
 
 -- what is known of a message that was read
 record Read (s : Counts) (kind : Kind) (text : List ℕ) (t : Take) : Type 0 where
@@ -172,13 +160,9 @@ vote_of_spelled s kind text t e =
     record {
       kind_is = said.kind_is;
       within = said.within;
-      text_is = split_word-joined text words cut ∙ rw (byte_spelled index words.0 is_index, said.text_is, ← from) refl;
+      text_is = split_word-joined text words cut ∙ rw ((byte_spelled index words.0 is_index).0, said.text_is, ← from) refl;
       is = said.is;
     }))
-
-if_else : {A P : Type 0} (b : Bool) (x y : Option A) (c : A) → (if b then x else y) ≡ Some c → (b ≡ true → x ≡ Some c → P) → (y ≡ Some c → P) → P
-if_else true x y c e then_so else_so = then_so refl e
-if_else false x y c e then_so else_so = else_so e
 
 Named : Counts → List ℕ → List ℕ → Take → Type 0
 Named s name text t = (name ++ (32 ∷ text) ≡ take_spelling t) × IsTake s t

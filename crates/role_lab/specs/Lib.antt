@@ -3,6 +3,10 @@ pub mod Buffers
 pub mod Devices
 pub mod Machine
 pub mod Grammar
+pub mod Orders
+pub mod Clusters
+pub mod Inside
+pub mod ClusterTexts
 pub mod Texts
 pub mod Scripts
 pub mod Stages
@@ -10,3 +14,4 @@ pub mod Spellings
 pub mod Runs
 pub mod Steps
 pub mod Statuses
+pub mod Laws

@@ -5,19 +5,26 @@ use Rattle.bracha_instance.specs.Broadcast.{Take}
 use Rattle.bracha_instance.specs.States.{state}
 use Rattle.bracha_instance.specs.Taking.{SendsAreFrom}
 use Rattle.role_lab.specs.Grammar.{owner}
-use Rattle.role_lab.specs.Scripts.{Script, Unread, OfInstance}
+use Rattle.role_lab.specs.Scripts.{Script, Unread, OfInstance, OfRoles, OfCluster}
 use Rattle.role_lab.specs.declared.stage.Stage.{Stage}
-use Rattle.role_lab.specs.declared.stage.Stage.TheVariants.{Start, Running}
+use Rattle.role_lab.specs.declared.stage.Stage.TheVariants.{Start, Running, Roles, Living}
 use Rattle.role_lab.specs.declared.grammar.Said.{Said}
+use Rattle.role_lab.specs.declared.orders.OwnedRole.{OwnedRole}
 
 -- the message that was said
 abbrev pub take_said : Said → Take
 take_said said = record { kind = said.kind; from = said.from; command = said.command }
 
+-- the role that was said, and its owner
+abbrev pub role_said : OwnedRole → ℕ × ℕ
+role_said said = (said.role, said.owner)
+
 -- the stage after these lines
-abbrev pub Follows : Stage → Script → Type 0
+unfoldable pub Follows : Stage → Script → Type 0
 Follows Start Unread = ⊤
 Follows (Running sizes instance) (OfInstance s takes) = (sizes ≡ s) × AreSizes s × (instance ≡ state s takes) × SendsAreFrom owner takes
+Follows (Roles roles) (OfRoles table) = (roles ≡ table) × (table.sizes.nodes ≡ 1)
+Follows (Living cluster) (OfCluster c) = (cluster ≡ c) × (c.node.config.roles.sizes.nodes ≡ 1)
 Follows _ _ = ⊥
 
 -- what a line did to the stage, and the text for it; nothing where the line is bad
@@ -27,9 +34,9 @@ Answers None stage (Some text) = ⊥
 Answers (Some due) stage None = ⊥
 Answers (Some due) stage (Some text) = Follows stage due.0 × (text ≡ due.1)
 
--- the same of a first line, which makes a stage
-abbrev pub StartAnswers : Option (Script × List ℕ) → Option (Stage × List ℕ) → Type 0
-StartAnswers None None = ⊤
-StartAnswers None (Some first) = ⊥
-StartAnswers (Some due) None = ⊥
-StartAnswers (Some due) (Some first) = Follows first.0 due.0 × (first.1 ≡ due.1)
+-- the same of a line that makes a stage
+abbrev pub StageAnswers : Option (Script × List ℕ) → Option (Stage × List ℕ) → Type 0
+StageAnswers None None = ⊤
+StageAnswers None (Some first) = ⊥
+StageAnswers (Some due) None = ⊥
+StageAnswers (Some due) (Some first) = Follows first.0 due.0 × (first.1 ≡ due.1)

@@ -40,7 +40,7 @@ pub fn sizes_of_line(line: &str) -> Option<Sizes>
 }
 
 #[tactic(auto, unfolding(crate::specs::Grammar::sizes_of_numbers))]
-fn sizes_of_numbers(text: &str) -> Option<Sizes>
+pub(crate) fn sizes_of_numbers(text: &str) -> Option<Sizes>
     ensures { result ≡ reading.sizes_of_numbers text.now }
 {
     let (n, f) = split_word(text)?;
@@ -99,7 +99,7 @@ fn take_from(sizes: &Sizes, kind: Kind, index: u8, text: &str) -> Option<Said>
     })
 }
 
-fn byte_number(word: &str) -> Option<u8>
+pub(crate) fn byte_number(word: &str) -> Option<u8>
     ensures { result ≡ reading.byte_number word.now }
 {
     let number = parse_number(word, u64::from(u8::MAX))?;
@@ -107,7 +107,7 @@ fn byte_number(word: &str) -> Option<u8>
 }
 
 // What stands before the first space and what stands behind it.
-fn split_word(text: &str) -> Option<(&str, &str)>
+pub(crate) fn split_word(text: &str) -> Option<(&str, &str)>
     ensures { numbers.split_word text.now ≡ option_map (λ words. (words.0.now, words.1.now)) result }
 {
     text.split_once(' ')

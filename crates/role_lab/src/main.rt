@@ -1,14 +1,18 @@
-//! A laboratory for the broadcast. It reads a script on standard input and writes one line for each line of it.
+//! A laboratory for the registry. It reads a script on standard input, of one instance of the broadcast or of a cluster, and
+//! writes one line for each line of it.
 //!
 //! `specs/Scripts.antt` says what a script means, and `specs/Runs.antt` what running it does.
 #![tactic(auto)]
 
 mod ahead;
+mod cluster;
+mod cluster_texts;
 mod device;
 pub mod fault;
 mod grammar;
 pub mod laws;
 mod lines;
+mod orders;
 pub mod run;
 mod stage;
 mod texts;

@@ -42,11 +42,28 @@ pub fn run_script<R: Read, W: Write>(
         Rose (watched_faults reader.old) (watched_faults reader.new) ⊎ (Rose (watched_faults writer.old) (watched_faults writer.new)
         ⊎ IsEndless (R.remaining (watched_inner reader.old)) (W.contents (watched_inner writer.old)) (W.contents (watched_inner writer.new)))) }
 {
+    let mut stage = Stage::Start;
+    run_lines(alloc, &mut stage, reader, writer)
+}
+
+/// Runs all lines, from the stage of no line.
+fn run_lines<R: Read, W: Write>(
+    alloc: Global,
+    stage: &mut Stage,
+    reader: &mut Watched<R>,
+    writer: &mut Watched<W>,
+) -> Result<(), ScriptFault>
+    requires { stage.old ≡ Stage.Start }
+    ensures ran { ScriptRan (R.remaining (watched_inner reader.old)) (R.remaining (watched_inner reader.new))
+        (W.contents (watched_inner writer.old)) (W.contents (watched_inner writer.new)) result }
+    ensures device { IfErr result (λ e. e ≡ ScriptFault.Device →
+        Rose (watched_faults reader.old) (watched_faults reader.new) ⊎ (Rose (watched_faults writer.old) (watched_faults writer.new)
+        ⊎ IsEndless (R.remaining (watched_inner reader.old)) (W.contents (watched_inner writer.old)) (W.contents (watched_inner writer.new)))) }
+{
     let mut room = vec![in alloc; 0u8; BLOCK_BYTES]?;
     let block = room.as_mut_slice();
     let mut ahead = Ahead::new(alloc);
     let mut held = Vec::new(alloc);
-    let mut stage = Stage::Start;
     for number in 1..u64::MAX {
         write_when_due(&ahead, &mut held, writer)?;
         match peek(&mut ahead, block, reader)? {
@@ -56,13 +73,13 @@ pub fn run_script<R: Read, W: Write>(
             }
             Next::Line(count) => {
                 let line = &ahead.front()[..count];
-                if !take_line(alloc, &mut stage, &mut held, line)? {
+                if !take_line(alloc, stage, &mut held, line)? {
                     return finish(writer, &held, Err(ScriptFault::BadScript { line: number }));
                 }
                 ahead.take(count + 1);
             }
             Next::Last(_) => {
-                if !take_line(alloc, &mut stage, &mut held, ahead.front())? {
+                if !take_line(alloc, stage, &mut held, ahead.front())? {
                     return finish(writer, &held, Err(ScriptFault::BadScript { line: number }));
                 }
                 return finish(writer, &held, Ok(()));

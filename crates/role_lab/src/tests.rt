@@ -1,3 +1,7 @@
+//! Scripts of one instance, and reading and writing that goes wrong.
+
+mod clusters;
+
 use crate::fault::ScriptFault;
 use crate::run::run_script;
 use link_frames::Watched;

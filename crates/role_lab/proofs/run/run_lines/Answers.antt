@@ -1,8 +1,9 @@
 use Rattle.std.proofs.Common.{arith, inl, ◌∙◌, None}
 use Rattle.std.proofs.lemmas.Result.{err_from_is_err_and}
 use Rattle.role_lab.specs.Scripts.{Unread}
+use Rattle.role_lab.proofs.Answering.{starts}
 use Rattle.role_lab.proofs.RunLemmas.{Ran-start, Ran-moved, Ran-kept, Ran-line, Ran-front, Ran-finish, Ran-endless, Ran-end, Ran-last_finish, Ran-bad_line, Ran-bad_last, Ran-too_long, Holds-bad, Holds-good, nothing_written, AppendsFront-nothing, AppendsFront-whole, ScriptRan-fault, finish_device}
-use Rattle.role_lab.proofs.run.run_script.Goals as goal
+use Rattle.role_lab.proofs.run.run_lines.Goals as goal
 
 pub returns-in_err-room-clause-ran : goal.returns-in_err-room-clause-ran
 returns-in_err-room-clause-ran g c =
@@ -12,7 +13,7 @@ returns-in_err-room-clause-ran g c =
 pub loop-number-init : goal.loop-number-init
 loop-number-init g c = (
   Unread,
-  tt,
+  starts _ c.requires,
   Ran-start _ _ _ _ c.new-ahead.ensures c.new-held.ensures.items,
   omega arith,
   omega arith,

@@ -5,7 +5,7 @@ use Rattle.role_lab.specs.Devices.{NotFewer}
 use Rattle.role_lab.specs.Scripts.{Script}
 use Rattle.role_lab.specs.Stages.{Follows}
 use Rattle.role_lab.proofs.RunLemmas.{Ran}
-use Rattle.role_lab.proofs.run.run_script.Given as goal
+use Rattle.role_lab.proofs.run.run_lines.Given as goal
 
 abbrev pub invariant-loop-number : goal.invariant-loop-number
 invariant-loop-number g l =
