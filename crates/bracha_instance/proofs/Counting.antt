@@ -22,7 +22,8 @@ use Rattle.bracha_instance.proofs.StateSteps.{echo_step, ready_step}
 use Rattle.bracha_instance.proofs.StateOf.{state_push, none_of}
 
 -- nothing was taken
-pub state-empty : (s : Counts) (echoes readies : Votes) → echoes ≡ maps.empty → readies ≡ maps.empty → seen None None None echoes readies ≡ state s []
+pub state-empty : (s : Counts) (echoes readies : Votes) → echoes ≡ maps.empty → readies ≡ maps.empty
+    → seen None None None echoes readies ≡ state s []
 unfolding state echoed readied delivered voters votes at_first_prefix
 state-empty s echoes readies no_echoes no_readies = λ i.
     record {
@@ -44,7 +45,8 @@ late_or_not None P e f = absurd cc
 late_or_not (Some c) P e f = absurd cc
 
 -- an ECHO after a delivery
-pub echo_late : (s : Counts) (p : ℕ) (c : Command) (e r d : Option Command) (echoes readies more : Votes) → is_some d ≡ true → more ≡ maps.insert echoes p c →
+pub echo_late : (s : Counts) (p : ℕ) (c : Command) (e r d : Option Command) (echoes readies more : Votes) → is_some d ≡ true
+    → more ≡ maps.insert echoes p c →
     seen e r d more readies ≡ after_echo s (seen e r d echoes readies) p c d
 echo_late s p c e r d echoes readies more late inserted =
     echo_step s p c e r d (names_of echoes) (names_of readies) echoes readies e r d (names_of more) (names_of readies) more readies
@@ -52,7 +54,8 @@ echo_late s p c e r d echoes readies more late inserted =
     (λ before. late_or_not d _ before late) (λ _. refl)
 
 -- an ECHO before it
-pub echo_early : (s : Counts) (p : ℕ) (c : Command) (e r d now : Option Command) (due : Bool) (echoes readies more : Votes) → is_some d ≡ false → more ≡ maps.insert echoes p c →
+pub echo_early : (s : Counts) (p : ℕ) (c : Command) (e r d now : Option Command) (due : Bool) (echoes readies more : Votes)
+    → is_some d ≡ false → more ≡ maps.insert echoes p c →
     due ≡ ready_now s c more readies → now ≡ option_or r (only_if due c) →
     seen e now d more readies ≡ after_echo s (seen e r d echoes readies) p c d
 echo_early s p c e r d now due echoes readies more early inserted is_due is_now =
@@ -62,7 +65,8 @@ echo_early s p c e r d now due echoes readies more early inserted is_due is_now 
     (λ late. late_or_not d _ (none_of d early) late)
 
 -- a READY after a delivery
-pub ready_late : (s : Counts) (p : ℕ) (c : Command) (e r d : Option Command) (echoes readies more : Votes) → is_some d ≡ true → more ≡ maps.insert readies p c →
+pub ready_late : (s : Counts) (p : ℕ) (c : Command) (e r d : Option Command) (echoes readies more : Votes) → is_some d ≡ true
+    → more ≡ maps.insert readies p c →
     seen e r d echoes more ≡ after_ready s (seen e r d echoes readies) p c d
 ready_late s p c e r d echoes readies more late inserted =
     ready_step s p c e r d (names_of echoes) (names_of readies) echoes readies e r d (names_of echoes) (names_of more) echoes more
@@ -87,16 +91,20 @@ after-voted : (s : Counts) (st : State) (t : Take) → has_voted st t.kind t.fro
 unfolding after
 after-voted s st t is = ap (λ b. cond b st (after_kind s st t.kind t.from t.command)) is
 
-after-first : (s : Counts) (st : State) (t : Take) → has_voted st t.kind t.from ≡ false → after s st t ≡ after_kind s st t.kind t.from t.command
+after-first : (s : Counts) (st : State) (t : Take) → has_voted st t.kind t.from ≡ false
+    → after s st t ≡ after_kind s st t.kind t.from t.command
 unfolding after
 after-first s st t is = ap (λ b. cond b st (after_kind s st t.kind t.from t.command)) is
 
-pub idle_state : (s : Counts) (ts : List Take) (t : Take) (st : State) → has_voted st t.kind t.from ≡ true → st ≡ state s ts → st ≡ state s (ts ++ t ∷ [])
+pub idle_state : (s : Counts) (ts : List Take) (t : Take) (st : State) → has_voted st t.kind t.from ≡ true → st ≡ state s ts
+    → st ≡ state s (ts ++ t ∷ [])
 idle_state s ts t st voted is = sym (state_push s ts t ∙ ap (λ x. after s x t) (sym is) ∙ after-voted s st t voted)
 
-pub counted_state : (s : Counts) (ts : List Take) (t : Take) (st now : State) → has_voted st t.kind t.from ≡ false → now ≡ after_kind s st t.kind t.from t.command →
+pub counted_state : (s : Counts) (ts : List Take) (t : Take) (st now : State) → has_voted st t.kind t.from ≡ false
+    → now ≡ after_kind s st t.kind t.from t.command →
     st ≡ state s ts → now ≡ state s (ts ++ t ∷ [])
-counted_state s ts t st now first step is = step ∙ sym (state_push s ts t ∙ ap (λ x. after s x t) (sym is) ∙ after-first s st t first)
+counted_state s ts t st now first step is =
+    step ∙ sym (state_push s ts t ∙ ap (λ x. after s x t) (sym is) ∙ after-first s st t first)
 
 pub newly_same : (o : Option Command) → newly o o ≡ None
 newly_same None = refl
@@ -117,19 +125,22 @@ pub nothing_sent : (s : Counts) (ts us : List Take) (st : State) → st ≡ stat
 nothing_sent s ts us st is is_now =
     (λ i. sent_for (sym (newly_same st.echoed) i) (sym (newly_same st.readied) i)) ∙ sent_of s ts us st st is is_now
 
-pub nothing_delivered : (s : Counts) (ts us : List Take) (st : State) → st ≡ state s ts → st ≡ state s us → None ≡ newly_delivered s ts us
+pub nothing_delivered : (s : Counts) (ts us : List Take) (st : State) → st ≡ state s ts → st ≡ state s us
+    → None ≡ newly_delivered s ts us
 nothing_delivered s ts us st is is_now = sym (newly_same st.delivered) ∙ delivered_of s ts us st st is is_now
 
 front : (P : Take → Type 0) (ts : List Take) (t : Take) → All P (ts ++ t ∷ []) → All P ts
 front P [] t all k d within = absurd (not-suc-le-zero within)
 front P (x ∷ ts) t all zero d within = all zero d (suc-le-suc zero-le)
-front P (x ∷ ts) t all (suc k) d within = front P ts t (λ j e inside. all (suc j) e (suc-le-suc inside)) k d (le_of_suc-le-suc within)
+front P (x ∷ ts) t all (suc k) d within =
+    front P ts t (λ j e inside. all (suc j) e (suc-le-suc inside)) k d (le_of_suc-le-suc within)
 
 last : (P : Take → Type 0) (ts : List Take) (t : Take) → All P (ts ++ t ∷ []) → P t
 last P [] t all = all zero t (suc-le-suc zero-le)
 last P (x ∷ ts) t all = last P ts t (λ j e inside. all (suc j) e (suc-le-suc inside))
 
-same_test : (a b : Bool) (t : Take) (rest : Option Take) → (a ≡ true → b ≡ true) → cond (a && b) (Some t) rest ≡ cond a (Some t) rest
+same_test : (a b : Bool) (t : Take) (rest : Option Take) → (a ≡ true → b ≡ true)
+    → cond (a && b) (Some t) rest ≡ cond a (Some t) rest
 same_test true b t rest implies = ap (λ x. cond x (Some t) rest) (implies refl)
 same_test false b t rest implies = refl
 
@@ -141,7 +152,8 @@ owner_first owner (t ∷ ts) all =
     ∙ same_test (same_kind Send t.kind) (owner == t.from) t (find (is_of_kind Send) ts)
     (λ is. eq-eqb owner t.from (sym (all zero t (suc-le-suc zero-le) (sym (same_kind-true Send t.kind is)))))
 
-vote_is : (s : Counts) (ts : List Take) (owner : ℕ) (kind : Kind) (p : ℕ) (c : Command) → SendsAreFrom owner (ts ++ (record { kind = kind; from = p; command = c }) ∷ []) →
+vote_is : (s : Counts) (ts : List Take) (owner : ℕ) (kind : Kind) (p : ℕ) (c : Command)
+    → SendsAreFrom owner (ts ++ (record { kind = kind; from = p; command = c }) ∷ []) →
     has_voted (state s ts) kind p ≡ is_some (vote kind p ts)
 unfolding state vote echoed
 vote_is s ts owner Send p c all =
@@ -150,13 +162,15 @@ vote_is s ts owner Send p c all =
 vote_is s ts owner Echo p c all = contains-voters Echo ts p
 vote_is s ts owner Ready p c all = contains-voters Ready ts p
 
-pub effect_at : (s : Counts) (ts : List Take) (t : Take) (owner : ℕ) (st : State) (b : Bool) → has_voted st t.kind t.from ≡ b → st ≡ state s ts →
+pub effect_at : (s : Counts) (ts : List Take) (t : Take) (owner : ℕ) (st : State) (b : Bool) → has_voted st t.kind t.from ≡ b
+    → st ≡ state s ts →
     SendsAreFrom owner (ts ++ t ∷ []) → cond b Idle Counted ≡ effect_of ts t
 effect_at s ts t owner st b is is_state all =
     ap (λ x. cond x Idle Counted) (sym is ∙ ap (λ x. has_voted x t.kind t.from) is_state ∙ vote_is s ts owner t.kind t.from t.command all)
 
 -- what the state says of a vote is what the messages say
-pub voted_at : (s : Counts) (ts : List Take) (owner : ℕ) (kind : Kind) (p : ℕ) (c : Command) (st : State) (b : Bool) → b ≡ has_voted st kind p → st ≡ state s ts →
+pub voted_at : (s : Counts) (ts : List Take) (owner : ℕ) (kind : Kind) (p : ℕ) (c : Command) (st : State) (b : Bool)
+    → b ≡ has_voted st kind p → st ≡ state s ts →
     SendsAreFrom owner (ts ++ (record { kind = kind; from = p; command = c }) ∷ []) → b ≡ is_some (vote kind p ts)
 voted_at s ts owner kind p c st b is is_state all =
     is ∙ ap (λ x. has_voted x kind p) is_state ∙ vote_is s ts owner kind p c all

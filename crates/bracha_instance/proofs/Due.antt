@@ -18,7 +18,8 @@ use Rattle.bracha_instance.proofs.FirstDue.{due_push, due_stays, due_was_first, 
 
 -- By the maps of votes.
 
-pub may_ready-votes : (s : Counts) (ts : List Take) (c : Command) → may_ready s ts c ≡ ready_now s c (votes Echo ts) (votes Ready ts)
+pub may_ready-votes : (s : Counts) (ts : List Take) (c : Command)
+    → may_ready s ts c ≡ ready_now s c (votes Echo ts) (votes Ready ts)
 unfolding may_ready ready_now
 may_ready-votes s ts c = λ i.
     nat_le (echo_quorum_of s) (sets.len (supporters_in-votes Echo c ts i)) || nat_le (amplify_of s) (sets.len (supporters_in-votes Ready c ts i))
@@ -27,27 +28,33 @@ pub may_deliver-votes : (s : Counts) (ts : List Take) (c : Command) → may_deli
 unfolding may_deliver deliver_now
 may_deliver-votes s ts c = λ i. nat_le (deliver_of s) (sets.len (supporters_in-votes Ready c ts i))
 
-pub may_ready-alike : (s : Counts) (ts us : List Take) (c : Command) → supporters Echo c us ≡ supporters Echo c ts → supporters Ready c us ≡ supporters Ready c ts → may_ready s us c ≡ may_ready s ts c
+pub may_ready-alike : (s : Counts) (ts us : List Take) (c : Command) → supporters Echo c us ≡ supporters Echo c ts
+    → supporters Ready c us ≡ supporters Ready c ts → may_ready s us c ≡ may_ready s ts c
 unfolding may_ready
 may_ready-alike s ts us c echoes readies = λ i.
     nat_le (echo_quorum_of s) (sets.len (echoes i)) || nat_le (amplify_of s) (sets.len (readies i))
 
-pub may_deliver-alike : (s : Counts) (ts us : List Take) (c : Command) → supporters Ready c us ≡ supporters Ready c ts → may_deliver s us c ≡ may_deliver s ts c
+pub may_deliver-alike : (s : Counts) (ts us : List Take) (c : Command) → supporters Ready c us ≡ supporters Ready c ts
+    → may_deliver s us c ≡ may_deliver s ts c
 unfolding may_deliver
 may_deliver-alike s ts us c readies = λ i. nat_le (deliver_of s) (sets.len (readies i))
 
 -- One message can make only its own command ready, and a command that no message is for is not.
 
-ready_others : (s : Counts) (ts : List Take) (t : Take) (d : Command) → same_command d t.command ≡ false → may_ready s (ts ++ t ∷ []) d ≡ may_ready s ts d
-ready_others s ts t d other = may_ready-alike s ts (ts ++ t ∷ []) d (supporters_push-other Echo d ts t other) (supporters_push-other Ready d ts t other)
+ready_others : (s : Counts) (ts : List Take) (t : Take) (d : Command) → same_command d t.command ≡ false
+    → may_ready s (ts ++ t ∷ []) d ≡ may_ready s ts d
+ready_others s ts t d other =
+    may_ready-alike s ts (ts ++ t ∷ []) d (supporters_push-other Echo d ts t other) (supporters_push-other Ready d ts t other)
 
-deliver_others : (s : Counts) (ts : List Take) (t : Take) (d : Command) → same_command d t.command ≡ false → may_deliver s (ts ++ t ∷ []) d ≡ may_deliver s ts d
+deliver_others : (s : Counts) (ts : List Take) (t : Take) (d : Command) → same_command d t.command ≡ false
+    → may_deliver s (ts ++ t ∷ []) d ≡ may_deliver s ts d
 deliver_others s ts t d other = may_deliver-alike s ts (ts ++ t ∷ []) d (supporters_push-other Ready d ts t other)
 
 too_few : (most n : ℕ) → 1 ≤ most → n ≡ 0 → nat_le most n ≡ false
 too_few most n some none = lt-leb most n (omega arith)
 
-ready_nobodys : (s : Counts) (ts : List Take) (d : Command) → find (same_command d) (map command_of ts) ≡ None → may_ready s ts d ≡ false
+ready_nobodys : (s : Counts) (ts : List Take) (d : Command) → find (same_command d) (map command_of ts) ≡ None
+    → may_ready s ts d ≡ false
 unfolding may_ready
 ready_nobodys s ts d none =
     let no_echoes : sets.len (supporters Echo d ts) ≡ 0 = ap sets.len (supporters-nobody Echo d ts none) ∙ sets.len-empty nat_cmp in
@@ -56,7 +63,8 @@ ready_nobodys s ts d none =
     let readies = too_few (amplify_of s) (sets.len (supporters Ready d ts)) (omega arith) no_readies in
     λ i. echoes i || readies i
 
-deliver_nobodys : (s : Counts) (ts : List Take) (d : Command) → find (same_command d) (map command_of ts) ≡ None → may_deliver s ts d ≡ false
+deliver_nobodys : (s : Counts) (ts : List Take) (d : Command) → find (same_command d) (map command_of ts) ≡ None
+    → may_deliver s ts d ≡ false
 unfolding may_deliver
 deliver_nobodys s ts d none =
     too_few (deliver_of s) (sets.len (supporters Ready d ts)) (omega arith) (ap sets.len (supporters-nobody Ready d ts none) ∙ sets.len-empty nat_cmp)

@@ -12,7 +12,8 @@ use Rattle.bracha_instance.specs.Laws.{or_else_if}
 use Rattle.bracha_instance.proofs.Same.{same_command-true}
 use Rattle.bracha_instance.proofs.FirstPrefix.{prefix_push, prefix_kept, prefix_none, prefix_last, prefix_found}
 
-passes_by : {X : Type 0} (p : X → Bool) (y x : X) (rest : Option X) → (rest ≡ Some x → p x ≡ true) → (b : Bool) → p y ≡ b → cond b (Some y) rest ≡ Some x → p x ≡ true
+passes_by : {X : Type 0} (p : X → Bool) (y x : X) (rest : Option X) → (rest ≡ Some x → p x ≡ true) → (b : Bool) → p y ≡ b
+    → cond b (Some y) rest ≡ Some x → p x ≡ true
 passes_by p y x rest later true is e = subst (λ z. p z ≡ true) (same_Some y x e) is
 passes_by p y x rest later false is e = later e
 
@@ -21,7 +22,8 @@ pub find_passes : {X : Type 0} (p : X → Bool) (xs : List X) (x : X) → find p
 find_passes p [] x e = absurd cc
 find_passes p (y ∷ ys) x e = passes_by p y x (find p ys) (find_passes p ys x) (p y) refl e
 
-refused_by : {X : Type 0} (p : X → Bool) (y x : X) (ps qs : Option X) → (ps ≡ None → qs ≡ Some x → p x ≡ false) → (a b : Bool) → p y ≡ a →
+refused_by : {X : Type 0} (p : X → Bool) (y x : X) (ps qs : Option X) → (ps ≡ None → qs ≡ Some x → p x ≡ false) → (a b : Bool)
+    → p y ≡ a →
     cond a (Some y) ps ≡ None → cond b (Some y) qs ≡ Some x → p x ≡ false
 refused_by p y x ps qs later true b is none e = absurd cc
 refused_by p y x ps qs later false true is none e = subst (λ z. p z ≡ false) (same_Some y x e) is
@@ -32,17 +34,23 @@ refused : {X : Type 0} (p q : X → Bool) (xs : List X) (x : X) → find p xs �
 refused p q [] x none e = absurd cc
 refused p q (y ∷ ys) x none e = refused_by p y x (find p ys) (find q ys) (refused p q ys x) (p y) (q y) refl none e
 
-own_by : (p : Command → Bool) (c d : Command) → ((d : Command) → same_command d c ≡ false → p d ≡ false) → (b : Bool) → same_command d c ≡ b →
+own_by : (p : Command → Bool) (c d : Command) → ((d : Command) → same_command d c ≡ false → p d ≡ false) → (b : Bool)
+    → same_command d c ≡ b →
     (a : Bool) → p c ≡ a → cond (p d) (Some d) (cond (p c) (Some c) None) ≡ cond (p c) (Some c) None
-own_by p c d only true is true e = ap (λ x. cond (p x) (Some x) (cond (p c) (Some c) None)) (same_command-true d c is) ∙ ap (λ a. cond a (Some c) (cond (p c) (Some c) None)) e ∙ sym (ap (λ a. cond a (Some c) None) e)
-own_by p c d only true is false e = ap (λ x. cond (p x) (Some x) (cond (p c) (Some c) None)) (same_command-true d c is) ∙ ap (λ a. cond a (Some c) (cond (p c) (Some c) None)) e
+own_by p c d only true is true e =
+    ap (λ x. cond (p x) (Some x) (cond (p c) (Some c) None)) (same_command-true d c is)
+    ∙ ap (λ a. cond a (Some c) (cond (p c) (Some c) None)) e ∙ sym (ap (λ a. cond a (Some c) None) e)
+own_by p c d only true is false e =
+    ap (λ x. cond (p x) (Some x) (cond (p c) (Some c) None)) (same_command-true d c is)
+    ∙ ap (λ a. cond a (Some c) (cond (p c) (Some c) None)) e
 own_by p c d only false is a e = ap (λ b. cond b (Some d) (cond (p c) (Some c) None)) (only d is)
 
 -- a test that only c can pass finds c, or nothing
 find_own : (p : Command → Bool) (c : Command) → ((d : Command) → same_command d c ≡ false → p d ≡ false) →
     (ds : List Command) → find p (ds ++ c ∷ []) ≡ cond (p c) (Some c) None
 find_own p c only [] = refl
-find_own p c only (d ∷ ds) = ap (cond (p d) (Some d)) (find_own p c only ds) ∙ own_by p c d only (same_command d c) refl (p c) refl
+find_own p c only (d ∷ ds) =
+    ap (cond (p d) (Some d)) (find_own p c only ds) ∙ own_by p c d only (same_command d c) refl (p c) refl
 
 no_some : {X : Type 0} (o : Option X) → o ≡ None → is_some o ≡ true → ⊥
 no_some o none some = both_ways (is_some o) (ap is_some none) some
@@ -58,7 +66,8 @@ module _ (may : List Take → Command → Bool)
   abbrev pub due : List Take → Option Command
   due past = command_that (may past) past
 
-  absent_or_refused : (ts : List Take) (d : Command) → due ts ≡ None → (o : Option Command) → find (same_command d) (map command_of ts) ≡ o → may ts d ≡ false
+  absent_or_refused : (ts : List Take) (d : Command) → due ts ≡ None → (o : Option Command)
+      → find (same_command d) (map command_of ts) ≡ o → may ts d ≡ false
   absent_or_refused ts d none None is = nobodys ts d is
   absent_or_refused ts d none (Some e) is =
       ap (may ts) (same_command-true d e (find_passes (same_command d) (map command_of ts) e is))
@@ -68,7 +77,8 @@ module _ (may : List Take → Command → Bool)
   pub nothing_due : (ts : List Take) → due ts ≡ None → (d : Command) → may ts d ≡ false
   nothing_due ts none d = absent_or_refused ts d none (find (same_command d) (map command_of ts)) refl
 
-  due_own : (ts : List Take) (t : Take) → due ts ≡ None → due (ts ++ t ∷ []) ≡ cond (may (ts ++ t ∷ []) t.command) (Some t.command) None
+  due_own : (ts : List Take) (t : Take) → due ts ≡ None
+      → due (ts ++ t ∷ []) ≡ cond (may (ts ++ t ∷ []) t.command) (Some t.command) None
   due_own ts t none =
       ap (find (may (ts ++ t ∷ []))) (map-append command_of ts (t ∷ []))
       ∙ find_own (may (ts ++ t ∷ [])) t.command (λ d other. others ts t d other ∙ nothing_due ts none d) (map command_of ts)
@@ -83,7 +93,8 @@ module _ (may : List Take → Command → Bool)
       at_first_prefix due (ts ++ t ∷ []) ≡ or_else_if (at_first_prefix due ts) (may (ts ++ t ∷ []) t.command) t.command
   due_push ts t = prefix_push due ts t ∙ push_by ts t (at_first_prefix due ts) refl
 
-  pub due_stays : (before later : List Take) (c : Command) → at_first_prefix due before ≡ Some c → at_first_prefix due (before ++ later) ≡ Some c
+  pub due_stays : (before later : List Take) (c : Command) → at_first_prefix due before ≡ Some c
+      → at_first_prefix due (before ++ later) ≡ Some c
   due_stays before later c e = prefix_kept due before later c e
 
   pub due_was_first : (ts : List Take) (c : Command) → at_first_prefix due ts ≡ Some c →

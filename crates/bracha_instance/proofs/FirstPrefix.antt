@@ -7,7 +7,8 @@ or_assoc : {B : Type 0} (a b c : Option B) → option_or a (option_or b c) ≡ o
 or_assoc None b c = refl
 or_assoc (Some x) b c = refl
 
-or_kept : {B : Type 0} (a b more : Option B) (c : B) → (b ≡ Some c → more ≡ Some c) → option_or a b ≡ Some c → option_or a more ≡ Some c
+or_kept : {B : Type 0} (a b more : Option B) (c : B) → (b ≡ Some c → more ≡ Some c) → option_or a b ≡ Some c
+    → option_or a more ≡ Some c
 or_kept None b more c keeps e = keeps e
 or_kept (Some x) b more c keeps e = e
 
@@ -20,7 +21,9 @@ pub prefix_push : {A B : Type 0} (ask : List A → Option B) (xs : List A) (x : 
     at_first_prefix ask (xs ++ x ∷ []) ≡ option_or (at_first_prefix ask xs) (ask (xs ++ x ∷ []))
 unfolding at_first_prefix
 prefix_push ask [] x = refl
-prefix_push ask (y ∷ ys) x = ap (option_or (ask [])) (prefix_push (λ past. ask (y ∷ past)) ys x) ∙ or_assoc (ask []) (at_first_prefix (λ past. ask (y ∷ past)) ys) (ask (y ∷ ys ++ x ∷ []))
+prefix_push ask (y ∷ ys) x =
+    ap (option_or (ask [])) (prefix_push (λ past. ask (y ∷ past)) ys x)
+    ∙ or_assoc (ask []) (at_first_prefix (λ past. ask (y ∷ past)) ys) (ask (y ∷ ys ++ x ∷ []))
 
 -- what is settled stays
 pub prefix_kept : {A B : Type 0} (ask : List A → Option B) (xs ys : List A) (c : B) →
@@ -31,7 +34,8 @@ prefix_kept ask [] (y ∷ ys) c e = ap (λ o. option_or o (at_first_prefix (λ p
 prefix_kept ask (x ∷ xs) ys c e = or_kept (ask []) _ _ c (prefix_kept (λ past. ask (x ∷ past)) xs ys c) e
 
 -- where nothing is settled, no prefix answers
-pub prefix_none : {A B : Type 0} (ask : List A → Option B) (xs : List A) → at_first_prefix ask xs ≡ None → (m : ℕ) → ask (take m xs) ≡ None
+pub prefix_none : {A B : Type 0} (ask : List A → Option B) (xs : List A) → at_first_prefix ask xs ≡ None → (m : ℕ)
+    → ask (take m xs) ≡ None
 unfolding at_first_prefix
 prefix_none ask [] e zero = e
 prefix_none ask [] e (suc m) = e
@@ -56,7 +60,8 @@ found_by ask x xs c None rest is later e =
 found_by ask x xs c (Some d) rest is later e = (zero, zero-le, is ∙ e, λ k h. absurd (omega arith))
 
 -- what is settled was so at some prefix, and at none before it
-pub prefix_found : {A B : Type 0} (ask : List A → Option B) (xs : List A) (c : B) → at_first_prefix ask xs ≡ Some c → IsFirst ask xs c
+pub prefix_found : {A B : Type 0} (ask : List A → Option B) (xs : List A) (c : B) → at_first_prefix ask xs ≡ Some c
+    → IsFirst ask xs c
 unfolding at_first_prefix
 prefix_found ask [] c e = (zero, zero-le, e, λ k h. absurd (omega arith))
 prefix_found ask (x ∷ xs) c e = found_by ask x xs c (ask []) _ refl (prefix_found (λ past. ask (x ∷ past)) xs c) e

@@ -25,7 +25,8 @@ same_names s t is = sets.same_set nat_cmp_total maps.nat_cmp-IsAntisymmetric s t
 pub same_votes : (v w : Votes) → ((q : ℕ) → maps.get v q ≡ maps.get w q) → v ≡ w
 same_votes v w is = maps.same_map nat_cmp_total maps.nat_cmp-IsAntisymmetric v w is
 
-pub get-insert : (v : Votes) (p : ℕ) (c : Command) (q : ℕ) → maps.get (maps.insert v p c) q ≡ cond (q == p) (Some c) (maps.get v q)
+pub get-insert : (v : Votes) (p : ℕ) (c : Command) (q : ℕ)
+    → maps.get (maps.insert v p c) q ≡ cond (q == p) (Some c) (maps.get v q)
 get-insert v p c q = maps.get-insert nat_cmp_total v p c q ∙ ap (λ b. cond b (Some c) (maps.get v q)) (unsigned_tied q p)
 
 pub contains-insert : (s : Names) (p q : ℕ) → sets.contains (sets.insert s p) q ≡ ((q == p) || sets.contains s q)
@@ -63,27 +64,34 @@ pub supporters_in-empty : (c : Command) → supporters_in c maps.empty ≡ sets.
 supporters_in-empty c = same_names _ _ (λ q.
     contains-supporters_in c maps.empty q ∙ ap (is_for c) (maps.get-empty nat_cmp q) ∙ sym (sets.contains-empty nat_cmp q))
 
-for_same : (c d : Command) → same_command c d ≡ true → (b : Bool) (o : Option Command) → is_for c (cond b (Some d) o) ≡ (b || is_for c o)
+for_same : (c d : Command) → same_command c d ≡ true → (b : Bool) (o : Option Command)
+    → is_for c (cond b (Some d) o) ≡ (b || is_for c o)
 for_same c d same true o = same
 for_same c d same false o = refl
 
 -- a first vote for c is one name more
-pub supporters_in-insert_same : (c d : Command) (v : Votes) (p : ℕ) → same_command c d ≡ true → supporters_in c (maps.insert v p d) ≡ sets.insert (supporters_in c v) p
+pub supporters_in-insert_same : (c d : Command) (v : Votes) (p : ℕ) → same_command c d ≡ true
+    → supporters_in c (maps.insert v p d) ≡ sets.insert (supporters_in c v) p
 supporters_in-insert_same c d v p same = same_names _ _ (λ q.
-    contains-supporters_in c (maps.insert v p d) q ∙ ap (is_for c) (get-insert v p d q) ∙ for_same c d same (q == p) (maps.get v q)
+    contains-supporters_in c (maps.insert v p d) q ∙ ap (is_for c) (get-insert v p d q)
+    ∙ for_same c d same (q == p) (maps.get v q)
     ∙ sym (contains-insert (supporters_in c v) p q ∙ ap (λ b. (q == p) || b) (contains-supporters_in c v q)))
 
-for_other : (c d : Command) → same_command c d ≡ false → (v : Votes) (p q : ℕ) → maps.get v p ≡ None → (b : Bool) → (q == p) ≡ b → is_for c (cond b (Some d) (maps.get v q)) ≡ is_for c (maps.get v q)
+for_other : (c d : Command) → same_command c d ≡ false → (v : Votes) (p q : ℕ) → maps.get v p ≡ None → (b : Bool) → (q == p) ≡ b
+    → is_for c (cond b (Some d) (maps.get v q)) ≡ is_for c (maps.get v q)
 for_other c d other v p q none true e = other ∙ sym (ap (is_for c) (ap (maps.get v) (eqb-true q p e) ∙ none))
 for_other c d other v p q none false e = refl
 
 -- a first vote for another command changes nothing for c
-pub supporters_in-insert_other : (c d : Command) (v : Votes) (p : ℕ) → same_command c d ≡ false → maps.get v p ≡ None → supporters_in c (maps.insert v p d) ≡ supporters_in c v
+pub supporters_in-insert_other : (c d : Command) (v : Votes) (p : ℕ) → same_command c d ≡ false → maps.get v p ≡ None
+    → supporters_in c (maps.insert v p d) ≡ supporters_in c v
 supporters_in-insert_other c d v p other none = same_names _ _ (λ q.
-    contains-supporters_in c (maps.insert v p d) q ∙ ap (is_for c) (get-insert v p d q) ∙ for_other c d other v p q none (q == p) refl
+    contains-supporters_in c (maps.insert v p d) q ∙ ap (is_for c) (get-insert v p d q)
+    ∙ for_other c d other v p q none (q == p) refl
     ∙ sym (contains-supporters_in c v q))
 
-pub len_supporters_in-insert : (c d : Command) (v : Votes) (p : ℕ) → maps.get v p ≡ None → sets.len (supporters_in c (maps.insert v p d)) ≡ cond (same_command c d) 1 0 + sets.len (supporters_in c v)
+pub len_supporters_in-insert : (c d : Command) (v : Votes) (p : ℕ) → maps.get v p ≡ None
+    → sets.len (supporters_in c (maps.insert v p d)) ≡ cond (same_command c d) 1 0 + sets.len (supporters_in c v)
 len_supporters_in-insert c d v p none =
     elim (cases_Bool (same_command c d)) [
       | inl same ↦ rw same
@@ -123,28 +131,34 @@ has_name xs q = sym (ap is_some (get-votes_in xs q) ∙ by_entries xs)
         ∙ is_some_cond (x.name == q) x.command _ _ (by_entries xs)
 
 -- a name that has no vote is nobody's
-pub apart : (xs : List Vote) (q : ℕ) → list_any (λ (v : Vote). v.name == q) xs ≡ false → (k : ℕ) (d : Vote) → k < length xs → (get_or xs k d).name ≡ q → ⊥
+pub apart : (xs : List Vote) (q : ℕ) → list_any (λ (v : Vote). v.name == q) xs ≡ false → (k : ℕ) (d : Vote) → k < length xs
+    → (get_or xs k d).name ≡ q → ⊥
 apart [] q none k d within is = absurd (omega arith)
 apart (x ∷ xs) q none zero d within is = both_ways (x.name == q) (or_parts _ _ none).0 (eq-eqb x.name q is)
 apart (x ∷ xs) q none (suc k) d within is = apart xs q (or_parts _ _ none).1 k d (le_of_suc-le-suc within) is
 
 -- one more vote, of a name that has none
-pub EachNameOnce_push : (xs : List Vote) (x : Vote) → EachNameOnce xs → maps.get (votes_in xs) x.name ≡ None → EachNameOnce (xs ++ x ∷ [])
-EachNameOnce_push xs x once none = all_pairs_push (λ (v : Vote) (w : Vote). v.name ≢ w.name) xs x once (apart xs x.name (has_name xs x.name ∙ ap is_some none))
+pub EachNameOnce_push : (xs : List Vote) (x : Vote) → EachNameOnce xs → maps.get (votes_in xs) x.name ≡ None
+    → EachNameOnce (xs ++ x ∷ [])
+EachNameOnce_push xs x once none =
+    all_pairs_push (λ (v : Vote) (w : Vote). v.name ≢ w.name) xs x once (apart xs x.name (has_name xs x.name ∙ ap is_some none))
 
 EachNameOnce_rest : (x : Vote) (xs : List Vote) → EachNameOnce (x ∷ xs) → EachNameOnce xs
 EachNameOnce_rest x xs once i j d before within = once (suc i) (suc j) d (suc-le-suc before) (suc-le-suc within)
 
-nobody : (xs : List Vote) (q : ℕ) → ((k : ℕ) (d : Vote) → k < length xs → q ≡ (get_or xs k d).name → ⊥) → maps.find nat_cmp q (map entry_of xs) ≡ None
+nobody : (xs : List Vote) (q : ℕ) → ((k : ℕ) (d : Vote) → k < length xs → q ≡ (get_or xs k d).name → ⊥)
+    → maps.find nat_cmp q (map entry_of xs) ≡ None
 nobody [] q each = refl
 nobody (x ∷ xs) q each =
     ap (λ b. cond b (Some x.command) (maps.find nat_cmp q (map entry_of xs))) (unsigned_tied q x.name ∙ ne_eqb q x.name (each zero x (suc-le-suc zero-le)))
     ∙ nobody xs q (λ k d within. each (suc k) d (suc-le-suc within))
 
 first_is_new : (x : Vote) (xs : List Vote) → EachNameOnce (x ∷ xs) → maps.get (votes_in xs) x.name ≡ None
-first_is_new x xs once = get-votes_in xs x.name ∙ nobody xs x.name (λ k d within. once zero (suc k) d (suc-le-suc zero-le) (suc-le-suc within))
+first_is_new x xs once =
+    get-votes_in xs x.name ∙ nobody xs x.name (λ k d within. once zero (suc k) d (suc-le-suc zero-le) (suc-le-suc within))
 
-pub votes_in_push : (xs : List Vote) (x : Vote) → maps.get (votes_in xs) x.name ≡ None → votes_in (xs ++ x ∷ []) ≡ maps.insert (votes_in xs) x.name x.command
+pub votes_in_push : (xs : List Vote) (x : Vote) → maps.get (votes_in xs) x.name ≡ None
+    → votes_in (xs ++ x ∷ []) ≡ maps.insert (votes_in xs) x.name x.command
 unfolding votes_in
 votes_in_push xs x none =
     ap maps.from_entries (map-append entry_of xs (x ∷ []))
@@ -159,7 +173,8 @@ unfolding votes_in
 votes_in-cons x xs = refl
 
 -- as many votes are for c as nodes have it
-pub count-supporters_in : (c : Command) (xs : List Vote) → EachNameOnce xs → count_by (λ (v : Vote). same_command c v.command) xs ≡ sets.len (supporters_in c (votes_in xs))
+pub count-supporters_in : (c : Command) (xs : List Vote) → EachNameOnce xs
+    → count_by (λ (v : Vote). same_command c v.command) xs ≡ sets.len (supporters_in c (votes_in xs))
 count-supporters_in c [] once =
     sym (ap (λ v. sets.len (supporters_in c v)) votes_in-empty ∙ ap sets.len (supporters_in-empty c) ∙ sets.len-empty nat_cmp)
 count-supporters_in c (x ∷ xs) once =

@@ -64,7 +64,8 @@ readied_same s ts t echoes readies =
     (λ none. may_ready-alike s ts (ts ++ t ∷ []) t.command echoes readies ∙ not_ready s ts none t.command)
 
 -- where no READY for the command is new, nothing is delivered
-delivered_same : (s : Counts) (ts : List Take) (t : Take) → supporters Ready t.command (ts ++ t ∷ []) ≡ supporters Ready t.command ts →
+delivered_same : (s : Counts) (ts : List Take) (t : Take)
+    → supporters Ready t.command (ts ++ t ∷ []) ≡ supporters Ready t.command ts →
     delivered s (ts ++ t ∷ []) ≡ delivered s ts
 delivered_same s ts t readies =
     delivers_its_own s ts t
@@ -74,15 +75,18 @@ delivered_same s ts t readies =
 abbrev SameVotes : Kind → List Take → List Take → Type 0
 SameVotes kind ts us = (q : ℕ) → vote kind q us ≡ vote kind q ts
 
-supporters_same : (kind : Kind) (c : Command) (ts us : List Take) → SameVotes kind ts us → supporters kind c us ≡ supporters kind c ts
+supporters_same : (kind : Kind) (c : Command) (ts us : List Take) → SameVotes kind ts us
+    → supporters kind c us ≡ supporters kind c ts
 supporters_same kind c ts us same = supporters_alike kind c ts us (λ q. ap (is_for c) (same q))
 
 -- only a READY can deliver
-pub delivered_push-other : (s : Counts) (ts : List Take) (t : Take) → same_kind Ready t.kind ≡ false → delivered s (ts ++ t ∷ []) ≡ delivered s ts
+pub delivered_push-other : (s : Counts) (ts : List Take) (t : Take) → same_kind Ready t.kind ≡ false
+    → delivered s (ts ++ t ∷ []) ≡ delivered s ts
 delivered_push-other s ts t other =
     delivered_same s ts t (supporters_same Ready t.command ts (ts ++ t ∷ []) (λ q. vote_push-other Ready q ts t other))
 
-state_by : (s : Counts) (ts us : List Take) → echoed us ≡ echoed ts → readied s us ≡ readied s ts → delivered s us ≡ delivered s ts →
+state_by : (s : Counts) (ts us : List Take) → echoed us ≡ echoed ts → readied s us ≡ readied s ts
+    → delivered s us ≡ delivered s ts →
     SameVotes Echo ts us → SameVotes Ready ts us → state s us ≡ state s ts
 unfolding state
 state_by s ts us ee er ed ev rv = λ i.
@@ -148,7 +152,8 @@ readied_late s ts t None is some = absurd cc
 readied_late s ts t (Some c) is some = readies_its_own s ts t ∙ some_stays (readied s ts) _ (delivered_is_ready s ts c is)
 
 -- what is delivered stays
-delivered_late : (s : Counts) (ts : List Take) (t : Take) → is_some (delivered s ts) ≡ true → delivered s (ts ++ t ∷ []) ≡ delivered s ts
+delivered_late : (s : Counts) (ts : List Take) (t : Take) → is_some (delivered s ts) ≡ true
+    → delivered s (ts ++ t ∷ []) ≡ delivered s ts
 delivered_late s ts t some = delivers_its_own s ts t ∙ some_stays (delivered s ts) _ some
 
 first_echo : (s : Counts) (ts : List Take) (p : ℕ) (c : Command) → vote Echo p ts ≡ None →
@@ -175,7 +180,8 @@ first_echo s ts p c none =
 
 echo_by : (s : Counts) (ts : List Take) (p : ℕ) (c : Command) (b : Bool) → sets.contains (voters Echo ts) p ≡ b →
     state s (ts ++ (record { kind = Echo; from = p; command = c }) ∷ []) ≡ cond b (state s ts) (after_echo s (state s ts) p c (delivered s ts))
-echo_by s ts p c true is = push_again s ts (record { kind = Echo; from = p; command = c }) refl (sym (contains-voters Echo ts p) ∙ is)
+echo_by s ts p c true is =
+    push_again s ts (record { kind = Echo; from = p; command = c }) refl (sym (contains-voters Echo ts p) ∙ is)
 echo_by s ts p c false is = first_echo s ts p c (none_of (vote Echo p ts) (sym (contains-voters Echo ts p) ∙ is))
 
 -- A READY.
@@ -207,7 +213,8 @@ first_ready s ts p c none =
 
 ready_by : (s : Counts) (ts : List Take) (p : ℕ) (c : Command) (b : Bool) → sets.contains (voters Ready ts) p ≡ b →
     state s (ts ++ (record { kind = Ready; from = p; command = c }) ∷ []) ≡ cond b (state s ts) (after_ready s (state s ts) p c (delivered s ts))
-ready_by s ts p c true is = push_again s ts (record { kind = Ready; from = p; command = c }) refl (sym (contains-voters Ready ts p) ∙ is)
+ready_by s ts p c true is =
+    push_again s ts (record { kind = Ready; from = p; command = c }) refl (sym (contains-voters Ready ts p) ∙ is)
 ready_by s ts p c false is = first_ready s ts p c (none_of (vote Ready p ts) (sym (contains-voters Ready ts p) ∙ is))
 
 -- Any message.
@@ -225,16 +232,20 @@ unfolding after
 state_push s ts t = push_by s ts t.kind t.from t.command
 
 -- a message that its node sent before, of that kind, changes nothing
-send_voted : (p : ℕ) (ts : List Take) → is_some (option_map command_of (find (is_vote_of Send p) ts)) ≡ true → is_some (option_map command_of (find (is_of_kind Send) ts)) ≡ true
+send_voted : (p : ℕ) (ts : List Take) → is_some (option_map command_of (find (is_vote_of Send p) ts)) ≡ true
+    → is_some (option_map command_of (find (is_of_kind Send) ts)) ≡ true
 send_voted p [] is = is
-send_voted p (t ∷ ts) is = send_voted_by (same_kind Send t.kind) (p == t.from) t (find (is_vote_of Send p) ts) (find (is_of_kind Send) ts) (send_voted p ts) is
+send_voted p (t ∷ ts) is =
+    send_voted_by (same_kind Send t.kind) (p == t.from) t (find (is_vote_of Send p) ts) (find (is_of_kind Send) ts) (send_voted p ts) is
   where
-    send_voted_by : (a b : Bool) (t : Take) (x y : Option Take) → (is_some (option_map command_of x) ≡ true → is_some (option_map command_of y) ≡ true) →
+    send_voted_by : (a b : Bool) (t : Take) (x y : Option Take)
+        → (is_some (option_map command_of x) ≡ true → is_some (option_map command_of y) ≡ true) →
         is_some (option_map command_of (cond (a && b) (Some t) x)) ≡ true → is_some (option_map command_of (cond a (Some t) y)) ≡ true
     send_voted_by true b t x y later is = refl
     send_voted_by false b t x y later is = later is
 
-pub voted : (s : Counts) (ts : List Take) (kind : Kind) (p : ℕ) → is_some (vote kind p ts) ≡ true → has_voted (state s ts) kind p ≡ true
+pub voted : (s : Counts) (ts : List Take) (kind : Kind) (p : ℕ) → is_some (vote kind p ts) ≡ true
+    → has_voted (state s ts) kind p ≡ true
 unfolding state vote echoed
 voted s ts Send p is = send_voted p ts is
 voted s ts Echo p is = contains-voters Echo ts p ∙ is
@@ -247,5 +258,6 @@ repeat_changes_nothing s ts t again =
     let same : (kind : Kind) → SameVotes kind ts us = λ kind q. vote_push-again kind q ts t again in (
       same,
       λ kind c. supporters_same kind c ts us (same kind),
-      state_push s ts t ∙ ap (λ b. cond b (state s ts) (after_kind s (state s ts) t.kind t.from t.command)) (voted s ts t.kind t.from again),
+      state_push s ts t
+          ∙ ap (λ b. cond b (state s ts) (after_kind s (state s ts) t.kind t.from t.command)) (voted s ts t.kind t.from again),
     )

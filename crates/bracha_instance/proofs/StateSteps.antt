@@ -20,9 +20,11 @@ pub echo_step : (s : Counts) (p : ℕ) (c : Command) (e r d : Option Command) (e
     (d ≡ None → r' ≡ option_or r (only_if (ready_now s c (maps.insert echoes p c) readies) c)) →
     (is_some d ≡ true → r' ≡ r) →
     state_with e' r' d' echoers' readiers' echoes' readies' ≡ after_echo s (state_with e r d echoers readiers echoes readies) p c d
-echo_step s p c e r None echoers readiers echoes readies e' r' d' echoers' readiers' echoes' readies' ee ed ep rp ev rv early late = λ i.
+echo_step s p c e r None echoers readiers echoes readies e' r' d' echoers' readiers' echoes' readies' ee ed ep rp ev rv early late =
+    λ i.
     record { echoed = ee i; readied = early refl i; delivered = ed i; echoers = ep i; readiers = rp i; echo_votes = kept (ed i) (ev i); ready_votes = kept (ed i) (rv i) }
-echo_step s p c e r (Some x) echoers readiers echoes readies e' r' d' echoers' readiers' echoes' readies' ee ed ep rp ev rv early late = λ i.
+echo_step s p c e r (Some x) echoers readiers echoes readies e' r' d' echoers' readiers' echoes' readies' ee ed ep rp ev rv early late =
+    λ i.
     record { echoed = ee i; readied = late refl i; delivered = ed i; echoers = ep i; readiers = rp i; echo_votes = kept (ed i) (ev i); ready_votes = kept (ed i) (rv i) }
 
 pub ready_step : (s : Counts) (p : ℕ) (c : Command) (e r d : Option Command) (echoers readiers : Names) (echoes readies : Votes)
@@ -32,9 +34,11 @@ pub ready_step : (s : Counts) (p : ℕ) (c : Command) (e r d : Option Command) (
     (d ≡ None → d' ≡ only_if (deliver_now s c (maps.insert readies p c)) c) →
     (is_some d ≡ true → r' ≡ r) → (is_some d ≡ true → d' ≡ d) →
     state_with e' r' d' echoers' readiers' echoes' readies' ≡ after_ready s (state_with e r d echoers readiers echoes readies) p c d
-ready_step s p c e r None echoers readiers echoes readies e' r' d' echoers' readiers' echoes' readies' ee ep rp ev rv early_r early_d late_r late_d = λ i.
+ready_step s p c e r None echoers readiers echoes readies e' r' d' echoers' readiers' echoes' readies' ee ep rp ev rv early_r early_d late_r late_d =
+    λ i.
     record { echoed = ee i; readied = early_r refl i; delivered = early_d refl i; echoers = ep i; readiers = rp i; echo_votes = kept (early_d refl i) (ev i); ready_votes = kept (early_d refl i) (rv i) }
-ready_step s p c e r (Some x) echoers readiers echoes readies e' r' d' echoers' readiers' echoes' readies' ee ep rp ev rv early_r early_d late_r late_d = λ i.
+ready_step s p c e r (Some x) echoers readiers echoes readies e' r' d' echoers' readiers' echoes' readies' ee ep rp ev rv early_r early_d late_r late_d =
+    λ i.
     record { echoed = ee i; readied = late_r refl i; delivered = late_d refl i; echoers = ep i; readiers = rp i; echo_votes = kept (late_d refl i) (ev i); ready_votes = kept (late_d refl i) (rv i) }
 
 -- the command of the first SEND is kept

@@ -26,7 +26,8 @@ pub or_nothing : (o : Option Command) → option_or o None ≡ o
 or_nothing None = refl
 or_nothing (Some c) = refl
 
-pub map_or : (a b : Option Take) → option_map command_of (option_or a b) ≡ option_or (option_map command_of a) (option_map command_of b)
+pub map_or : (a b : Option Take)
+    → option_map command_of (option_or a b) ≡ option_or (option_map command_of a) (option_map command_of b)
 map_or None b = refl
 map_or (Some t) b = refl
 
@@ -65,7 +66,8 @@ pub some_stays : (o more : Option Command) → is_some o ≡ true → option_or 
 some_stays None more e = cc
 some_stays (Some c) more e = refl
 
-again_by : (kind : Kind) (name : ℕ) (ts : List Take) (t : Take) → is_some (vote t.kind t.from ts) ≡ true → (b : Bool) → is_vote_of kind name t ≡ b →
+again_by : (kind : Kind) (name : ℕ) (ts : List Take) (t : Take) → is_some (vote t.kind t.from ts) ≡ true → (b : Bool)
+    → is_vote_of kind name t ≡ b →
     option_or (vote kind name ts) (cond b (Some t.command) None) ≡ vote kind name ts
 again_by kind name ts t voted false is = or_nothing (vote kind name ts)
 again_by kind name ts t voted true is =
@@ -82,7 +84,8 @@ or_is : (o more : Option Command) (c : Command) → o ≡ Some c → option_or o
 or_is o more c e = ap (λ x. option_or x more) e
 
 -- a vote stays
-pub vote_stays : (kind : Kind) (name : ℕ) (before later : List Take) (c : Command) → vote kind name before ≡ Some c → vote kind name (before ++ later) ≡ Some c
+pub vote_stays : (kind : Kind) (name : ℕ) (before later : List Take) (c : Command) → vote kind name before ≡ Some c
+    → vote kind name (before ++ later) ≡ Some c
 unfolding vote
 vote_stays kind name before later c e =
     ap (option_map command_of) (find-append (is_vote_of kind name) before later)
@@ -105,7 +108,8 @@ voter_by kind q (t ∷ ts) =
 
 pub contains-voters : (kind : Kind) (ts : List Take) (q : ℕ) → sets.contains (voters kind ts) q ≡ is_some (vote kind q ts)
 unfolding voters vote
-contains-voters kind ts q = sets.contains-from_list nat_cmp_total (map from_of (filter (is_of_kind kind) ts)) q ∙ voter_by kind q ts
+contains-voters kind ts q =
+    sets.contains-from_list nat_cmp_total (map from_of (filter (is_of_kind kind) ts)) q ∙ voter_by kind q ts
 
 abbrev pair_of : Take → ℕ × Command
 pair_of t = (t.from, t.command)
@@ -130,19 +134,24 @@ some_and : (c : Command) (o : Option Command) → (is_some o && is_for c o) ≡ 
 some_and c None = refl
 some_and c (Some d) = refl
 
-pub contains-supporters : (kind : Kind) (c : Command) (ts : List Take) (q : ℕ) → sets.contains (supporters kind c ts) q ≡ is_for c (vote kind q ts)
+pub contains-supporters : (kind : Kind) (c : Command) (ts : List Take) (q : ℕ)
+    → sets.contains (supporters kind c ts) q ≡ is_for c (vote kind q ts)
 unfolding supporters
 contains-supporters kind c ts q =
     sets.contains-retain (voters kind ts) (λ name. is_for c (vote kind name ts)) q (λ x tie. ap (λ n. is_for c (vote kind n ts)) (sym (maps.nat_cmp-IsAntisymmetric q x tie)))
     ∙ ap (λ b. b && is_for c (vote kind q ts)) (contains-voters kind ts q)
     ∙ some_and c (vote kind q ts)
 
-pub supporters_alike : (kind : Kind) (c : Command) (ts us : List Take) → ((q : ℕ) → is_for c (vote kind q us) ≡ is_for c (vote kind q ts)) →
+pub supporters_alike : (kind : Kind) (c : Command) (ts us : List Take)
+    → ((q : ℕ) → is_for c (vote kind q us) ≡ is_for c (vote kind q ts)) →
     supporters kind c us ≡ supporters kind c ts
-supporters_alike kind c ts us alike = same_names _ _ (λ q. contains-supporters kind c us q ∙ alike q ∙ sym (contains-supporters kind c ts q))
+supporters_alike kind c ts us alike =
+    same_names _ _ (λ q. contains-supporters kind c us q ∙ alike q ∙ sym (contains-supporters kind c ts q))
 
-pub voters_alike : (kind : Kind) (ts us : List Take) → ((q : ℕ) → vote kind q us ≡ vote kind q ts) → voters kind us ≡ voters kind ts
-voters_alike kind ts us alike = same_names _ _ (λ q. contains-voters kind us q ∙ ap is_some (alike q) ∙ sym (contains-voters kind ts q))
+pub voters_alike : (kind : Kind) (ts us : List Take) → ((q : ℕ) → vote kind q us ≡ vote kind q ts)
+    → voters kind us ≡ voters kind ts
+voters_alike kind ts us alike =
+    same_names _ _ (λ q. contains-voters kind us q ∙ ap is_some (alike q) ∙ sym (contains-voters kind ts q))
 
 pub votes_alike : (kind : Kind) (ts us : List Take) → ((q : ℕ) → vote kind q us ≡ vote kind q ts) → votes kind us ≡ votes kind ts
 votes_alike kind ts us alike = same_votes _ _ (λ q. get-votes kind us q ∙ alike q ∙ sym (get-votes kind ts q))
@@ -157,7 +166,8 @@ names_of-votes kind ts = same_names _ _ (λ q.
 
 -- A message for another command.
 
-for_other_by : (c : Command) (o : Option Command) (d : Command) (b : Bool) → same_command c d ≡ false → is_for c (option_or o (cond b (Some d) None)) ≡ is_for c o
+for_other_by : (c : Command) (o : Option Command) (d : Command) (b : Bool) → same_command c d ≡ false
+    → is_for c (option_or o (cond b (Some d) None)) ≡ is_for c o
 for_other_by c None d true other = other
 for_other_by c None d false other = refl
 for_other_by c (Some e) d b other = refl
@@ -175,10 +185,12 @@ own t q = ap (λ b. b && (q == t.from)) (same_kind-refl t.kind)
 
 first_by : (kind : Kind) (ts : List Take) (t : Take) (q : ℕ) → vote kind t.from ts ≡ None → (b : Bool) → (q == t.from) ≡ b →
     option_or (vote kind q ts) (cond b (Some t.command) None) ≡ cond b (Some t.command) (vote kind q ts)
-first_by kind ts t q none true is = ap (λ o. option_or o (Some t.command)) (ap (λ n. vote kind n ts) (eqb-true q t.from is) ∙ none)
+first_by kind ts t q none true is =
+    ap (λ o. option_or o (Some t.command)) (ap (λ n. vote kind n ts) (eqb-true q t.from is) ∙ none)
 first_by kind ts t q none false is = or_nothing (vote kind q ts)
 
-pub votes_push-first : (ts : List Take) (t : Take) → vote t.kind t.from ts ≡ None → votes t.kind (ts ++ t ∷ []) ≡ maps.insert (votes t.kind ts) t.from t.command
+pub votes_push-first : (ts : List Take) (t : Take) → vote t.kind t.from ts ≡ None
+    → votes t.kind (ts ++ t ∷ []) ≡ maps.insert (votes t.kind ts) t.from t.command
 votes_push-first ts t none = same_votes _ _ (λ q.
     get-votes t.kind (ts ++ t ∷ []) q
     ∙ vote_push t.kind q ts t
@@ -212,12 +224,14 @@ nobody_by kind c q (t ∷ ts) none =
       | false ↦ nobody_by kind c q ts parts.1
     ]
   where
-    not_first : (c d : Command) (rest : Option Command) (b : Bool) → same_command c d ≡ b → cond b (Some d) rest ≡ None → (same_command c d ≡ false) × (rest ≡ None)
+    not_first : (c d : Command) (rest : Option Command) (b : Bool) → same_command c d ≡ b → cond b (Some d) rest ≡ None
+        → (same_command c d ≡ false) × (rest ≡ None)
     not_first c d rest true is e = absurd cc
     not_first c d rest false is e = (is, e)
 
 -- a command that no message is for has no supporters
-pub supporters-nobody : (kind : Kind) (c : Command) (ts : List Take) → find (same_command c) (map command_of ts) ≡ None → supporters kind c ts ≡ sets.empty
+pub supporters-nobody : (kind : Kind) (c : Command) (ts : List Take) → find (same_command c) (map command_of ts) ≡ None
+    → supporters kind c ts ≡ sets.empty
 unfolding vote
 supporters-nobody kind c ts none = same_names _ _ (λ q.
     contains-supporters kind c ts q ∙ nobody_by kind c q ts none ∙ sym (sets.contains-empty nat_cmp q))

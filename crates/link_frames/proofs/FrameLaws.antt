@@ -27,16 +27,20 @@ sealed_is_opened a b cluster p linked in_cluster packet from to owner =
     })
 
 pub one_frame : OneFrame
-one_frame ring cluster xs ys p fits also e d = (open_takes ring cluster xs p fits e).frame ∙ sym (open_takes ring cluster ys p also d).frame
+one_frame ring cluster xs ys p fits also e d =
+    (open_takes ring cluster xs p fits e).frame ∙ sym (open_takes ring cluster ys p also d).frame
 
 pub length-frame : FrameLength
 unfolding frame fields_of
-length-frame key cluster p = omega (arith, length-append (fields_of cluster p) (hmac key (fields_of cluster p)), length-append (header cluster p) (bytes_of p.command), length-bytes_of p.command, length-hmac key (fields_of cluster p))
+length-frame key cluster p =
+    omega (arith, length-append (fields_of cluster p) (hmac key (fields_of cluster p)), length-append (header cluster p) (bytes_of p.command), length-bytes_of p.command, length-hmac key (fields_of cluster p))
 
 made : ℕ → ℕ → Kind → ℕ → ℕ → Command → PacketValue
-made from to kind owner place command = record { from = from; to = to; kind = kind; owner = owner; place = place; command = command }
+made from to kind owner place command =
+    record { from = from; to = to; kind = kind; owner = owner; place = place; command = command }
 
-same_made : {a b : ℕ} {c d : ℕ} {k l : Kind} {o u : ℕ} {s t : ℕ} {x y : Command} → a ≡ b → c ≡ d → k ≡ l → o ≡ u → s ≡ t → x ≡ y → made a c k o s x ≡ made b d l u t y
+same_made : {a b : ℕ} {c d : ℕ} {k l : Kind} {o u : ℕ} {s t : ℕ} {x y : Command} → a ≡ b → c ≡ d → k ≡ l → o ≡ u → s ≡ t → x ≡ y
+    → made a c k o s x ≡ made b d l u t y
 same_made e1 e2 e3 e4 e5 e6 = cc
 
 pub frames_differ : FramesDiffer

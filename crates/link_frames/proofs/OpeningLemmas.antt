@@ -38,8 +38,10 @@ both p q = cc
 -- ---- the fields
 
 -- bytes with a packet's fields begin with them
-fields_are : (cluster nodes sender receiver : ℕ) (bytes : List ℕ) (p : PacketValue) → IsBytes bytes → length bytes ≡ 52 → get_or bytes 0 0 ≡ 1 → from_be_bytes w32 (part 1 4 bytes) ≡ cluster
-    → get_or bytes 5 0 ≡ sender → get_or bytes 6 0 ≡ receiver → HasFields nodes sender receiver bytes p → part 0 20 bytes ≡ fields_of cluster p
+fields_are : (cluster nodes sender receiver : ℕ) (bytes : List ℕ) (p : PacketValue) → IsBytes bytes → length bytes ≡ 52
+    → get_or bytes 0 0 ≡ 1 → from_be_bytes w32 (part 1 4 bytes) ≡ cluster
+    → get_or bytes 5 0 ≡ sender → get_or bytes 6 0 ≡ receiver → HasFields nodes sender receiver bytes p
+    → part 0 20 bytes ≡ fields_of cluster p
 unfolding fields_of
 fields_are cluster nodes sender receiver bytes p fits len version cluster_is from to h =
     let four : to_be_bytes w32 cluster ≡ part 1 4 bytes = be_bytes_4 (part 1 4 bytes) cluster (length-part 1 4 bytes (omega arith)) (IsBytes-part 1 4 bytes fits) (sym cluster_is) in
@@ -56,7 +58,8 @@ fields_are cluster nodes sender receiver bytes p fits len version cluster_is fro
 
 -- ---- both directions
 
-pub open_takes : (ring : KeyRing) (cluster : ℕ) (bytes : List ℕ) (p : PacketValue) → IsBytes bytes → open_due ring cluster bytes ≡ Ok p → IsFrameFor ring cluster bytes p
+pub open_takes : (ring : KeyRing) (cluster : ℕ) (bytes : List ℕ) (p : PacketValue) → IsBytes bytes
+    → open_due ring cluster bytes ≡ Ok p → IsFrameFor ring cluster bytes p
 unfolding open_due frame
 open_takes ring cluster bytes p fits e =
     let a = demand_ok _ _ _ _ e in
@@ -84,8 +87,10 @@ open_takes ring cluster bytes p fits e =
     }
 
 -- the fields of a packet to the ring's node and their tag
-opens : (ring : KeyRing) (cluster : ℕ) (p : PacketValue) (command tag : List ℕ) → length command ≡ 9 → length tag ≡ 32 → command_in command ≡ Some p.command
-    → tag ≡ hmac (key_with ring p.from) (header cluster p ++ command) → cluster < 2 ^ 32 → p.place < 2 ^ 16 → SentByOwner p → p.to ≡ ring.me → p.from < ring.sizes.nodes → p.owner < ring.sizes.nodes
+opens : (ring : KeyRing) (cluster : ℕ) (p : PacketValue) (command tag : List ℕ) → length command ≡ 9 → length tag ≡ 32
+    → command_in command ≡ Some p.command
+    → tag ≡ hmac (key_with ring p.from) (header cluster p ++ command) → cluster < 2 ^ 32 → p.place < 2 ^ 16 → SentByOwner p
+    → p.to ≡ ring.me → p.from < ring.sizes.nodes → p.owner < ring.sizes.nodes
     → open_due ring cluster (header cluster p ++ (command ++ tag)) ≡ Ok p
 unfolding open_due
 opens ring cluster p command tag nine long is_command is_tag in_cluster in_place by_owner to from owner =
@@ -113,7 +118,8 @@ opens ring cluster p command tag nine long is_command is_tag in_cluster in_place
     (demand_again _ _ _ _ ((bytes_eq-Decides _ _).1 right_tag)
     (packet_again ring.sizes.nodes p.from ring.me bytes p fields))))))
 
-pub open_again : (ring : KeyRing) (cluster : ℕ) (bytes : List ℕ) (p : PacketValue) → cluster < 2 ^ 32 → IsFrameFor ring cluster bytes p → open_due ring cluster bytes ≡ Ok p
+pub open_again : (ring : KeyRing) (cluster : ℕ) (bytes : List ℕ) (p : PacketValue) → cluster < 2 ^ 32
+    → IsFrameFor ring cluster bytes p → open_due ring cluster bytes ≡ Ok p
 unfolding frame fields_of
 open_again ring cluster bytes p in_cluster h =
     let command = bytes_of p.command in

@@ -14,17 +14,20 @@ use Rattle.link_frames.specs.declared.packet.Message.{Message}
 
 -- ---- steps
 
-pub demand_ok : {X : Type 0} (test : Bool) (fault : LinkFault) (rest : Result X LinkFault) (x : X) → demand test fault rest ≡ Ok x → (test ≡ true) × (rest ≡ Ok x)
+pub demand_ok : {X : Type 0} (test : Bool) (fault : LinkFault) (rest : Result X LinkFault) (x : X)
+    → demand test fault rest ≡ Ok x → (test ≡ true) × (rest ≡ Ok x)
 unfolding demand
 demand_ok true fault rest x e = (refl, e)
 demand_ok false fault rest x e = absurd cc
 
-pub demand_again : {X : Type 0} (test : Bool) (fault : LinkFault) (rest y : Result X LinkFault) → test ≡ true → rest ≡ y → demand test fault rest ≡ y
+pub demand_again : {X : Type 0} (test : Bool) (fault : LinkFault) (rest y : Result X LinkFault) → test ≡ true → rest ≡ y
+    → demand test fault rest ≡ y
 unfolding demand
 demand_again true fault rest y holds e = e
 demand_again false fault rest y holds e = absurd cc
 
-pub some_ok : {X Y : Type 0} (o : Option X) (fault : LinkFault) (rest : X → Result Y LinkFault) (y : Y) → with_some o fault rest ≡ Ok y → (x : X) × (o ≡ Some x) × (rest x ≡ Ok y)
+pub some_ok : {X Y : Type 0} (o : Option X) (fault : LinkFault) (rest : X → Result Y LinkFault) (y : Y)
+    → with_some o fault rest ≡ Ok y → (x : X) × (o ≡ Some x) × (rest x ≡ Ok y)
 unfolding with_some
 some_ok None fault rest y e = absurd cc
 some_ok (Some x) fault rest y e = (x, refl, e)
@@ -78,11 +81,13 @@ own Send b h = ap not (h refl)
 own Echo b h = refl
 own Ready b h = refl
 
-due_takes : (from to : ℕ) (m : Message) (p : PacketValue) → packet_due from to m ≡ Some p → (packet_of from to m ≡ p) × SentByOwner p
+due_takes : (from to : ℕ) (m : Message) (p : PacketValue) → packet_due from to m ≡ Some p
+    → (packet_of from to m ≡ p) × SentByOwner p
 unfolding relayed
 due_takes from to m p e = go (relayed m.kind (eqb from m.owner)) refl e
   where
-    go : (b : Bool) → relayed m.kind (eqb from m.owner) ≡ b → cond b None (Some (packet_of from to m)) ≡ Some p → (packet_of from to m ≡ p) × SentByOwner p
+    go : (b : Bool) → relayed m.kind (eqb from m.owner) ≡ b → cond b None (Some (packet_of from to m)) ≡ Some p
+        → (packet_of from to m ≡ p) × SentByOwner p
     go true t e = absurd cc
     go false t e =
         let is : packet_of from to m ≡ p = cc in
@@ -109,7 +114,8 @@ pub record HasFields (nodes sender receiver : ℕ) (bytes : List ℕ) (p : Packe
   pub command : command_in (part 11 9 bytes) ≡ Some p.command
   pub by_owner : SentByOwner p
 
-pub packet_takes : (nodes from to : ℕ) (bytes : List ℕ) (p : PacketValue) → packet_in nodes from to bytes ≡ Ok p → HasFields nodes from to bytes p
+pub packet_takes : (nodes from to : ℕ) (bytes : List ℕ) (p : PacketValue) → packet_in nodes from to bytes ≡ Ok p
+    → HasFields nodes from to bytes p
 unfolding packet_in
 packet_takes nodes from to bytes p e =
     let kind = some_ok _ _ _ _ e in
@@ -129,7 +135,8 @@ packet_takes nodes from to bytes p e =
       by_owner = is.1;
     }
 
-pub packet_again : (nodes from to : ℕ) (bytes : List ℕ) (p : PacketValue) → HasFields nodes from to bytes p → packet_in nodes from to bytes ≡ Ok p
+pub packet_again : (nodes from to : ℕ) (bytes : List ℕ) (p : PacketValue) → HasFields nodes from to bytes p
+    → packet_in nodes from to bytes ≡ Ok p
 unfolding packet_in
 packet_again nodes from to bytes p h =
     let message : Message = record { kind = p.kind; owner = get_or bytes 8 0; place = from_be_bytes w16 (part 9 2 bytes); command = p.command } in

@@ -14,14 +14,17 @@ or_zero x y e =
     (left, right)
 
 xor_zero : (x y : ℕ) → bit_xor x y ≡ 0 → x ≡ y
-xor_zero x y e = sym (xor_zero_r x) ∙ ap (λ n. bit_xor x n) (sym (xor_self y)) ∙ sym (xor_assoc x y y) ∙ ap (λ n. bit_xor n y) e ∙ xor_zero_l y
+xor_zero x y e =
+    sym (xor_zero_r x) ∙ ap (λ n. bit_xor x n) (sym (xor_self y)) ∙ sym (xor_assoc x y y) ∙ ap (λ n. bit_xor n y) e
+    ∙ xor_zero_l y
 
 -- the differences of so many bytes are none exactly where the bytes are the same
 pub record Compared (a b : List ℕ) (i differences : ℕ) : Type 0 where
   pub same : differences ≡ 0 → (k : ℕ) → k < i → get_or a k 0 ≡ get_or b k 0
   pub none : ((k : ℕ) → k < i → get_or a k 0 ≡ get_or b k 0) → differences ≡ 0
 
-pub Compared-more : (a b : List ℕ) (i differences : ℕ) → Compared a b i differences → Compared a b (i + 1) (bit_or differences (bit_xor (get_or a i 0) (get_or b i 0)))
+pub Compared-more : (a b : List ℕ) (i differences : ℕ) → Compared a b i differences
+    → Compared a b (i + 1) (bit_or differences (bit_xor (get_or a i 0) (get_or b i 0)))
 Compared-more a b i differences h = record {
   same = λ e. let parts = or_zero differences (bit_xor (get_or a i 0) (get_or b i 0)) e in below_more (λ k. get_or a k 0 ≡ get_or b k 0) i (h.same parts.0) (xor_zero _ _ parts.1);
   none = λ all.
@@ -30,7 +33,8 @@ Compared-more a b i differences h = record {
       ap (λ n. bit_or n (bit_xor (get_or a i 0) (get_or b i 0))) before ∙ or_zero_l _ ∙ here;
 }
 
-pub compared : (a b : List ℕ) (i differences : ℕ) → length a ≡ length b → length a ≡ i → Compared a b i differences → eqb differences 0 ≡ bytes_eq a b
+pub compared : (a b : List ℕ) (i differences : ℕ) → length a ≡ length b → length a ≡ i → Compared a b i differences
+    → eqb differences 0 ≡ bytes_eq a b
 compared a b i differences len end h = go (bytes_eq a b) refl
   where
     go : (r : Bool) → bytes_eq a b ≡ r → eqb differences 0 ≡ r

@@ -32,7 +32,8 @@ use Rattle.owner_streams.proofs.Taken.{takes_at-own, takes_at-other, echoed-none
 use Rattle.owner_streams.proofs.StreamLaws.{stream_is_exact_lem}
 
 -- what is delivered at a place is what the messages there deliver
-pub delivered_is : (s : Counts) (slot : Option State) (takes : List Take) → state_in s slot ≡ state s takes → delivered_in slot ≡ delivered s takes
+pub delivered_is : (s : Counts) (slot : Option State) (takes : List Take) → state_in s slot ≡ state s takes
+    → delivered_in slot ≡ delivered s takes
 unfolding state
 delivered_is s None takes e = sym (delivered-none s) ∙ ap (λ st. st.delivered) e
 delivered_is s (Some st) takes e = ap (λ st. st.delivered) e
@@ -93,7 +94,8 @@ states_push s before after packets p others one is place =
     one (takes_at p.owner p.place packets) (is p.place) ∙ ap (state s) (sym (takes_at-own packets p)) in
     subst (λ k. state_in s (slot_at after k) ≡ state s (takes_at p.owner k (packets ++ p ∷ []))) (sym e) here)
     (λ (apart : place ≢ p.place).
-    ap (state_in s) (others place apart) ∙ is place ∙ ap (state s) (sym (takes_at-other p.owner place packets p (not_there p.owner p.place place apart))))
+    ap (state_in s) (others place apart) ∙ is place
+    ∙ ap (state s) (sym (takes_at-other p.owner place packets p (not_there p.owner p.place place apart))))
     (cases_eq place p.place)
 
 -- what a packet does at its place keeps all that holds of the owner's stream
@@ -137,12 +139,14 @@ pub same_states : (s : Counts) (before after : List (Option State)) → ((place 
 same_states s before after same states place = let known = states place in (known.0, ap (state_in s) (same place) ∙ known.1)
 
 -- what holds at the packet's place and at all others holds at each
-pub at_each : (before after : List (Option State)) (here : ℕ) → ((place : ℕ) → place ≢ here → slot_at after place ≡ slot_at before place) →
+pub at_each : (before after : List (Option State)) (here : ℕ)
+    → ((place : ℕ) → place ≢ here → slot_at after place ≡ slot_at before place) →
     slot_at after here ≡ slot_at before here → (place : ℕ) → slot_at after place ≡ slot_at before place
 at_each before after here others same place =
     ⊎_elim (λ (e : place ≡ here). subst (λ k. slot_at after k ≡ slot_at before k) (sym e) same) (others place) (cases_eq place here)
 
-cons_from : (P : Take → Type 0) (o : Option Take) (ts : List Take) → All P (cons_option o []) → All P ts → All P (cons_option o ts)
+cons_from : (P : Take → Type 0) (o : Option Take) (ts : List Take) → All P (cons_option o []) → All P ts
+    → All P (cons_option o ts)
 cons_from P None ts one rest = rest
 cons_from P (Some t) ts one rest = All-cons P t ts (All-head P t [] one) rest
 
@@ -155,7 +159,8 @@ one_from owner place p sent true e =
     All-cons IsFromIt (take_of p) [] (λ k. sent k ∙ same) (All-nil IsFromIt)
 one_from owner place p sent false e = let IsFromIt : Take → Type 0 = λ u. u.kind ≡ Send → u.from ≡ owner in All-nil IsFromIt
 
-pub sends_are_from : (owner place : ℕ) (packets : List PacketValue) → SendsAreOwners packets → SendsAreFrom owner (takes_at owner place packets)
+pub sends_are_from : (owner place : ℕ) (packets : List PacketValue) → SendsAreOwners packets
+    → SendsAreFrom owner (takes_at owner place packets)
 unfolding takes_at
 sends_are_from owner place [] sent = let IsFromIt : Take → Type 0 = λ u. u.kind ≡ Send → u.from ≡ owner in All-nil IsFromIt
 sends_are_from owner place (p ∷ packets) sent =
@@ -170,20 +175,24 @@ over : (b : Bool) {A : Type 0} (x y : A) → b ≡ false → cond b x y ≡ y
 over b x y e = ap (λ t. cond t x y) e
 
 -- a packet beyond the window is refused ..
-pub due_beyond : (s : Counts) (packets : List PacketValue) (p : PacketValue) (n : ℕ) → reach s p.owner packets ≡ n → n + window ≤ p.place →
+pub due_beyond : (s : Counts) (packets : List PacketValue) (p : PacketValue) (n : ℕ) → reach s p.owner packets ≡ n
+    → n + window ≤ p.place →
     step_due s packets p ≡ Err (Beyond p.place (n + window))
 unfolding step_due
 due_beyond s packets p n e h =
     let refused : nat_le (n + window) p.place ≡ true = grind (arith, nat_tests) in
-    ap (λ m. cond (nat_le (m + window) p.place) (Err (Beyond p.place (m + window))) (Ok (step_of s packets p))) e ∙ at_most _ _ _ refused
+    ap (λ m. cond (nat_le (m + window) p.place) (Err (Beyond p.place (m + window))) (Ok (step_of s packets p))) e
+    ∙ at_most _ _ _ refused
 
 -- .. and each other one is not
-pub due_within : (s : Counts) (packets : List PacketValue) (p : PacketValue) (n : ℕ) → reach s p.owner packets ≡ n → p.place < n + window →
+pub due_within : (s : Counts) (packets : List PacketValue) (p : PacketValue) (n : ℕ) → reach s p.owner packets ≡ n
+    → p.place < n + window →
     step_due s packets p ≡ Ok (step_of s packets p)
 unfolding step_due
 due_within s packets p n e h =
     let taken : nat_le (n + window) p.place ≡ false = grind (arith, nat_tests) in
-    ap (λ m. cond (nat_le (m + window) p.place) (Err (Beyond p.place (m + window))) (Ok (step_of s packets p))) e ∙ over _ _ _ taken
+    ap (λ m. cond (nat_le (m + window) p.place) (Err (Beyond p.place (m + window))) (Ok (step_of s packets p))) e
+    ∙ over _ _ _ taken
 
 -- the SENDs of a packet's instance are from its owner, that of the packet too
 pub one_sender : (packets : List PacketValue) (p : PacketValue) → SendsAreOwners packets → SentByOwner p →
@@ -231,7 +240,8 @@ idle_step_is s packets p n idle same f e =
     λ i. record { effect = idle i; broadcast = broadcast i; delivered = delivery i; from = f i; to = e i }
 
 -- what is delivered is among the places
-pub run_within : (places : List (Option State)) (n : ℕ) → ((place : ℕ) → place < n → IsSome (delivered_in (slot_at places place))) → n ≤ length places
+pub run_within : (places : List (Option State)) (n : ℕ)
+    → ((place : ℕ) → place < n → IsSome (delivered_in (slot_at places place))) → n ≤ length places
 run_within places n run =
     ⊎_elim
     (λ (past : length places < n).
@@ -239,30 +249,36 @@ run_within places n run =
     (λ (within : n ≤ length places). within)
     (cases_lt (length places) n)
 
-echo_is : (s : Counts) (slot : Option State) (takes : List Take) → state_in s slot ≡ state s takes → option_and_then (λ st. st.echoed) slot ≡ echoed takes
+echo_is : (s : Counts) (slot : Option State) (takes : List Take) → state_in s slot ≡ state s takes
+    → option_and_then (λ st. st.echoed) slot ≡ echoed takes
 unfolding state
 echo_is s None takes e = sym echoed-none ∙ ap (λ st. st.echoed) e
 echo_is s (Some st) takes e = ap (λ st. st.echoed) e
 
-ready_is : (s : Counts) (slot : Option State) (takes : List Take) → state_in s slot ≡ state s takes → option_and_then (λ st. st.readied) slot ≡ readied s takes
+ready_is : (s : Counts) (slot : Option State) (takes : List Take) → state_in s slot ≡ state s takes
+    → option_and_then (λ st. st.readied) slot ≡ readied s takes
 unfolding state
 ready_is s None takes e = sym (readied-none s) ∙ ap (λ st. st.readied) e
 ready_is s (Some st) takes e = ap (λ st. st.readied) e
 
 -- what was sent at a place is what the messages there make the node send
-pub again_is : (s : Counts) (owner place : ℕ) (slot : Option State) (packets : List PacketValue) → state_in s slot ≡ state s (takes_at owner place packets) →
+pub again_is : (s : Counts) (owner place : ℕ) (slot : Option State) (packets : List PacketValue)
+    → state_in s slot ≡ state s (takes_at owner place packets) →
     again_in slot ≡ again_due s owner place packets
 again_is s owner place slot packets e =
     let echo = echo_is s slot (takes_at owner place packets) e in
     let ready = ready_is s slot (takes_at owner place packets) e in
     λ i. record { echo = echo i; ready = ready i }
 
-pub reach_is_due : (s : Counts) (owner : ℕ) (a : OwnerStream) (packets : List PacketValue) → IsOwnerStream s a → AreStatesOf s owner a packets →
+pub reach_is_due : (s : Counts) (owner : ℕ) (a : OwnerStream) (packets : List PacketValue) → IsOwnerStream s a
+    → AreStatesOf s owner a packets →
     a.reach ≡ reach s owner packets
-reach_is_due s owner a packets kept is = sym (reach_is s owner a.places.items packets a.reach is.at_each_place kept.run kept.run_ends)
+reach_is_due s owner a packets kept is =
+    sym (reach_is s owner a.places.items packets a.reach is.at_each_place kept.run kept.run_ends)
 
 -- the command at a place before the reach is the stream's
-pub command_is_due : (s : Counts) (owner place : ℕ) (a : OwnerStream) (packets : List PacketValue) → IsOwnerStream s a → AreStatesOf s owner a packets →
+pub command_is_due : (s : Counts) (owner place : ℕ) (a : OwnerStream) (packets : List PacketValue) → IsOwnerStream s a
+    → AreStatesOf s owner a packets →
     command_in a place ≡ slice_get (stream s owner packets) place
 command_is_due s owner place a packets kept is =
     let end : a.reach ≡ reach s owner packets = reach_is_due s owner a packets kept is in
@@ -294,13 +310,15 @@ same_ok : {A B : Type 0} (x y : A) → ◌≡◌ {A = Result A B} (Ok x) (Ok y) 
 same_ok x y e = cc
 
 -- one that is idle changes nothing at its place
-pub look_idle : (a : OwnerStream) (p : PacketValue) → Ok Idle ≡ look_in a p → voted_in (slot_at a.places.items p.place) p.kind p.from ≡ true
+pub look_idle : (a : OwnerStream) (p : PacketValue) → Ok Idle ≡ look_in a p
+    → voted_in (slot_at a.places.items p.place) p.kind p.from ≡ true
 look_idle a p is =
     let within : p.place < a.reach + window = look_within a p Idle is in
     let test : nat_le (a.reach + window) p.place ≡ false = grind (arith, nat_tests) in
     idle_test _ (same_ok _ _ (is ∙ over _ _ _ test))
 
-pub voted_changes_nothing : (s : Counts) (slot : Option State) (t : Take) → voted_in slot t.kind t.from ≡ true → (takes : List Take) → state_in s slot ≡ state s takes →
+pub voted_changes_nothing : (s : Counts) (slot : Option State) (t : Take) → voted_in slot t.kind t.from ≡ true
+    → (takes : List Take) → state_in s slot ≡ state s takes →
     state_in s slot ≡ state s (takes ++ t ∷ [])
 unfolding after
 voted_changes_nothing s None t v takes is = absurd cc
@@ -308,7 +326,8 @@ voted_changes_nothing s (Some st) t v takes is =
     sym (ap (λ b. cond b st (after_kind s st t.kind t.from t.command)) v) ∙ ap (λ x. after s x t) is ∙ sym (state_push s takes t)
 
 -- the effect that was looked up is that of the step
-pub effect_is : (s : Counts) (packets : List PacketValue) (p : PacketValue) (e : Effect) → step_due s packets p ≡ Ok (step_of s packets p) →
+pub effect_is : (s : Counts) (packets : List PacketValue) (p : PacketValue) (e : Effect)
+    → step_due s packets p ≡ Ok (step_of s packets p) →
     Ok e ≡ effect_due (step_due s packets p) → effect_of (takes_at p.owner p.place packets) (take_of p) ≡ e
 effect_is s packets p e due is = sym (same_ok e _ (is ∙ ap effect_due due))
 
@@ -323,7 +342,8 @@ fresh_has_voted s Echo name = sets.contains-empty nat_cmp name
 fresh_has_voted s Ready name = sets.contains-empty nat_cmp name
 
 -- where no instance is, no node has voted
-pub none_voted : (s : Counts) (takes : List Take) (kind : Kind) (name : ℕ) → state s [] ≡ state s takes → false ≡ is_some (vote kind name takes)
+pub none_voted : (s : Counts) (takes : List Take) (kind : Kind) (name : ℕ) → state s [] ≡ state s takes
+    → false ≡ is_some (vote kind name takes)
 none_voted s takes kind name same =
     ⊎_elim
     (λ (yes_voted : is_some (vote kind name takes) ≡ true).

@@ -18,7 +18,8 @@ is_taken s slot now t u taken same e sent delivered takes is =
     let at_now : now ≡ state s takes = sym same ∙ is in
     subst (λ x. IsTaken s takes x taken) e record { broadcast = sent takes at_now; delivered = delivered takes at_now }
 
-pub is_taken_if_ok : (s : Counts) (slot : Option State) (now : State) (t u : Take) (r : Result Taken AllocError) → state_in s slot ≡ now → t ≡ u →
+pub is_taken_if_ok : (s : Counts) (slot : Option State) (now : State) (t u : Take) (r : Result Taken AllocError)
+    → state_in s slot ≡ now → t ≡ u →
     IfOk r (λ taken. (takes : List Take) → now ≡ state s takes → taken.broadcast ≡ newly_sent s takes (takes ++ t ∷ [])) →
     IfOk r (λ taken. (takes : List Take) → now ≡ state s takes → taken.delivered ≡ newly_delivered s takes (takes ++ t ∷ [])) →
     IfOk r (λ taken. (takes : List Take) → state_in s slot ≡ state s takes → IsTaken s takes u taken)

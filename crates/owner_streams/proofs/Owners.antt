@@ -24,7 +24,8 @@ seen s rows = record { sizes = s; owners = map instances_in rows }
 
 instances_are : (rows : List OwnerStream) (owner : ℕ) (row : OwnerStream) → slice_get rows owner ≡ Some row →
     unwrap_or (slice_get (map instances_in rows) owner) maps.empty ≡ instances_in row
-instances_are rows owner row e = ap (λ o. unwrap_or o maps.empty) (slice_get-map instances_in rows owner ∙ ap (option_map instances_in) e)
+instances_are rows owner row e =
+    ap (λ o. unwrap_or o maps.empty) (slice_get-map instances_in rows owner ∙ ap (option_map instances_in) e)
 
 -- the state at an owner's place is what the owner's stream holds there
 pub state_at_is : (s : Counts) (rows : List OwnerStream) (owner : ℕ) (row : OwnerStream) → slice_get rows owner ≡ Some row →
@@ -39,7 +40,8 @@ are_states_of s rows owner row e packets is = record {
   at_each_place = λ place. sym (state_at_is s rows owner row e place) ∙ is.at_each_place owner place;
 }
 
-there_now : (rows : List OwnerStream) (owner : ℕ) (row new : OwnerStream) → slice_get rows owner ≡ Some row → slice_get (slice_set rows owner new) owner ≡ Some new
+there_now : (rows : List OwnerStream) (owner : ℕ) (row new : OwnerStream) → slice_get rows owner ≡ Some row
+    → slice_get (slice_set rows owner new) owner ≡ Some new
 there_now rows owner row new e =
     let h : owner < length rows = slice_get_within rows owner row e in
     let k : owner < length (slice_set rows owner new) = omega (arith, length-set rows owner new) in
@@ -57,7 +59,8 @@ not_owners : (a b place k : ℕ) → b ≢ a → ((a == b) && (place == k)) ≡ 
 not_owners a b place k apart = let turned : a ≢ b = λ e. apart (sym e) in grind (arith, nat_tests)
 
 -- one owner's stream holds one more packet, and so do all together
-pub state_push : (s : Counts) (rows : List OwnerStream) (row new : OwnerStream) (p : PacketValue) → slice_get rows p.owner ≡ Some row →
+pub state_push : (s : Counts) (rows : List OwnerStream) (row new : OwnerStream) (p : PacketValue)
+    → slice_get rows p.owner ≡ Some row →
     (packets : List PacketValue) → IsStateOf (seen s rows) packets → AreStatesOf s p.owner new (packets ++ p ∷ []) →
     IsStateOf (seen s (slice_set rows p.owner new)) (packets ++ p ∷ [])
 state_push s rows row new p e packets is now = record {
@@ -68,12 +71,14 @@ state_push s rows row new p e packets is now = record {
       (state_at_is s (slice_set rows p.owner new) p.owner new (there_now rows p.owner row new e) place ∙ now.at_each_place place))
       (λ (apart : owner ≢ p.owner).
       ap (λ m. unwrap_or (maps.get m place) (state s [])) (other_instances rows p.owner owner new apart)
-      ∙ is.at_each_place owner place ∙ ap (state s) (sym (takes_at-other owner place packets p (not_owners p.owner owner p.place place apart))))
+      ∙ is.at_each_place owner place
+      ∙ ap (state s) (sym (takes_at-other owner place packets p (not_owners p.owner owner p.place place apart))))
       (cases_eq owner p.owner);
 }
 
 -- an owner's stream that holds the same changes nothing that contracts see
-pub same_seen : (s : Counts) (rows : List OwnerStream) (owner : ℕ) (row new : OwnerStream) → slice_get rows owner ≡ Some row → SamePlaces row new →
+pub same_seen : (s : Counts) (rows : List OwnerStream) (owner : ℕ) (row new : OwnerStream) → slice_get rows owner ≡ Some row
+    → SamePlaces row new →
     seen s (slice_set rows owner new) ≡ seen s rows
 same_seen s rows owner row new e same =
     let one : instances_in new ≡ instances_in row = same_instances row.places.items new.places.items same.at_each_place in
@@ -100,7 +105,8 @@ fresh_is_kept s row fresh = record {
   in_range = let e : length row.places.items ≡ 0 = ap length fresh.0 in omega arith;
 }
 
-fresh_at : (s : Counts) (rows : List OwnerStream) (owner place : ℕ) → All IsFresh rows → (o : Option OwnerStream) → slice_get rows owner ≡ o →
+fresh_at : (s : Counts) (rows : List OwnerStream) (owner place : ℕ) → All IsFresh rows → (o : Option OwnerStream)
+    → slice_get rows owner ≡ o →
     state_at (seen s rows) owner place ≡ state s []
 fresh_at s rows owner place fresh None e =
     ap (λ o. unwrap_or (maps.get (unwrap_or o maps.empty) place) (state s [])) (slice_get-map instances_in rows owner ∙ ap (option_map instances_in) e)

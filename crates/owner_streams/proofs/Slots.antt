@@ -16,20 +16,24 @@ other_key q k e = grind (arith, nat_tests)
 
 get-put_same : (m : Instances) (k : ℕ) (slot : Option State) → maps.get m k ≡ None → maps.get (put_some m k slot) k ≡ slot
 get-put_same m k None e = e
-get-put_same m k (Some st) e = maps.get-insert nat_cmp_total m k st k ∙ ap (λ b. cond b (Some st) (maps.get m k)) (same_key k k refl)
+get-put_same m k (Some st) e =
+    maps.get-insert nat_cmp_total m k st k ∙ ap (λ b. cond b (Some st) (maps.get m k)) (same_key k k refl)
 
 get-put_other : (m : Instances) (k q : ℕ) (slot : Option State) → q ≢ k → maps.get (put_some m k slot) q ≡ maps.get m q
 get-put_other m k q None apart = refl
-get-put_other m k q (Some st) apart = maps.get-insert nat_cmp_total m k st q ∙ ap (λ b. cond b (Some st) (maps.get m q)) (other_key q k apart)
+get-put_other m k q (Some st) apart =
+    maps.get-insert nat_cmp_total m k st q ∙ ap (λ b. cond b (Some st) (maps.get m q)) (other_key q k apart)
 
 -- no instance is before the first place
 none_before : (first : ℕ) (places : List (Option State)) (q : ℕ) → q < first → maps.get (instances_from first places) q ≡ None
 unfolding instances_from
 none_before first [] q h = maps.get-empty nat_cmp q
 none_before first (slot ∷ places) q h =
-    get-put_other (instances_from (first + 1) places) first q slot (λ e. omega arith) ∙ none_before (first + 1) places q (omega arith)
+    get-put_other (instances_from (first + 1) places) first q slot (λ e. omega arith)
+    ∙ none_before (first + 1) places q (omega arith)
 
-from_first : (first : ℕ) (places : List (Option State)) (place : ℕ) → maps.get (instances_from first places) (first + place) ≡ slot_at places place
+from_first : (first : ℕ) (places : List (Option State)) (place : ℕ)
+    → maps.get (instances_from first places) (first + place) ≡ slot_at places place
 unfolding instances_from
 from_first first [] place = maps.get-empty nat_cmp (first + place)
 from_first first (slot ∷ places) zero =
@@ -43,7 +47,8 @@ from_first first (slot ∷ places) (suc place) =
     ∙ ap (λ q. maps.get (instances_from (first + 1) places) q) e ∙ from_first (first + 1) places place
 
 -- the map has what the places hold
-pub get-instances_from : (places : List (Option State)) (place : ℕ) → maps.get (instances_from 0 places) place ≡ slot_at places place
+pub get-instances_from : (places : List (Option State)) (place : ℕ)
+    → maps.get (instances_from 0 places) place ≡ slot_at places place
 get-instances_from places place =
     let e : place ≡ 0 + place = omega arith in ap (λ q. maps.get (instances_from 0 places) q) e ∙ from_first 0 places place
 

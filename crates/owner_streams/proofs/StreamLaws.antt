@@ -9,7 +9,8 @@ use Rattle.owner_streams.specs.Laws.{StreamIsExact, StreamIsOne, DeliveryStays, 
 use Rattle.owner_streams.proofs.Answers.{answers_are_all, answers_are_one, answers_go_on}
 use Rattle.owner_streams.proofs.Taken.{takes_at-append, takes_at-end, delivered-none, places_end-append}
 
-nothing_later : (s : Counts) (owner place : ℕ) (packets : List PacketValue) → places_end packets ≤ place → delivered_at s owner place packets ≡ None
+nothing_later : (s : Counts) (owner place : ℕ) (packets : List PacketValue) → places_end packets ≤ place
+    → delivered_at s owner place packets ≡ None
 nothing_later s owner place packets h = ap (delivered s) (takes_at-end owner place packets h) ∙ delivered-none s
 
 from_zero : {A : Type 0} (ask : ℕ → Option A) (i : ℕ) → ask (0 + i) ≡ ask i
@@ -17,7 +18,8 @@ from_zero ask i = let e : 0 + i ≡ i = omega arith in ap ask e
 
 pub delivery_stays_lem : DeliveryStays
 delivery_stays_lem s owner place before later c e =
-    ap (delivered s) (takes_at-append owner place before later) ∙ delivery_stays s (takes_at owner place before) (takes_at owner place later) c e
+    ap (delivered s) (takes_at-append owner place before later)
+    ∙ delivery_stays s (takes_at owner place before) (takes_at owner place later) c e
 
 pub stream_is_exact_lem : StreamIsExact
 unfolding stream

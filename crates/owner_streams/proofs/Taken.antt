@@ -10,7 +10,8 @@ use Rattle.bracha_instance.specs.Prefixes.{at_first_prefix}
 use Rattle.bracha_instance.specs.Broadcast.{delivered, echoed, readied}
 use Rattle.owner_streams.specs.Places.{take_of, take_at, takes_at, places_end}
 
-pub takes_at-append : (owner place : ℕ) (before later : List PacketValue) → takes_at owner place (before ++ later) ≡ takes_at owner place before ++ takes_at owner place later
+pub takes_at-append : (owner place : ℕ) (before later : List PacketValue)
+    → takes_at owner place (before ++ later) ≡ takes_at owner place before ++ takes_at owner place later
 unfolding takes_at
 takes_at-append owner place before later = filter_map-append (take_at owner place) before later
 
@@ -21,19 +22,22 @@ other_place : (same : Bool) (a b : ℕ) → a < b → (same && (a == b)) ≡ fal
 other_place true a b h = grind (arith, nat_tests)
 other_place false a b h = refl
 
-one_if : (p : PacketValue) (b same : Bool) → b ≡ same → cons_option (cond b (Some (take_of p)) None) [] ≡ cond same (take_of p ∷ []) []
+one_if : (p : PacketValue) (b same : Bool) → b ≡ same
+    → cons_option (cond b (Some (take_of p)) None) [] ≡ cond same (take_of p ∷ []) []
 one_if p b true e = ap (λ test. cons_option (cond test (Some (take_of p)) None) []) e
 one_if p b false e = ap (λ test. cons_option (cond test (Some (take_of p)) None) []) e
 
 -- a packet is one more message of its own instance
-pub takes_at-own : (packets : List PacketValue) (p : PacketValue) → takes_at p.owner p.place (packets ++ p ∷ []) ≡ takes_at p.owner p.place packets ++ take_of p ∷ []
+pub takes_at-own : (packets : List PacketValue) (p : PacketValue)
+    → takes_at p.owner p.place (packets ++ p ∷ []) ≡ takes_at p.owner p.place packets ++ take_of p ∷ []
 unfolding takes_at
 takes_at-own packets p =
     filter_map-append (take_at p.owner p.place) packets (p ∷ [])
     ∙ ap (λ ts. filter_map (take_at p.owner p.place) packets ++ ts) (one_if p _ true (same_place p.owner p.place))
 
 -- and of no other
-pub takes_at-other : (owner place : ℕ) (packets : List PacketValue) (p : PacketValue) → (p.owner == owner) && (p.place == place) ≡ false → takes_at owner place (packets ++ p ∷ []) ≡ takes_at owner place packets
+pub takes_at-other : (owner place : ℕ) (packets : List PacketValue) (p : PacketValue)
+    → (p.owner == owner) && (p.place == place) ≡ false → takes_at owner place (packets ++ p ∷ []) ≡ takes_at owner place packets
 unfolding takes_at
 takes_at-other owner place packets p e =
     filter_map-append (take_at owner place) packets (p ∷ [])

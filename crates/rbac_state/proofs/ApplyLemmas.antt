@@ -14,7 +14,8 @@ said_no : (b before : Bool) → unwrap_or (if b then Some false else None) befor
 said_no true before = refl
 said_no false before = refl
 
-pub applied-Assign : (node u r : ℕ) (old new : PolicyValue) → owns old.table node r ≡ true → new.table ≡ old.table → new.grants ≡ old.grants →
+pub applied-Assign : (node u r : ℕ) (old new : PolicyValue) → owns old.table node r ≡ true → new.table ≡ old.table
+    → new.grants ≡ old.grants →
     ((user role : ℕ) → assigned_in new user role ≡ (((user == u) && (role == r)) || assigned_in old user role)) →
     IsApplied node (Assign u r) old new
 applied-Assign node u r old new owned table grants assigned = record {
@@ -23,7 +24,8 @@ applied-Assign node u r old new owned table grants assigned = record {
   granted = λ operation object role. ap (λ g. set.contains g ((operation, object), role)) grants ∙ sym (rw owned);
 }
 
-pub applied-Deassign : (node u r : ℕ) (old new : PolicyValue) → owns old.table node r ≡ true → new.table ≡ old.table → new.grants ≡ old.grants →
+pub applied-Deassign : (node u r : ℕ) (old new : PolicyValue) → owns old.table node r ≡ true → new.table ≡ old.table
+    → new.grants ≡ old.grants →
     ((user role : ℕ) → assigned_in new user role ≡ (not ((user == u) && (role == r)) && assigned_in old user role)) →
     IsApplied node (Deassign u r) old new
 applied-Deassign node u r old new owned table grants assigned = record {
@@ -32,22 +34,26 @@ applied-Deassign node u r old new owned table grants assigned = record {
   granted = λ operation object role. ap (λ g. set.contains g ((operation, object), role)) grants ∙ sym (rw owned);
 }
 
-pub applied-Grant : (node r p b : ℕ) (old new : PolicyValue) → owns old.table node r ≡ true → new.table ≡ old.table → new.assignments ≡ old.assignments →
+pub applied-Grant : (node r p b : ℕ) (old new : PolicyValue) → owns old.table node r ≡ true → new.table ≡ old.table
+    → new.assignments ≡ old.assignments →
     ((operation object role : ℕ) → granted_in new operation object role ≡ (((operation == p) && (object == b) && (role == r)) || granted_in old operation object role)) →
     IsApplied node (Grant r p b) old new
 applied-Grant node r p b old new owned table assignments granted = record {
   table = table;
   assigned = λ user role. ap (λ a. set.contains a (user, role)) assignments ∙ sym (rw owned);
   granted = λ operation object role.
-      granted operation object role ∙ sym (rw owned (said_yes ((operation == p) && (object == b) && (role == r)) (granted_in old operation object role)));
+      granted operation object role
+      ∙ sym (rw owned (said_yes ((operation == p) && (object == b) && (role == r)) (granted_in old operation object role)));
 }
 
-pub applied-Revoke : (node r p b : ℕ) (old new : PolicyValue) → owns old.table node r ≡ true → new.table ≡ old.table → new.assignments ≡ old.assignments →
+pub applied-Revoke : (node r p b : ℕ) (old new : PolicyValue) → owns old.table node r ≡ true → new.table ≡ old.table
+    → new.assignments ≡ old.assignments →
     ((operation object role : ℕ) → granted_in new operation object role ≡ (not ((operation == p) && (object == b) && (role == r)) && granted_in old operation object role)) →
     IsApplied node (Revoke r p b) old new
 applied-Revoke node r p b old new owned table assignments granted = record {
   table = table;
   assigned = λ user role. ap (λ a. set.contains a (user, role)) assignments ∙ sym (rw owned);
   granted = λ operation object role.
-      granted operation object role ∙ sym (rw owned (said_no ((operation == p) && (object == b) && (role == r)) (granted_in old operation object role)));
+      granted operation object role
+      ∙ sym (rw owned (said_no ((operation == p) && (object == b) && (role == r)) (granted_in old operation object role)));
 }

@@ -17,7 +17,8 @@ use Rattle.rbac_state.specs.Policies.{PolicyValue, assignment_cmp, grant_cmp, as
 use Rattle.rbac_state.proofs.PairLemmas.{members, assignments_total, assignments_exact, grants_total, grants_exact}
 
 -- a listing of a set is one of the same set said in other words
-pub listing_of : {X : Type 0} (cmp : X → X → Ordering) (P Q : X → Type 0) (xs : List X) → IsListing cmp P xs → ((x : X) → P x ↔ Q x) → IsListing cmp Q xs
+pub listing_of : {X : Type 0} (cmp : X → X → Ordering) (P Q : X → Type 0) (xs : List X) → IsListing cmp P xs
+    → ((x : X) → P x ↔ Q x) → IsListing cmp Q xs
 listing_of cmp P Q xs listing same = record {
   ascending = listing.ascending;
   exact = λ x. (λ h. (same x).0 ((listing.exact x).0 h), λ h. (listing.exact x).1 ((same x).1 h));
@@ -187,7 +188,8 @@ module _ {K : Type 0} {R : K → K → Ordering} (o : IsTotalOrder R) where
       ]
 
   -- ascending lists with the same members are one
-  pub one_list : (xs ys : List K) → IsStrictlySortedBy R xs → IsStrictlySortedBy R ys → ((z : K) → Contains xs z ↔ Contains ys z) → xs ≡ ys
+  pub one_list : (xs ys : List K) → IsStrictlySortedBy R xs → IsStrictlySortedBy R ys
+      → ((z : K) → Contains xs z ↔ Contains ys z) → xs ≡ ys
   one_list [] [] up rises same = refl
   one_list [] (y ∷ ys) up rises same = contains_none y _ ((same y).1 (contains_head y ys y refl))
   one_list (x ∷ xs) [] up rises same = contains_none x _ ((same x).0 (contains_head x xs x refl))

@@ -41,7 +41,8 @@ pub assignment_ties : (a b : ℕ × ℕ) → is_same_assignment a b ≡ eq_by_cm
 assignment_ties a b = both_tied _ _ _ _ (unsigned_ties a.0 b.0) (unsigned_ties a.1 b.1)
 
 pub grant_ties : (g h : (ℕ × ℕ) × ℕ) → is_same_grant g h ≡ eq_by_cmp grant_cmp g h
-grant_ties g h = both_tied _ _ _ _ (both_tied _ _ _ _ (unsigned_ties g.0.0 h.0.0) (unsigned_ties g.0.1 h.0.1)) (unsigned_ties g.1 h.1)
+grant_ties g h =
+    both_tied _ _ _ _ (both_tied _ _ _ _ (unsigned_ties g.0.0 h.0.0) (unsigned_ties g.0.1 h.0.1)) (unsigned_ties g.1 h.1)
 
 or_swap : (a b : Bool) → (a || (b || false)) ≡ (b || a)
 or_swap true true = refl
@@ -92,13 +93,16 @@ module _ {K : Type 0} {R : K → K → Ordering} (o : IsTotalOrder R) (exact : C
         (λ y t. ap not (ties y k ∙ ap (λ x. eq_by_cmp R x k) (sym (tells_apart exact q y t)))) ks
         ∙ ap (λ b. not (eq_by_cmp R q k) && b) (sym (set.contains-from_list o ks q))
 
-pub assigned-list_any : (ks : List (ℕ × ℕ)) (q : ℕ × ℕ) → list_any (λ y. is_same_assignment y q) ks ≡ set.contains (set.from_list {R = assignment_cmp} ks) q
+pub assigned-list_any : (ks : List (ℕ × ℕ)) (q : ℕ × ℕ)
+    → list_any (λ y. is_same_assignment y q) ks ≡ set.contains (set.from_list {R = assignment_cmp} ks) q
 assigned-list_any = contains-list_any assignments_total assignments_exact is_same_assignment assignment_ties
 
-pub granted-list_any : (ks : List ((ℕ × ℕ) × ℕ)) (q : (ℕ × ℕ) × ℕ) → list_any (λ y. is_same_grant y q) ks ≡ set.contains (set.from_list {R = grant_cmp} ks) q
+pub granted-list_any : (ks : List ((ℕ × ℕ) × ℕ)) (q : (ℕ × ℕ) × ℕ)
+    → list_any (λ y. is_same_grant y q) ks ≡ set.contains (set.from_list {R = grant_cmp} ks) q
 granted-list_any = contains-list_any grants_total grants_exact is_same_grant grant_ties
 
-pub assigned-put : (ks ls : List (ℕ × ℕ)) (k q : ℕ × ℕ) → ls ≡ cond (list_any (λ y. is_same_assignment y k) ks) ks (ks ++ k ∷ []) →
+pub assigned-put : (ks ls : List (ℕ × ℕ)) (k q : ℕ × ℕ)
+    → ls ≡ cond (list_any (λ y. is_same_assignment y k) ks) ks (ks ++ k ∷ []) →
     set.contains (set.from_list {R = assignment_cmp} ls) q ≡ (is_same_assignment q k || set.contains (set.from_list {R = assignment_cmp} ks) q)
 assigned-put ks ls k q e =
     ap (λ l. set.contains (set.from_list {R = assignment_cmp} l) q) e
@@ -112,7 +116,8 @@ assigned-take_away ks ls k q e =
     ∙ contains-take_away assignments_total assignments_exact is_same_assignment assignment_ties ks k q
     ∙ ap (λ b. not b && set.contains (set.from_list {R = assignment_cmp} ks) q) (sym (assignment_ties q k))
 
-pub granted-put : (ks ls : List ((ℕ × ℕ) × ℕ)) (k q : (ℕ × ℕ) × ℕ) → ls ≡ cond (list_any (λ y. is_same_grant y k) ks) ks (ks ++ k ∷ []) →
+pub granted-put : (ks ls : List ((ℕ × ℕ) × ℕ)) (k q : (ℕ × ℕ) × ℕ)
+    → ls ≡ cond (list_any (λ y. is_same_grant y k) ks) ks (ks ++ k ∷ []) →
     set.contains (set.from_list {R = grant_cmp} ls) q ≡ (is_same_grant q k || set.contains (set.from_list {R = grant_cmp} ks) q)
 granted-put ks ls k q e =
     ap (λ l. set.contains (set.from_list {R = grant_cmp} l) q) e

@@ -83,7 +83,8 @@ by_owner : (table : Table) (streams : ℕ → List Command) (node : ℕ) (comman
     map.get table.owners role ≡ owner → (says command ≡ None) ⊎ (role_of command ≡ role) →
     option_map_or (λ o. last_said says (with_command streams node command o)) owner false
     ≡ said_by table node command says (option_map_or (λ o. last_said says (streams o)) owner false)
-by_owner table streams node command role says None e (inl n) = sym (unless_said (owns table node (role_of command)) (says command) false n)
+by_owner table streams node command role says None e (inl n) =
+    sym (unless_said (owns table node (role_of command)) (says command) false n)
 by_owner table streams node command role says None e (inr p) = sym (rw (p, e))
 by_owner table streams node command role says (Some owner) e (inl n) =
     one_stream streams node command says owner (owner == node)

@@ -14,12 +14,15 @@ record SameFields (t r p o t' r' p' o' : ℕ) : Type 0 where
   pub user_or_object : p ≡ p'
   pub operation : o ≡ o'
 
-fields_same : (t r p o t' r' p' o' : ℕ) → r < 2 ^ 16 → p < 2 ^ 32 → o < 2 ^ 16 → r' < 2 ^ 16 → p' < 2 ^ 32 → o' < 2 ^ 16 → fields_bytes t r p o ≡ fields_bytes t' r' p' o' → SameFields t r p o t' r' p' o'
+fields_same : (t r p o t' r' p' o' : ℕ) → r < 2 ^ 16 → p < 2 ^ 32 → o < 2 ^ 16 → r' < 2 ^ 16 → p' < 2 ^ 32 → o' < 2 ^ 16
+    → fields_bytes t r p o ≡ fields_bytes t' r' p' o' → SameFields t r p o t' r' p' o'
 fields_same t r p o t' r' p' o' hr hp ho hr' hp' ho' e = record {
   tag = ap (λ bs. get_or bs 0 0) e;
   role = sym (from_be_bytes-to_be_bytes_2 r hr) ∙ ap (λ bs. from_be_bytes w16 (drop 1 bs)) e ∙ from_be_bytes-to_be_bytes_2 r' hr';
-  user_or_object = sym (from_be_bytes-to_be_bytes_4 p hp) ∙ ap (λ bs. from_be_bytes w32 (drop 3 bs)) e ∙ from_be_bytes-to_be_bytes_4 p' hp';
-  operation = sym (from_be_bytes-to_be_bytes_2 o ho) ∙ ap (λ bs. from_be_bytes w16 (drop 7 bs)) e ∙ from_be_bytes-to_be_bytes_2 o' ho';
+  user_or_object =
+      sym (from_be_bytes-to_be_bytes_4 p hp) ∙ ap (λ bs. from_be_bytes w32 (drop 3 bs)) e ∙ from_be_bytes-to_be_bytes_4 p' hp';
+  operation =
+      sym (from_be_bytes-to_be_bytes_2 o ho) ∙ ap (λ bs. from_be_bytes w16 (drop 7 bs)) e ∙ from_be_bytes-to_be_bytes_2 o' ho';
 }
 
 pub length-bytes_of : NineBytes
@@ -36,12 +39,15 @@ IsRow (Deassign user role) t r p o = SameFields t r p o 2 role user 0
 IsRow (Grant role operation object) t r p o = SameFields t r p o 3 role object operation
 IsRow (Revoke role operation object) t r p o = SameFields t r p o 4 role object operation
 
-fields_of : (c : Command) (t r p o : ℕ) → r < 2 ^ 16 → p < 2 ^ 32 → o < 2 ^ 16 → IsCommand c → fields_bytes t r p o ≡ bytes_of c → IsRow c t r p o
+fields_of : (c : Command) (t r p o : ℕ) → r < 2 ^ 16 → p < 2 ^ 32 → o < 2 ^ 16 → IsCommand c → fields_bytes t r p o ≡ bytes_of c
+    → IsRow c t r p o
 unfolding bytes_of IsRow
 fields_of (Assign user role) t r p o hr hp ho fits e = fields_same t r p o 1 role user 0 hr hp ho fits.1 fits.0 (omega arith) e
 fields_of (Deassign user role) t r p o hr hp ho fits e = fields_same t r p o 2 role user 0 hr hp ho fits.1 fits.0 (omega arith) e
-fields_of (Grant role operation object) t r p o hr hp ho fits e = fields_same t r p o 3 role object operation hr hp ho fits.0 fits.2 fits.1 e
-fields_of (Revoke role operation object) t r p o hr hp ho fits e = fields_same t r p o 4 role object operation hr hp ho fits.0 fits.2 fits.1 e
+fields_of (Grant role operation object) t r p o hr hp ho fits e =
+    fields_same t r p o 3 role object operation hr hp ho fits.0 fits.2 fits.1 e
+fields_of (Revoke role operation object) t r p o hr hp ho fits e =
+    fields_same t r p o 4 role object operation hr hp ho fits.0 fits.2 fits.1 e
 
 assign_row : (c : Command) (t r p o : ℕ) → IsRow c t r p o → t ≡ 1 → Assign p r ≡ c
 unfolding IsRow
@@ -73,7 +79,11 @@ revoke_row (Revoke role operation object) t r p o is tag = cc
 
 pub bytes_of_injective : BytesDiffer
 unfolding bytes_of
-bytes_of_injective (Assign user role) d is also e = assign_row d _ _ _ _ (fields_of d 1 role user 0 is.1 is.0 (omega arith) also e) refl
-bytes_of_injective (Deassign user role) d is also e = deassign_row d _ _ _ _ (fields_of d 2 role user 0 is.1 is.0 (omega arith) also e) refl
-bytes_of_injective (Grant role operation object) d is also e = grant_row d _ _ _ _ (fields_of d 3 role object operation is.0 is.2 is.1 also e) refl
-bytes_of_injective (Revoke role operation object) d is also e = revoke_row d _ _ _ _ (fields_of d 4 role object operation is.0 is.2 is.1 also e) refl
+bytes_of_injective (Assign user role) d is also e =
+    assign_row d _ _ _ _ (fields_of d 1 role user 0 is.1 is.0 (omega arith) also e) refl
+bytes_of_injective (Deassign user role) d is also e =
+    deassign_row d _ _ _ _ (fields_of d 2 role user 0 is.1 is.0 (omega arith) also e) refl
+bytes_of_injective (Grant role operation object) d is also e =
+    grant_row d _ _ _ _ (fields_of d 3 role object operation is.0 is.2 is.1 also e) refl
+bytes_of_injective (Revoke role operation object) d is also e =
+    revoke_row d _ _ _ _ (fields_of d 4 role object operation is.0 is.2 is.1 also e) refl

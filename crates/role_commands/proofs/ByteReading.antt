@@ -25,12 +25,18 @@ bytes_same bytes = (bytes_eq-Decides bytes bytes).1 refl
 -- a command's bytes are read as the command
 pub command_again : (c : Command) → IsCommand c → command_in (bytes_of c) ≡ Some c
 unfolding command_in bytes_of
-command_again (Assign user role) fits = rw (from_be_bytes-to_be_bytes_2 role fits.1, from_be_bytes-to_be_bytes_4 user fits.0, bytes_same (bytes_of (Assign user role))) refl
-command_again (Deassign user role) fits = rw (from_be_bytes-to_be_bytes_2 role fits.1, from_be_bytes-to_be_bytes_4 user fits.0, bytes_same (bytes_of (Deassign user role))) refl
-command_again (Grant role operation object) fits = rw (from_be_bytes-to_be_bytes_2 role fits.0, from_be_bytes-to_be_bytes_2 operation fits.1, from_be_bytes-to_be_bytes_4 object fits.2, bytes_same (bytes_of (Grant role operation object))) refl
-command_again (Revoke role operation object) fits = rw (from_be_bytes-to_be_bytes_2 role fits.0, from_be_bytes-to_be_bytes_2 operation fits.1, from_be_bytes-to_be_bytes_4 object fits.2, bytes_same (bytes_of (Revoke role operation object))) refl
+command_again (Assign user role) fits =
+    rw (from_be_bytes-to_be_bytes_2 role fits.1, from_be_bytes-to_be_bytes_4 user fits.0, bytes_same (bytes_of (Assign user role))) refl
+command_again (Deassign user role) fits =
+    rw (from_be_bytes-to_be_bytes_2 role fits.1, from_be_bytes-to_be_bytes_4 user fits.0, bytes_same (bytes_of (Deassign user role))) refl
+command_again (Grant role operation object) fits =
+    rw (from_be_bytes-to_be_bytes_2 role fits.0, from_be_bytes-to_be_bytes_2 operation fits.1, from_be_bytes-to_be_bytes_4 object fits.2, bytes_same (bytes_of (Grant role operation object))) refl
+command_again (Revoke role operation object) fits =
+    rw (from_be_bytes-to_be_bytes_2 role fits.0, from_be_bytes-to_be_bytes_2 operation fits.1, from_be_bytes-to_be_bytes_4 object fits.2, bytes_same (bytes_of (Revoke role operation object))) refl
 
-spelled : (bytes : List ℕ) (read : Option Command) (c : Command) → option_and_then (λ d. cond (bytes_eq bytes (bytes_of d)) (Some d) None) read ≡ Some c → (read ≡ Some c) × (bytes ≡ bytes_of c)
+spelled : (bytes : List ℕ) (read : Option Command) (c : Command)
+    → option_and_then (λ d. cond (bytes_eq bytes (bytes_of d)) (Some d) None) read ≡ Some c
+    → (read ≡ Some c) × (bytes ≡ bytes_of c)
 spelled bytes None c e = absurd cc
 spelled bytes (Some d) c e = go (bytes_eq bytes (bytes_of d)) refl e
   where
@@ -43,7 +49,8 @@ chosen_fits true x y P one other = one
 chosen_fits false x y P one other = other
 
 -- the numbers of a command that is read are within their widths
-tagged_fits : (tag role party operation : ℕ) → role < 2 ^ 16 → party < 2 ^ 32 → operation < 2 ^ 16 → IfSome (tagged tag role party operation) IsCommand
+tagged_fits : (tag role party operation : ℕ) → role < 2 ^ 16 → party < 2 ^ 32 → operation < 2 ^ 16
+    → IfSome (tagged tag role party operation) IsCommand
 tagged_fits tag role party operation hr hp ho =
     let assign : (party < 2 ^ 32) × (role < 2 ^ 16) = (hp, hr) in
     let grant : (role < 2 ^ 16) × (operation < 2 ^ 16) × (party < 2 ^ 32) = (hr, ho, hp) in
@@ -53,7 +60,8 @@ tagged_fits tag role party operation hr hp ho =
     (chosen_fits (eqb tag 4) (Some (Revoke role operation party)) None IsCommand grant tt)))
 
 -- what is read as a command is the command's bytes
-pub command_takes : (bytes : List ℕ) (c : Command) → IsBytes bytes → command_in bytes ≡ Some c → (bytes ≡ bytes_of c) × IsCommand c
+pub command_takes : (bytes : List ℕ) (c : Command) → IsBytes bytes → command_in bytes ≡ Some c
+    → (bytes ≡ bytes_of c) × IsCommand c
 unfolding command_in
 command_takes bytes c fits e =
     let tag = get_or bytes 0 0 in
@@ -68,7 +76,8 @@ command_takes bytes c fits e =
     (is.1, subst (λ (o : Option Command). IfSome o IsCommand) is.0 in_range)
 
 -- what decodes bytes exactly gives the command that they are read as
-pub decoded : (bytes : List ℕ) (o : Option Command) → IsBytes bytes → IfSome o (λ c. bytes ≡ bytes_of c) → IfSome o IsCommand → ((c : Command) → IsCommand c → bytes ≡ bytes_of c → o ≡ Some c) → o ≡ command_in bytes
+pub decoded : (bytes : List ℕ) (o : Option Command) → IsBytes bytes → IfSome o (λ c. bytes ≡ bytes_of c) → IfSome o IsCommand
+    → ((c : Command) → IsCommand c → bytes ≡ bytes_of c → o ≡ Some c) → o ≡ command_in bytes
 decoded bytes (Some c) fits found in_range only = sym (command_again c in_range) ∙ ap command_in (sym found)
 decoded bytes None fits found in_range only = go (command_in bytes) refl
   where

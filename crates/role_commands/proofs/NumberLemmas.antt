@@ -69,7 +69,8 @@ module _ {E : Type 0} (most : ℕ) (word : List ℕ) (r : Result ℕ E) (parsed 
       let back : decimal (digits_value 10 word) ≡ word = decimal-digits_value own word facts.0.0 facts.0.1 (λ zero. omega (arith, lead zero, facts.0.1)) facts.0.2 in
       sym (ap decimal facts.1 ∙ back)
 
-  pub parsed_some : (n : ℕ) → r ≡ Ok n → n ≤ most → get_or word 0 0 ≢ 43 → (get_or word 0 0 ≡ 48 → length word ≤ 1) → number_of most word ≡ Some n
+  pub parsed_some : (n : ℕ) → r ≡ Ok n → n ≤ most → get_or word 0 0 ≢ 43 → (get_or word 0 0 ≡ 48 → length word ≤ 1)
+      → number_of most word ≡ Some n
   parsed_some n is le plain lead = rw (parsed_decimal n is plain lead) (number_of-decimal most n le small)
 
   pub parsed_above : (n : ℕ) → r ≡ Ok n → most < n → number_of most word ≡ None

@@ -29,7 +29,8 @@ pub get-entries : (es : List (ℕ × ℕ)) (q : ℕ) → map.get (map.from_entri
 get-entries es q = get-from_entries nat_cmp_total es q ∙ find-lookup q es
 
 -- to insert into the tree is to insert into the map
-pub from_entries-insert : (m n : BTreeMap ℕ ℕ) (k v : ℕ) → tree.Updates nat_cmp m n k (Some v) → map.from_entries {R = nat_cmp} n.entries ≡ map.insert (map.from_entries m.entries) k v
+pub from_entries-insert : (m n : BTreeMap ℕ ℕ) (k v : ℕ) → tree.Updates nat_cmp m n k (Some v)
+    → map.from_entries {R = nat_cmp} n.entries ≡ map.insert (map.from_entries m.entries) k v
 from_entries-insert m n k v updates =
     same_map nat_cmp_total nat_cmp-IsAntisymmetric _ _ (λ q.
     get-entries n.entries q ∙ updates.0 q
@@ -39,7 +40,8 @@ from_entries-insert m n k v updates =
 pub no_entries : (sizes : Counts) → AreEntries sizes []
 no_entries sizes = (((λ role. rw (get-empty nat_cmp role) tt), rw (len-empty nat_cmp ℕ) (omega arith)), len-empty nat_cmp ℕ)
 
-either_owner : (b : Bool) (v n : ℕ) (o : Option ℕ) → v < n → IfSome o (λ owner. owner < n) → IfSome (cond b (Some v) o) (λ owner. owner < n)
+either_owner : (b : Bool) (v n : ℕ) (o : Option ℕ) → v < n → IfSome o (λ owner. owner < n)
+    → IfSome (cond b (Some v) o) (λ owner. owner < n)
 either_owner true v n o below rest = below
 either_owner false v n o below rest = rest
 
@@ -48,7 +50,10 @@ no_value None e = refl
 no_value (Some x) e = cc
 
 -- one more role in the tree
-pub one_more_entry : (sizes : Counts) (m n : BTreeMap ℕ ℕ) (k v : ℕ) (old : Option ℕ) → AreEntries sizes m.entries → tree.Updates nat_cmp m n k (Some v) → is_some (owner_in m.entries k) ≡ false → old ≡ owner_in m.entries k → length n.entries ≡ length m.entries + (if is_some old then 0 else 1) → length m.entries < most_roles → v < sizes.nodes → AreEntries sizes n.entries
+pub one_more_entry : (sizes : Counts) (m n : BTreeMap ℕ ℕ) (k v : ℕ) (old : Option ℕ) → AreEntries sizes m.entries
+    → tree.Updates nat_cmp m n k (Some v) → is_some (owner_in m.entries k) ≡ false → old ≡ owner_in m.entries k
+    → length n.entries ≡ length m.entries + (if is_some old then 0 else 1) → length m.entries < most_roles → v < sizes.nodes
+    → AreEntries sizes n.entries
 one_more_entry sizes m n k v old are updates new had more room below =
     let is = from_entries-insert m n k v updates in
     let none : map.get (map.from_entries {R = nat_cmp} m.entries) k ≡ None = get-entries m.entries k ∙ no_value _ new in
@@ -75,12 +80,14 @@ module _ (sizes : Counts) (m : BTreeMap ℕ ℕ) (t : Table) (is : table_of size
   pub repeated_due : is_some (owner_in m.entries role) ≡ true → add_due t role owner ≡ Some Repeated
   repeated_due had = rw (← is) (rw (is_node, has_role, had) refl)
 
-  pub full_due : is_some (owner_in m.entries role) ≡ false → AreEntries sizes m.entries → most_roles ≤ length m.entries → add_due t role owner ≡ Some TooManyRoles
+  pub full_due : is_some (owner_in m.entries role) ≡ false → AreEntries sizes m.entries → most_roles ≤ length m.entries
+      → add_due t role owner ≡ Some TooManyRoles
   full_due new are full =
       let many : nat_le most_roles (length m.entries) ≡ true = grind (arith, nat_tests) in
       rw (← is) (rw (is_node, has_role, new, are.1, many) refl)
 
-  pub none_due : is_some (owner_in m.entries role) ≡ false → AreEntries sizes m.entries → length m.entries < most_roles → add_due t role owner ≡ None
+  pub none_due : is_some (owner_in m.entries role) ≡ false → AreEntries sizes m.entries → length m.entries < most_roles
+      → add_due t role owner ≡ None
   none_due new are room =
       let few : nat_le most_roles (length m.entries) ≡ false = grind (arith, nat_tests) in
       rw (← is) (rw (is_node, has_role, new, are.1, few) refl)
@@ -93,7 +100,8 @@ or_none None = refl
 or_none (Some x) = refl
 
 -- an empty tree that was extended by all entries of a tree has those entries
-pub extended_entries : (empty m n : BTreeMap ℕ ℕ) → tree.IsEmpty empty → tree.IsOrdered nat_cmp m → tree.InsertsAll nat_cmp empty m.entries n → n.entries ≡ m.entries
+pub extended_entries : (empty m n : BTreeMap ℕ ℕ) → tree.IsEmpty empty → tree.IsOrdered nat_cmp m
+    → tree.InsertsAll nat_cmp empty m.entries n → n.entries ≡ m.entries
 extended_entries empty m n none ordered inserts =
     btree_map_from_get nat_cmp_total n m inserts.1 ordered (λ q.
     inserts.0 q

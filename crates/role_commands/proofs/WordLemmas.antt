@@ -21,7 +21,8 @@ use Rattle.role_commands.specs.declared.command.Command.{Command}
 use Rattle.role_commands.specs.declared.command.Command.TheVariants.{Assign, Deassign, Grant, Revoke}
 use Rattle.role_commands.proofs.NumberLemmas.{number_of-decimal, number_of_spelled}
 
-pub split_word_is : (text : List ℕ) (r : Option (Bor (List ℕ) × Bor (List ℕ))) → IsSplitOnceResult 32 text r → split_word text ≡ option_map (λ words. (words.0.now, words.1.now)) r
+pub split_word_is : (text : List ℕ) (r : Option (Bor (List ℕ) × Bor (List ℕ))) → IsSplitOnceResult 32 text r
+    → split_word text ≡ option_map (λ words. (words.0.now, words.1.now)) r
 unfolding split_word
 split_word_is text None split =
     let none = split_once_first 32 text None split (omega arith) in
@@ -32,7 +33,8 @@ split_word_is text (Some words) split =
     let inside : nat_lt (position_or_len is_space text) (length text) ≡ true = grind (arith, nat_tests) in
     rw (inside, first.1, first.2) refl
 
-split_word-front : (front back : List ℕ) → ((i : ℕ) → i < length front → get_or front i 0 ≢ 32) → split_word (front ++ (32 ∷ back)) ≡ Some (front, back)
+split_word-front : (front back : List ℕ) → ((i : ℕ) → i < length front → get_or front i 0 ≢ 32)
+    → split_word (front ++ (32 ∷ back)) ≡ Some (front, back)
 unfolding split_word
 split_word-front front back plain =
     let at : position_or_len is_space (front ++ (32 ∷ back)) ≡ length front =
@@ -54,7 +56,8 @@ split_word-joined text words e =
     rw space at (split_at_first is_space text 0 inside) ∙ ap (λ w. w.0 ++ (32 ∷ w.1)) parts.1
 
 decimal_plain : (n : ℕ) → n < 2 ^ 64 → (i : ℕ) → i < length (decimal n) → get_or (decimal n) i 0 ≢ 32
-decimal_plain n small i h = not_in_digits (numerals_by_value (AllDigits 10) tells_digits) (decimal n) 32 (digits_decimal (numerals_by_value (AllDigits 10) tells_digits) n small) (λ r. omega (arith, r)) i h
+decimal_plain n small i h =
+    not_in_digits (numerals_by_value (AllDigits 10) tells_digits) (decimal n) 32 (digits_decimal (numerals_by_value (AllDigits 10) tells_digits) n small) (λ r. omega (arith, r)) i h
 
 -- a word has no space where a search for one ends behind it
 plain_word : (word : List ℕ) → position_or_len is_space word ≡ length word → (i : ℕ) → i < length word → get_or word i 0 ≢ 32
@@ -70,51 +73,62 @@ wide_read n small = number_of-decimal (2 ^ 32 - 1) n (omega arith) (omega arith)
 narrow_read : (n : ℕ) → n < 2 ^ 16 → narrow_number (decimal n) ≡ Some n
 narrow_read n small = number_of-decimal (2 ^ 16 - 1) n (omega arith) (omega arith)
 
-user_and_role_read : (user role : ℕ) → user < 2 ^ 32 → role < 2 ^ 16 → user_and_role (decimal user ++ (32 ∷ decimal role)) ≡ Some (user, role)
+user_and_role_read : (user role : ℕ) → user < 2 ^ 32 → role < 2 ^ 16
+    → user_and_role (decimal user ++ (32 ∷ decimal role)) ≡ Some (user, role)
 unfolding user_and_role
 user_and_role_read user role wide narrow =
     rw (split_word-front (decimal user) (decimal role) (decimal_plain user (omega arith))) (rw (wide_read user wide, narrow_read role narrow) refl)
 
-operation_and_object_read : (operation object : ℕ) → operation < 2 ^ 16 → object < 2 ^ 32 → operation_and_object (decimal operation ++ (32 ∷ decimal object)) ≡ Some (operation, object)
+operation_and_object_read : (operation object : ℕ) → operation < 2 ^ 16 → object < 2 ^ 32
+    → operation_and_object (decimal operation ++ (32 ∷ decimal object)) ≡ Some (operation, object)
 unfolding operation_and_object
 operation_and_object_read operation object narrow wide =
     rw (split_word-front (decimal operation) (decimal object) (decimal_plain operation (omega arith))) (rw (narrow_read operation narrow, wide_read object wide) refl)
 
-role_and_permission_read : (role operation object : ℕ) → role < 2 ^ 16 → operation < 2 ^ 16 → object < 2 ^ 32 → role_and_permission (decimal role ++ (32 ∷ (decimal operation ++ (32 ∷ decimal object)))) ≡ Some (role, operation, object)
+role_and_permission_read : (role operation object : ℕ) → role < 2 ^ 16 → operation < 2 ^ 16 → object < 2 ^ 32
+    → role_and_permission (decimal role ++ (32 ∷ (decimal operation ++ (32 ∷ decimal object)))) ≡ Some (role, operation, object)
 unfolding role_and_permission
 role_and_permission_read role operation object role_fits fits wide =
     rw (split_word-front (decimal role) (decimal operation ++ (32 ∷ decimal object)) (decimal_plain role (omega arith)))
     (rw (narrow_read role role_fits, operation_and_object_read operation object fits wide) refl)
 
-command_of-front : (name numbers : List ℕ) → position_or_len is_space name ≡ length name → command_of (name ++ (32 ∷ numbers)) ≡ named_command name numbers
+command_of-front : (name numbers : List ℕ) → position_or_len is_space name ≡ length name
+    → command_of (name ++ (32 ∷ numbers)) ≡ named_command name numbers
 unfolding command_of
 command_of-front name numbers e = rw (split_word-front name numbers (plain_word name e)) refl
 
 pub two_words-grouped : (name : List ℕ) (a b : ℕ) → two_words name a b ≡ name ++ (32 ∷ (decimal a ++ (32 ∷ decimal b)))
 two_words-grouped name a b = simp append_assoc
 
-pub three_words-grouped : (name : List ℕ) (a b c : ℕ) → three_words name a b c ≡ name ++ (32 ∷ (decimal a ++ (32 ∷ (decimal b ++ (32 ∷ decimal c)))))
+pub three_words-grouped : (name : List ℕ) (a b c : ℕ)
+    → three_words name a b c ≡ name ++ (32 ∷ (decimal a ++ (32 ∷ (decimal b ++ (32 ∷ decimal c)))))
 three_words-grouped name a b c = simp append_assoc
 
 pub command_of-spelling : CommandsAreRead
 unfolding named_command
 command_of-spelling (Assign user role) is =
-    ap command_of (two_words-grouped (codes "assign") user role) ∙ command_of-front (codes "assign") _ refl ∙ rw (user_and_role_read user role is.0 is.1) refl
+    ap command_of (two_words-grouped (codes "assign") user role) ∙ command_of-front (codes "assign") _ refl
+    ∙ rw (user_and_role_read user role is.0 is.1) refl
 command_of-spelling (Deassign user role) is =
-    ap command_of (two_words-grouped (codes "deassign") user role) ∙ command_of-front (codes "deassign") _ refl ∙ rw (user_and_role_read user role is.0 is.1) refl
+    ap command_of (two_words-grouped (codes "deassign") user role) ∙ command_of-front (codes "deassign") _ refl
+    ∙ rw (user_and_role_read user role is.0 is.1) refl
 command_of-spelling (Grant role operation object) is =
-    ap command_of (three_words-grouped (codes "grant") role operation object) ∙ command_of-front (codes "grant") _ refl ∙ rw (role_and_permission_read role operation object is.0 is.1 is.2) refl
+    ap command_of (three_words-grouped (codes "grant") role operation object) ∙ command_of-front (codes "grant") _ refl
+    ∙ rw (role_and_permission_read role operation object is.0 is.1 is.2) refl
 command_of-spelling (Revoke role operation object) is =
-    ap command_of (three_words-grouped (codes "revoke") role operation object) ∙ command_of-front (codes "revoke") _ refl ∙ rw (role_and_permission_read role operation object is.0 is.1 is.2) refl
+    ap command_of (three_words-grouped (codes "revoke") role operation object) ∙ command_of-front (codes "revoke") _ refl
+    ∙ rw (role_and_permission_read role operation object is.0 is.1 is.2) refl
 
 -- writing what was read
 
-pair_of : (x y : Option ℕ) (n : ℕ × ℕ) → option_and_then (λ a. option_map (λ b. (a, b)) y) x ≡ Some n → (x ≡ Some n.0) × (y ≡ Some n.1)
+pair_of : (x y : Option ℕ) (n : ℕ × ℕ) → option_and_then (λ a. option_map (λ b. (a, b)) y) x ≡ Some n
+    → (x ≡ Some n.0) × (y ≡ Some n.1)
 pair_of None y n e = cc
 pair_of (Some a) None n e = cc
 pair_of (Some a) (Some b) n e = let is = same_Some (a, b) n e in (ap (λ m. Some m.0) is, ap (λ m. Some m.1) is)
 
-triple_of : (x : Option ℕ) (y : Option (ℕ × ℕ)) (n : ℕ × ℕ × ℕ) → option_and_then (λ a. option_map (λ b. (a, b.0, b.1)) y) x ≡ Some n → (x ≡ Some n.0) × (y ≡ Some (n.1, n.2))
+triple_of : (x : Option ℕ) (y : Option (ℕ × ℕ)) (n : ℕ × ℕ × ℕ)
+    → option_and_then (λ a. option_map (λ b. (a, b.0, b.1)) y) x ≡ Some n → (x ≡ Some n.0) × (y ≡ Some (n.1, n.2))
 triple_of None y n e = cc
 triple_of (Some a) None n e = cc
 triple_of (Some a) (Some b) n e = let is = same_Some (a, b.0, b.1) n e in (ap (λ m. Some m.0) is, ap (λ m. Some (m.1, m.2)) is)
@@ -125,7 +139,8 @@ wide_spelled n word e = let s = number_of_spelled (2 ^ 32 - 1) n word e in (s.0,
 narrow_spelled : (n : ℕ) (word : List ℕ) → narrow_number word ≡ Some n → (word ≡ decimal n) × (n < 2 ^ 16)
 narrow_spelled n word e = let s = number_of_spelled (2 ^ 16 - 1) n word e in (s.0, omega arith)
 
-user_and_role_spelled : (text : List ℕ) (n : ℕ × ℕ) → user_and_role text ≡ Some n → (text ≡ decimal n.0 ++ (32 ∷ decimal n.1)) × (n.0 < 2 ^ 32) × (n.1 < 2 ^ 16)
+user_and_role_spelled : (text : List ℕ) (n : ℕ × ℕ) → user_and_role text ≡ Some n
+    → (text ≡ decimal n.0 ++ (32 ∷ decimal n.1)) × (n.0 < 2 ^ 32) × (n.1 < 2 ^ 16)
 unfolding user_and_role
 user_and_role_spelled text n e =
     option_and_then_some (λ (words : List ℕ × List ℕ). option_and_then (λ user. option_map (λ role. (user, role)) (narrow_number words.1)) (wide_number words.0)) (split_word text) n e
@@ -135,7 +150,8 @@ user_and_role_spelled text n e =
     let role = narrow_spelled n.1 words.1 parts.1 in
     (split_word-joined text words cut ∙ rw (user.0, role.0) refl, user.1, role.1))
 
-operation_and_object_spelled : (text : List ℕ) (n : ℕ × ℕ) → operation_and_object text ≡ Some n → (text ≡ decimal n.0 ++ (32 ∷ decimal n.1)) × (n.0 < 2 ^ 16) × (n.1 < 2 ^ 32)
+operation_and_object_spelled : (text : List ℕ) (n : ℕ × ℕ) → operation_and_object text ≡ Some n
+    → (text ≡ decimal n.0 ++ (32 ∷ decimal n.1)) × (n.0 < 2 ^ 16) × (n.1 < 2 ^ 32)
 unfolding operation_and_object
 operation_and_object_spelled text n e =
     option_and_then_some (λ (words : List ℕ × List ℕ). option_and_then (λ operation. option_map (λ object. (operation, object)) (wide_number words.1)) (narrow_number words.0)) (split_word text) n e
@@ -145,7 +161,8 @@ operation_and_object_spelled text n e =
     let object = wide_spelled n.1 words.1 parts.1 in
     (split_word-joined text words cut ∙ rw (operation.0, object.0) refl, operation.1, object.1))
 
-role_and_permission_spelled : (text : List ℕ) (n : ℕ × ℕ × ℕ) → role_and_permission text ≡ Some n → (text ≡ decimal n.0 ++ (32 ∷ (decimal n.1 ++ (32 ∷ decimal n.2)))) × (n.0 < 2 ^ 16) × (n.1 < 2 ^ 16) × (n.2 < 2 ^ 32)
+role_and_permission_spelled : (text : List ℕ) (n : ℕ × ℕ × ℕ) → role_and_permission text ≡ Some n
+    → (text ≡ decimal n.0 ++ (32 ∷ (decimal n.1 ++ (32 ∷ decimal n.2)))) × (n.0 < 2 ^ 16) × (n.1 < 2 ^ 16) × (n.2 < 2 ^ 32)
 unfolding role_and_permission
 role_and_permission_spelled text n e =
     option_and_then_some (λ (words : List ℕ × List ℕ). option_and_then (λ role. option_map (λ permission. (role, permission.0, permission.1)) (operation_and_object words.1)) (narrow_number words.0)) (split_word text) n e
@@ -156,7 +173,8 @@ role_and_permission_spelled text n e =
     (split_word-joined text words cut ∙ rw (role.0, permission.0) refl, role.1, permission.1, permission.2))
 
 -- which branch gave the value
-if_some : {A P : Type 0} (b : Bool) (x y : Option A) (c : A) → (if b then x else y) ≡ Some c → (b ≡ true → x ≡ Some c → P) → (y ≡ Some c → P) → P
+if_some : {A P : Type 0} (b : Bool) (x y : Option A) (c : A) → (if b then x else y) ≡ Some c → (b ≡ true → x ≡ Some c → P)
+    → (y ≡ Some c → P) → P
 if_some true x y c e then_so else_so = then_so refl e
 if_some false x y c e then_so else_so = else_so e
 
@@ -168,7 +186,8 @@ Named : List ℕ → List ℕ → Command → Type 0
 Named name numbers c = (name ++ (32 ∷ numbers) ≡ spelling c) × IsCommand c
 
 module _ (name numbers : List ℕ) (c : Command) where
-  named_pair : (word : List ℕ) (make : ℕ → ℕ → Command) → ((user role : ℕ) → user < 2 ^ 32 → role < 2 ^ 16 → (two_words word user role ≡ spelling (make user role)) × IsCommand (make user role)) → bytes_eq name word ≡ true → option_map (λ n. make n.0 n.1) (user_and_role numbers) ≡ Some c → Named name numbers c
+  named_pair : (word : List ℕ) (make : ℕ → ℕ → Command)
+      → ((user role : ℕ) → user < 2 ^ 32 → role < 2 ^ 16 → (two_words word user role ≡ spelling (make user role)) × IsCommand (make user role)) → bytes_eq name word ≡ true → option_map (λ n. make n.0 n.1) (user_and_role numbers) ≡ Some c → Named name numbers c
   unfolding Named
   named_pair word make spells same e =
       let (n, read, made) = mapped (λ (m : ℕ × ℕ). make m.0 m.1) (user_and_role numbers) c e in
@@ -179,7 +198,8 @@ module _ (name numbers : List ℕ) (c : Command) where
       ap (λ m. m ++ (32 ∷ numbers)) is ∙ ap (λ t. word ++ (32 ∷ t)) joined ∙ sym (two_words-grouped word n.0 n.1) ∙ spelled.0 in
       (text ∙ ap spelling made, subst IsCommand made spelled.1)
 
-  named_triple : (word : List ℕ) (make : ℕ → ℕ → ℕ → Command) → ((role operation object : ℕ) → role < 2 ^ 16 → operation < 2 ^ 16 → object < 2 ^ 32 → (three_words word role operation object ≡ spelling (make role operation object)) × IsCommand (make role operation object)) → bytes_eq name word ≡ true → option_map (λ n. make n.0 n.1 n.2) (role_and_permission numbers) ≡ Some c → Named name numbers c
+  named_triple : (word : List ℕ) (make : ℕ → ℕ → ℕ → Command)
+      → ((role operation object : ℕ) → role < 2 ^ 16 → operation < 2 ^ 16 → object < 2 ^ 32 → (three_words word role operation object ≡ spelling (make role operation object)) × IsCommand (make role operation object)) → bytes_eq name word ≡ true → option_map (λ n. make n.0 n.1 n.2) (role_and_permission numbers) ≡ Some c → Named name numbers c
   unfolding Named
   named_triple word make spells same e =
       let (n, read, made) = mapped (λ (m : ℕ × ℕ × ℕ). make m.0 m.1 m.2) (role_and_permission numbers) c e in

@@ -36,32 +36,39 @@ pub starts : (stage : Stage) → stage ≡ Start → Follows stage Unread
 unfolding Follows
 starts stage e = rw e tt
 
-pub first_line-bad : (line : List ℕ) → sizes_of_line line ≡ None → cluster_of_line line ≡ None → StageAnswers (after_line Unread line) None
+pub first_line-bad : (line : List ℕ) → sizes_of_line line ≡ None → cluster_of_line line ≡ None
+    → StageAnswers (after_line Unread line) None
 unfolding after_line
 first_line-bad line e f = rw (e, f) tt
 
-pub first_line-good : (line text : List ℕ) (s : Counts) (instance : State) → sizes_of_line line ≡ Some s → ((sizes : Counts) → instance ≡ state sizes []) → text ≡ sizes_text s
+pub first_line-good : (line text : List ℕ) (s : Counts) (instance : State) → sizes_of_line line ≡ Some s
+    → ((sizes : Counts) → instance ≡ state sizes []) → text ≡ sizes_text s
     → StageAnswers (after_line Unread line) (Some (Running s instance, text))
 unfolding after_line Follows
-first_line-good line text s instance e fresh is = rw e ((refl, (sizes_of_line_spelled line s e).1, fresh s, All-nil (λ t. t.kind ≡ Send → t.from ≡ owner)), is)
+first_line-good line text s instance e fresh is =
+    rw e ((refl, (sizes_of_line_spelled line s e).1, fresh s, All-nil (λ t. t.kind ≡ Send → t.from ≡ owner)), is)
 
 -- a cluster that a line names has one node
 pub one_node : (line : List ℕ) (s : Counts) → cluster_of_line line ≡ Some s → s.nodes ≡ 1
 one_node line s e = (cluster_of_line_spelled line s e).2
 
-pub first_line-cluster : (line text : List ℕ) (s : Counts) (roles : Table) → sizes_of_line line ≡ None → cluster_of_line line ≡ Some s → roles ≡ no_roles s
+pub first_line-cluster : (line text : List ℕ) (s : Counts) (roles : Table) → sizes_of_line line ≡ None
+    → cluster_of_line line ≡ Some s → roles ≡ no_roles s
     → text ≡ sizes_text s → StageAnswers (after_line Unread line) (Some (Roles roles, text))
 unfolding after_line Follows
 first_line-cluster line text s roles none e fresh is = rw (none, e) ((fresh, one_node line s e), is)
 
-pub later_line-bad : (s : Counts) (takes : List Take) (line : List ℕ) (stage : Stage) → take_of_line s line ≡ None → Answers (after_line (OfInstance s takes) line) stage None
+pub later_line-bad : (s : Counts) (takes : List Take) (line : List ℕ) (stage : Stage) → take_of_line s line ≡ None
+    → Answers (after_line (OfInstance s takes) line) stage None
 unfolding after_line
 later_line-bad s takes line stage e = rw e tt
 
-pub SendsAreFrom-push : (s : Counts) (takes : List Take) (t : Take) → SendsAreFrom owner takes → IsFromNode s t → SendsAreFrom owner (takes ++ t ∷ [])
+pub SendsAreFrom-push : (s : Counts) (takes : List Take) (t : Take) → SendsAreFrom owner takes → IsFromNode s t
+    → SendsAreFrom owner (takes ++ t ∷ [])
 SendsAreFrom-push s takes t sends from = All-push (λ (u : Take). u.kind ≡ Send → u.from ≡ owner) takes t sends from.1
 
-pub later_line-good : (s : Counts) (takes : List Take) (line text : List ℕ) (t : Take) (instance : State) → take_of_line s line ≡ Some t → IsFromNode s t → AreSizes s
+pub later_line-good : (s : Counts) (takes : List Take) (line text : List ℕ) (t : Take) (instance : State)
+    → take_of_line s line ≡ Some t → IsFromNode s t → AreSizes s
     → SendsAreFrom owner takes → instance ≡ state s (takes ++ t ∷ []) → text ≡ outcome_text s takes t
     → Answers (after_line (OfInstance s takes) line) (Running s instance) (Some text)
 unfolding after_line Follows
@@ -82,16 +89,19 @@ asking-bad : (c : ClusterValue) (stage : Stage) (line : List ℕ) → c.node.con
     → Answers (after_cluster_line c line) stage None
 asking-bad c stage line one not = bad (order_of_line c.node.config.roles.sizes line) refl
   where
-    bad : (o : Option Order) → o ≡ order_of_line c.node.config.roles.sizes line → Answers (option_map (after_asking c) o) stage None
+    bad : (o : Option Order) → o ≡ order_of_line c.node.config.roles.sizes line
+        → Answers (option_map (after_asking c) o) stage None
     bad None e = tt
     bad (Some order) e = absurd (not (order_line-text c.node.config.roles.sizes line order (omega (arith, one)) (sym e)))
 
 -- a line that is no text is bad
-pub no_text-bad : (script : Script) (stage : Stage) (line : List ℕ) → Follows stage script → (IsUtf8 line → ⊥) → Answers (after_line script line) stage None
+pub no_text-bad : (script : Script) (stage : Stage) (line : List ℕ) → Follows stage script → (IsUtf8 line → ⊥)
+    → Answers (after_line script line) stage None
 unfolding after_line Follows
 no_text-bad Unread stage line follows not = bad (sizes_of_line line) (cluster_of_line line) refl refl
   where
-    bad : (o p : Option Counts) → o ≡ sizes_of_line line → p ≡ cluster_of_line line → Answers (option_or (option_map first_of_instance o) (option_map first_of_cluster p)) stage None
+    bad : (o p : Option Counts) → o ≡ sizes_of_line line → p ≡ cluster_of_line line
+        → Answers (option_or (option_map first_of_instance o) (option_map first_of_cluster p)) stage None
     bad None None e f = tt
     bad (Some s) p e f = absurd (not (first_line-text line s (sym e)))
     bad None (Some s) e f = absurd (not (cluster_line-text line s (sym f)))
@@ -118,7 +128,8 @@ no_text-bad (OfCluster c) (Roles table) line follows not = absurd follows
 no_text-bad (OfCluster c) (Living cluster) line follows not = asking-bad c (Living cluster) line follows.1 not
 
 -- the answer at the first line, where the stage is that of no line
-pub start-bad : (script : Script) (stage : Stage) (line : List ℕ) → stage ≡ Start → Follows stage script → StageAnswers (after_line Unread line) None → Answers (after_line script line) stage None
+pub start-bad : (script : Script) (stage : Stage) (line : List ℕ) → stage ≡ Start → Follows stage script
+    → StageAnswers (after_line Unread line) None → Answers (after_line script line) stage None
 unfolding Follows
 start-bad script stage line e follows bad = first script (subst (λ (s : Stage). Follows s script) e follows)
   where
@@ -132,7 +143,8 @@ start-bad script stage line e follows bad = first script (subst (λ (s : Stage).
     first (OfRoles roles) h = absurd h
     first (OfCluster c) h = absurd h
 
-pub start-good : (script : Script) (stage after : Stage) (line text : List ℕ) → stage ≡ Start → Follows stage script → StageAnswers (after_line Unread line) (Some (after, text)) → Answers (after_line script line) after (Some text)
+pub start-good : (script : Script) (stage after : Stage) (line text : List ℕ) → stage ≡ Start → Follows stage script
+    → StageAnswers (after_line Unread line) (Some (after, text)) → Answers (after_line script line) after (Some text)
 unfolding Follows
 start-good script stage after line text e follows good = first script (subst (λ (s : Stage). Follows s script) e follows)
   where
@@ -180,7 +192,8 @@ pub cluster_follows : (script : Script) (stage : Stage) (cluster : ClusterValue)
 unfolding Follows
 cluster_follows script stage cluster e follows = are script (subst (λ (s : Stage). Follows s script) e follows)
   where
-    are : (script : Script) → Follows (Living cluster) script → (script ≡ OfCluster cluster) × (cluster.node.config.roles.sizes.nodes ≡ 1)
+    are : (script : Script) → Follows (Living cluster) script
+        → (script ≡ OfCluster cluster) × (cluster.node.config.roles.sizes.nodes ≡ 1)
     are Unread h = absurd h
     are (OfInstance s takes) h = absurd h
     are (OfRoles table) h = absurd h
@@ -190,15 +203,20 @@ cluster_follows script stage cluster e follows = are script (subst (λ (s : Stag
 alone_due : (roles : Table) → roles.sizes.nodes ≡ 1 → cluster_due roles ≡ Some (new_cluster roles)
 alone_due roles one = rw one refl
 
-pub cluster_is_due : (roles copy : Table) (o : Option ClusterValue) → copy ≡ roles → roles.sizes.nodes ≡ 1 → o ≡ cluster_due copy → o ≡ None → ⊥
-cluster_is_due roles copy o same one due none = none-some (new_cluster roles) (sym none ∙ due ∙ ap cluster_due same ∙ alone_due roles one)
+pub cluster_is_due : (roles copy : Table) (o : Option ClusterValue) → copy ≡ roles → roles.sizes.nodes ≡ 1
+    → o ≡ cluster_due copy → o ≡ None → ⊥
+cluster_is_due roles copy o same one due none =
+    none-some (new_cluster roles) (sym none ∙ due ∙ ap cluster_due same ∙ alone_due roles one)
 
-pub cluster_due_is : (roles copy : Table) (o : Option ClusterValue) (c : ClusterValue) → copy ≡ roles → roles.sizes.nodes ≡ 1 → o ≡ cluster_due copy → o ≡ Some c
+pub cluster_due_is : (roles copy : Table) (o : Option ClusterValue) (c : ClusterValue) → copy ≡ roles → roles.sizes.nodes ≡ 1
+    → o ≡ cluster_due copy → o ≡ Some c
     → c ≡ new_cluster roles
-cluster_due_is roles copy o c same one due some = same_Some c (new_cluster roles) (sym some ∙ due ∙ ap cluster_due same ∙ alone_due roles one)
+cluster_due_is roles copy o c same one due some =
+    same_Some c (new_cluster roles) (sym some ∙ due ∙ ap cluster_due same ∙ alone_due roles one)
 
 -- one more role
-pub role_line-good : (roles new : Table) (line text : List ℕ) (said : ℕ × ℕ) → role_of_line line ≡ Some said → roles.sizes.nodes ≡ 1
+pub role_line-good : (roles new : Table) (line text : List ℕ) (said : ℕ × ℕ) → role_of_line line ≡ Some said
+    → roles.sizes.nodes ≡ 1
     → new ≡ table_after roles said (add_due roles said.0 said.1) → text ≡ role_text (add_due roles said.0 said.1)
     → Answers (after_line (OfRoles roles) line) (Roles new) (Some text)
 unfolding after_line Follows
@@ -209,7 +227,8 @@ role_line-good roles new line text said e one is written = rw e ((is, sizes (add
     sizes (Some fault) = one
 
 -- the first line that is no role's
-pub roles_end : (roles : Table) (line : List ℕ) → role_of_line line ≡ None → after_line (OfRoles roles) line ≡ after_cluster_line (new_cluster roles) line
+pub roles_end : (roles : Table) (line : List ℕ) → role_of_line line ≡ None
+    → after_line (OfRoles roles) line ≡ after_cluster_line (new_cluster roles) line
 unfolding after_line
 roles_end roles line e = rw e refl
 
@@ -217,10 +236,12 @@ pub cluster_goes_on : (c : ClusterValue) (line : List ℕ) → after_line (OfClu
 unfolding after_line
 cluster_goes_on c line = refl
 
-pub asking-none : (c : ClusterValue) (stage : Stage) (line : List ℕ) → order_of_line c.node.config.roles.sizes line ≡ None → Answers (after_cluster_line c line) stage None
+pub asking-none : (c : ClusterValue) (stage : Stage) (line : List ℕ) → order_of_line c.node.config.roles.sizes line ≡ None
+    → Answers (after_cluster_line c line) stage None
 asking-none c stage line e = rw e tt
 
-pub asking-some : (c new : ClusterValue) (line text : List ℕ) (order : Order) → order_of_line c.node.config.roles.sizes line ≡ Some order → new ≡ after_order c order
+pub asking-some : (c new : ClusterValue) (line text : List ℕ) (order : Order)
+    → order_of_line c.node.config.roles.sizes line ≡ Some order → new ≡ after_order c order
     → c.node.config.roles.sizes.nodes ≡ 1 → text ≡ order_text c order
     → Answers (after_cluster_line c line) (Living new) (Some text)
 unfolding Follows

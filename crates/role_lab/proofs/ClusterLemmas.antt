@@ -351,7 +351,8 @@ after_reply-config n e (reply.Counted send delivered from to) = refl
 after_reply-config n e (reply.Session id) = refl
 after_reply-config n e reply.Done = refl
 
-after_answer-config : (c : ClusterValue) (e : Event) (answer : Result Reply NodeFault) → (after_answer c e answer).node.config ≡ c.node.config
+after_answer-config : (c : ClusterValue) (e : Event) (answer : Result Reply NodeFault)
+    → (after_answer c e answer).node.config ≡ c.node.config
 after_answer-config c e (Ok r) = after_reply-config c.node e r
 after_answer-config c e (Err f) = refl
 
@@ -371,7 +372,8 @@ give_waiting-config c = give_all-config (cluster_of c.node c.pool (length c.pool
 pub after_order-config : (c : ClusterValue) (order : Order) → (after_order c order).node.config ≡ c.node.config
 unfolding after_order flush
 after_order-config c (Issue command) = after_event-config c (event.Issue command)
-after_order-config c Flush = give_waiting-config (give_waiting (give_waiting c)) ∙ give_waiting-config (give_waiting c) ∙ give_waiting-config c
+after_order-config c Flush =
+    give_waiting-config (give_waiting (give_waiting c)) ∙ give_waiting-config (give_waiting c) ∙ give_waiting-config c
 after_order-config c (Act act) = after_event-config c (event.Client act)
 after_order-config c (Ask question) = refl
 after_order-config c (Reach owner) = refl

@@ -21,7 +21,8 @@ pub record Begun (front rest : List ℕ) : Type 0 where
   pub is : lines_of (front ++ rest) ≡ line ∷ lines
   pub long : length front ≤ length line
 
-onto : (b : ℕ) (parts : List (List ℕ)) → (line : List ℕ) × (lines : List (List ℕ)) × (onto_first b parts ≡ line ∷ lines) × (1 ≤ length line)
+onto : (b : ℕ) (parts : List (List ℕ))
+    → (line : List ℕ) × (lines : List (List ℕ)) × (onto_first b parts ≡ line ∷ lines) × (1 ≤ length line)
 onto b [] = (b ∷ [], [], refl, omega arith)
 onto b (part ∷ parts) = (b ∷ part, parts, refl, omega arith)
 

@@ -13,7 +13,8 @@ module _ {S : Type 0} (next : S → List ℕ → Option (S × List ℕ)) where
   unfolding text_by
   text_by-good state after line text lines e = rw e refl
 
-  pub text_by-bad : (state : S) (line : List ℕ) (lines : List (List ℕ)) → next state line ≡ None → text_by next state (line ∷ lines) ≡ []
+  pub text_by-bad : (state : S) (line : List ℕ) (lines : List (List ℕ)) → next state line ≡ None
+      → text_by next state (line ∷ lines) ≡ []
   unfolding text_by
   text_by-bad state line lines e = rw e refl
 
@@ -21,11 +22,13 @@ module _ {S : Type 0} (next : S → List ℕ → Option (S × List ℕ)) where
   unfolding bad_by
   bad_by-nil number state = refl
 
-  pub bad_by-good : (number : ℕ) (state after : S) (line text : List ℕ) (lines : List (List ℕ)) → next state line ≡ Some (after, text)
+  pub bad_by-good : (number : ℕ) (state after : S) (line text : List ℕ) (lines : List (List ℕ))
+      → next state line ≡ Some (after, text)
       → bad_by next number state (line ∷ lines) ≡ bad_by next (number + 1) after lines
   unfolding bad_by
   bad_by-good number state after line text lines e = rw e refl
 
-  pub bad_by-bad : (number : ℕ) (state : S) (line : List ℕ) (lines : List (List ℕ)) → next state line ≡ None → bad_by next number state (line ∷ lines) ≡ Some number
+  pub bad_by-bad : (number : ℕ) (state : S) (line : List ℕ) (lines : List (List ℕ)) → next state line ≡ None
+      → bad_by next number state (line ∷ lines) ≡ Some number
   unfolding bad_by
   bad_by-bad number state line lines e = rw e refl

@@ -28,41 +28,49 @@ pub record Ran (known pending out_old out_new : Option (List ℕ)) (held : List 
   pub stops : (rest : List ℕ) → first_bad (done ++ rest) ≡ bad_by next number script (lines_of rest)
   pub counted : (rest : List ℕ) → length (lines_of (done ++ rest)) + 1 ≡ number + length (lines_of rest)
 
-pub Ran-start : (known out : Option (List ℕ)) (front held : List ℕ) → front ≡ [] → held ≡ [] → Ran known (prepend_known front known) out out held Unread 1
+pub Ran-start : (known out : Option (List ℕ)) (front held : List ℕ) → front ≡ [] → held ≡ []
+    → Ran known (prepend_known front known) out out held Unread 1
 Ran-start known out front held none empty =
     record {
       done = [];
       sent = [];
-      read = subst (λ (l : List ℕ). Consumes known (prepend_known l known) []) (sym none) (subst (λ (k : Option (List ℕ)). Consumes known k []) (sym (prepend_known-nil known)) (Consumes-nil known));
+      read =
+          subst (λ (l : List ℕ). Consumes known (prepend_known l known) []) (sym none) (subst (λ (k : Option (List ℕ)). Consumes known k []) (sym (prepend_known-nil known)) (Consumes-nil known));
       wrote = Appends-nil out;
       goes = λ rest. rw empty refl;
       stops = λ rest. refl;
       counted = λ rest. omega arith;
     }
 
-pub Ran-kept : (k p q a b : Option (List ℕ)) (held : List ℕ) (script : Script) (number : ℕ) → Ran k p a b held script number → Keeps p q → Ran k q a b held script number
+pub Ran-kept : (k p q a b : Option (List ℕ)) (held : List ℕ) (script : Script) (number : ℕ) → Ran k p a b held script number
+    → Keeps p q → Ran k q a b held script number
 Ran-kept k p q a b held script number ran kept =
     record { done = ran.done; sent = ran.sent; read = Consumes-kept k p q ran.done ran.read kept; wrote = ran.wrote; goes = ran.goes; stops = ran.stops; counted = ran.counted }
 
-pub Ran-moved : (k p a b c : Option (List ℕ)) (held left : List ℕ) (script : Script) (number : ℕ) → Ran k p a b held script number → Moved b c held left → Ran k p a c left script number
+pub Ran-moved : (k p a b c : Option (List ℕ)) (held left : List ℕ) (script : Script) (number : ℕ)
+    → Ran k p a b held script number → Moved b c held left → Ran k p a c left script number
 Ran-moved k p a b c held left script number ran (part, is, moved) =
     record {
       done = ran.done;
       sent = ran.sent ++ part;
       read = ran.read;
       wrote = Appends-trans a b c ran.sent part ran.wrote moved;
-      goes = λ rest. ran.goes rest ∙ ap (λ l. l ++ text_by next script (lines_of rest)) (ap (λ l. ran.sent ++ l) is ∙ sym (append_assoc ran.sent part left));
+      goes =
+          λ rest. ran.goes rest
+          ∙ ap (λ l. l ++ text_by next script (lines_of rest)) (ap (λ l. ran.sent ++ l) is ∙ sym (append_assoc ran.sent part left));
       stops = ran.stops;
       counted = ran.counted;
     }
 
-Consumes-front : (known : Option (List ℕ)) (front xs ys : List ℕ) → front ≡ xs ++ ys → Consumes (prepend_known front known) (prepend_known ys known) xs
+Consumes-front : (known : Option (List ℕ)) (front xs ys : List ℕ) → front ≡ xs ++ ys
+    → Consumes (prepend_known front known) (prepend_known ys known) xs
 Consumes-front None front xs ys e = tt
 Consumes-front (Some zs) front xs ys e = ap (λ l. l ++ zs) e ∙ append_assoc xs ys zs
 
 -- a good line was taken
 pub Ran-line : (k known a b : Option (List ℕ)) (front held holds text : List ℕ) (script after : Script) (number n : ℕ)
-    → Ran k (prepend_known front known) a b held script number → EndsAt front n → next script (take n front) ≡ Some (after, text) → holds ≡ held ++ ended text
+    → Ran k (prepend_known front known) a b held script number → EndsAt front n
+    → next script (take n front) ≡ Some (after, text) → holds ≡ held ++ ended text
     → Ran k (prepend_known (drop (n + 1) front) known) a b holds after (number + 1)
 Ran-line k known a b front held holds text script after number n ran (none, within, is) good grown =
     let line = take n front in
@@ -79,7 +87,9 @@ Ran-line k known a b front held holds text script after number n ran (none, with
           ∙ ap (λ l. (ran.sent ++ held) ++ l) (ap (text_by next script) (taken rest) ∙ text_by-good next script after line text (lines_of rest) good)
           ∙ sym (append_assoc (ran.sent ++ held) (ended text) (text_by next after (lines_of rest)))
           ∙ ap (λ l. l ++ text_by next after (lines_of rest)) (append_assoc ran.sent held (ended text) ∙ ap (λ l. ran.sent ++ l) (sym grown));
-      stops = λ rest. ap first_bad (regrouped rest) ∙ ran.stops (line ++ line_end ∷ rest) ∙ ap (bad_by next number script) (taken rest)
+      stops =
+          λ rest. ap first_bad (regrouped rest) ∙ ran.stops (line ++ line_end ∷ rest)
+          ∙ ap (bad_by next number script) (taken rest)
           ∙ bad_by-good next number script after line text (lines_of rest) good;
       counted = λ rest.
           let before = ran.counted (line ++ line_end ∷ rest) in
@@ -110,11 +120,13 @@ tail_at_end (Some ys) front end = ap (λ l. front ++ l) end ∙ append-nil front
 -- ---- how a run ends
 
 module _ (k p a b c : Option (List ℕ)) (held : List ℕ) (script : Script) (number : ℕ) (ran : Ran k p a b held script number) where
-  wrote_text : (tail text : List ℕ) → text_by next script (lines_of tail) ≡ text → Appends b c (held ++ text) → Appends a c (script_text (ran.done ++ tail))
+  wrote_text : (tail text : List ℕ) → text_by next script (lines_of tail) ≡ text → Appends b c (held ++ text)
+      → Appends a c (script_text (ran.done ++ tail))
   wrote_text tail text is wrote =
       subst (Appends a c) (sym (ran.goes tail ∙ ap (λ l. (ran.sent ++ held) ++ l) is ∙ append_assoc ran.sent held text)) (Appends-trans a b c ran.sent (held ++ text) ran.wrote wrote)
 
-  wrote_held : (tail : List ℕ) → text_by next script (lines_of tail) ≡ [] → Appends b c held → Appends a c (script_text (ran.done ++ tail))
+  wrote_held : (tail : List ℕ) → text_by next script (lines_of tail) ≡ [] → Appends b c held
+      → Appends a c (script_text (ran.done ++ tail))
   wrote_held tail is wrote = wrote_text tail [] is (subst (Appends b c) (sym (append-nil held)) wrote)
 
   pub Ran-front : AppendsFront b c held → WroteFront k a c
@@ -124,7 +136,8 @@ module _ (k p a b c : Option (List ℕ)) (held : List ℕ) (script : Script) (nu
       let text : script_text (ran.done ++ tail) ≡ (ran.sent ++ front) ++ (rest ++ more) = ran.goes tail ∙ rw is (simp append_assoc) in
       (ran.done ++ tail, HasBytes-done k p ran.done tail ran.read has, (ran.sent ++ front, rest ++ more, text, Appends-trans a b c ran.sent front ran.wrote wrote))
 
-  pub Ran-bad : (reader : Option (List ℕ)) (tail line : List ℕ) (lines : List (List ℕ)) → HasBytes p tail → lines_of tail ≡ line ∷ lines → next script line ≡ None → Appends b c held
+  pub Ran-bad : (reader : Option (List ℕ)) (tail line : List ℕ) (lines : List (List ℕ)) → HasBytes p tail
+      → lines_of tail ≡ line ∷ lines → next script line ≡ None → Appends b c held
       → ScriptRan k reader a c (Err (BadScript number))
   Ran-bad reader tail line lines has is bad wrote = (
     ran.done ++ tail,
@@ -134,10 +147,14 @@ module _ (k p a b c : Option (List ℕ)) (held : List ℕ) (script : Script) (nu
   )
 
   -- the run ends when what is held is written, where that is shown as a slice
-  pub Ran-finish : (reader : Option (List ℕ)) (shown : List ℕ) (ending result : Result (Unit {0}) ScriptFault) (Failed : Type 0) → shown ≡ held
-      → (Appends b c held → ScriptRan k reader a c ending) → Finished b c shown ending result Failed → ScriptRan k reader a c result
-  Ran-finish reader shown ending result Failed same ends (inl done) = subst (ScriptRan k reader a c) (sym done.0) (ends (subst (Appends b c) same done.1))
-  Ran-finish reader shown ending result Failed same ends (inr failed) = subst (ScriptRan k reader a c) (sym failed.0) (Ran-front (subst (AppendsFront b c) same failed.1))
+  pub Ran-finish : (reader : Option (List ℕ)) (shown : List ℕ) (ending result : Result (Unit {0}) ScriptFault) (Failed : Type 0)
+      → shown ≡ held
+      → (Appends b c held → ScriptRan k reader a c ending) → Finished b c shown ending result Failed
+      → ScriptRan k reader a c result
+  Ran-finish reader shown ending result Failed same ends (inl done) =
+      subst (ScriptRan k reader a c) (sym done.0) (ends (subst (Appends b c) same done.1))
+  Ran-finish reader shown ending result Failed same ends (inr failed) =
+      subst (ScriptRan k reader a c) (sym failed.0) (Ran-front (subst (AppendsFront b c) same failed.1))
 
   pub Ran-endless : 2 ^ 64 - 1 ≤ number → Appends b c held → IsEndless k a c
   Ran-endless many wrote = (
@@ -160,22 +177,26 @@ module _ (k known a b c : Option (List ℕ)) (front held : List ℕ) (script : S
         wrote_held k _ a b c held script number ran [] (ap (text_by next script) lines_of-nil ∙ text_by-nil next script) wrote,
       )
 
-  pub Ran-last : (after : Script) (text holds : List ℕ) → NoLineEnd front → 0 < length front → IsAtEnd known → next script front ≡ Some (after, text) → holds ≡ held ++ ended text
+  pub Ran-last : (after : Script) (text holds : List ℕ) → NoLineEnd front → 0 < length front → IsAtEnd known
+      → next script front ≡ Some (after, text) → holds ≡ held ++ ended text
       → Appends b c holds → ScriptRan k known a c (Ok tt)
   Ran-last after text holds none some end good grown wrote =
       let last : lines_of front ≡ front ∷ [] = lines_of-last front none some in (
         ran.done ++ front,
         HasBytes-done k _ ran.done front ran.read (tail_at_end known front end),
         end,
-        ran.stops front ∙ ap (bad_by next number script) last ∙ bad_by-good next number script after front text [] good ∙ bad_by-nil next (number + 1) after,
+        ran.stops front ∙ ap (bad_by next number script) last ∙ bad_by-good next number script after front text [] good
+            ∙ bad_by-nil next (number + 1) after,
         wrote_text k _ a b c held script number ran front (ended text)
             (ap (text_by next script) last ∙ text_by-good next script after front text [] good ∙ ap (λ l. ended text ++ l) (text_by-nil next after) ∙ append-nil (ended text))
             (subst (Appends b c) grown wrote),
       )
 
   -- the same where what is due for the last line is held too
-  pub Ran-last_finish : (after : Script) (text holds shown : List ℕ) (result : Result (Unit {0}) ScriptFault) (Failed : Type 0) → NoLineEnd front → 0 < length front → IsAtEnd known
-      → next script front ≡ Some (after, text) → holds ≡ held ++ ended text → shown ≡ holds → Finished b c shown (Ok tt) result Failed → ScriptRan k known a c result
+  pub Ran-last_finish : (after : Script) (text holds shown : List ℕ) (result : Result (Unit {0}) ScriptFault) (Failed : Type 0)
+      → NoLineEnd front → 0 < length front → IsAtEnd known
+      → next script front ≡ Some (after, text) → holds ≡ held ++ ended text → shown ≡ holds
+      → Finished b c shown (Ok tt) result Failed → ScriptRan k known a c result
   Ran-last_finish after text holds shown result Failed none some end good grown same (inl done) =
       subst (ScriptRan k known a c) (sym done.0) (Ran-last after text holds none some end good grown (subst (Appends b c) same done.1))
   Ran-last_finish after text holds shown result Failed none some end good grown same (inr failed) =
@@ -188,7 +209,8 @@ module _ (k known a b c : Option (List ℕ)) (front held : List ℕ) (script : S
       let front_is : WroteFront k a c = (ran.done ++ front, HasBytes-done k _ ran.done front ran.read (tail_at_end known front end), (ran.sent ++ front_written, rest, all, Appends-trans a b c ran.sent front_written ran.wrote wrote)) in
       subst (ScriptRan k known a c) (sym failed.0) front_is
 
-  pub Ran-bad_line : (reader : Option (List ℕ)) (n : ℕ) → EndsAt front n → next script (take n front) ≡ None → Appends b c held → ScriptRan k reader a c (Err (BadScript number))
+  pub Ran-bad_line : (reader : Option (List ℕ)) (n : ℕ) → EndsAt front n → next script (take n front) ≡ None → Appends b c held
+      → ScriptRan k reader a c (Err (BadScript number))
   Ran-bad_line reader n (none, within, is) bad wrote =
       let (rest, has) = tail_of known front in
       let line = take n front in
@@ -196,11 +218,13 @@ module _ (k known a b c : Option (List ℕ)) (front held : List ℕ) (script : S
       ap (λ l. lines_of (l ++ rest)) is ∙ ap lines_of (append_assoc line (line_end ∷ drop (n + 1) front) rest) ∙ lines_of-line line (drop (n + 1) front ++ rest) none in
       Ran-bad k _ a b c held script number ran reader (front ++ rest) line _ has lines bad wrote
 
-  pub Ran-bad_last : (reader : Option (List ℕ)) → NoLineEnd front → 0 < length front → IsAtEnd known → next script front ≡ None → Appends b c held → ScriptRan k reader a c (Err (BadScript number))
+  pub Ran-bad_last : (reader : Option (List ℕ)) → NoLineEnd front → 0 < length front → IsAtEnd known → next script front ≡ None
+      → Appends b c held → ScriptRan k reader a c (Err (BadScript number))
   Ran-bad_last reader none some end bad wrote =
       Ran-bad k _ a b c held script number ran reader front front [] (tail_at_end known front end) (lines_of-last front none some) bad wrote
 
-  pub Ran-too_long : (reader : Option (List ℕ)) → most_line_bytes < length front → NoLineEnd (take (most_line_bytes + 1) front) → Appends b c held → ScriptRan k reader a c (Err (BadScript number))
+  pub Ran-too_long : (reader : Option (List ℕ)) → most_line_bytes < length front → NoLineEnd (take (most_line_bytes + 1) front)
+      → Appends b c held → ScriptRan k reader a c (Err (BadScript number))
   Ran-too_long reader long none wrote =
       let (rest, has) = tail_of known front in
       let cut = take (most_line_bytes + 1) front in
@@ -223,17 +247,20 @@ AppendsFront-nothing a held = ([], held, refl, Appends-nil a)
 pub AppendsFront-whole : (a b : Option (List ℕ)) (held : List ℕ) → Appends a b held → AppendsFront a b held
 AppendsFront-whole a b held wrote = (held, [], sym (append-nil held), wrote)
 
-pub ScriptRan-fault : (k reader a c : Option (List ℕ)) (e : ScriptFault) → (e ≡ Device) ⊎ (e ≡ Memory) → WroteFront k a c → ScriptRan k reader a c (Err e)
+pub ScriptRan-fault : (k reader a c : Option (List ℕ)) (e : ScriptFault) → (e ≡ Device) ⊎ (e ≡ Memory) → WroteFront k a c
+    → ScriptRan k reader a c (Err e)
 ScriptRan-fault k reader a c e (inl is) wrote = subst (λ (f : ScriptFault). ScriptRan k reader a c (Err f)) (sym is) wrote
 ScriptRan-fault k reader a c e (inr is) wrote = subst (λ (f : ScriptFault). ScriptRan k reader a c (Err f)) (sym is) wrote
 
 -- ---- what a line did
 
-pub Holds-bad : (due : Option (Script × List ℕ)) (stage : Stage) (old new : List ℕ) (good : Bool) → Holds due stage old new good → good ≡ false → (due ≡ None) × (new ≡ old)
+pub Holds-bad : (due : Option (Script × List ℕ)) (stage : Stage) (old new : List ℕ) (good : Bool) → Holds due stage old new good
+    → good ≡ false → (due ≡ None) × (new ≡ old)
 Holds-bad None stage old new good holds e = (refl, holds.1)
 Holds-bad (Some p) stage old new good holds e = cc
 
-pub Holds-good : (due : Option (Script × List ℕ)) (stage : Stage) (old new : List ℕ) (good : Bool) → Holds due stage old new good → good ≡ true
+pub Holds-good : (due : Option (Script × List ℕ)) (stage : Stage) (old new : List ℕ) (good : Bool)
+    → Holds due stage old new good → good ≡ true
     → (p : Script × List ℕ) × (due ≡ Some p) × Follows stage p.0 × (new ≡ old ++ ended p.1)
 Holds-good None stage old new good holds e = cc
 Holds-good (Some p) stage old new good holds e = (p, refl, holds.1, holds.2)
@@ -241,7 +268,8 @@ Holds-good (Some p) stage old new good holds e = (p, refl, holds.1, holds.2)
 -- ---- when the device has failed
 
 pub finish_device : (b c : Option (List ℕ)) (shown : List ℕ) (ending result : Result (Unit {0}) ScriptFault) (before mid after : ℕ) (R E : Type 0)
-    → IfErr ending (λ e. e ≡ Device → Appends b c shown → E) → Finished b c shown ending result (Rose mid after) → NotFewer before mid
+    → IfErr ending (λ e. e ≡ Device → Appends b c shown → E) → Finished b c shown ending result (Rose mid after)
+    → NotFewer before mid
     → IfErr result (λ e. e ≡ Device → R ⊎ (Rose before after ⊎ E))
 finish_device b c shown ending result before mid after R E ends (inl done) counted = subst Fails (sym done.0) (at ending ends)
   where

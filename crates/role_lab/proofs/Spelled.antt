@@ -54,7 +54,8 @@ module _ (s : Counts) (kind : Kind) (from : ℕ) (c : Command) (within : from < 
   vote_of-spelling small =
       rw (split_word-decimal from (spelling c) (omega arith)) (rw (byte_read from small) take_from-spelling)
 
-named_spelling : (s : Counts) (kind : Kind) (from : ℕ) (c : Command) → AreSizes s → from < s.nodes → (kind ≡ Send → from ≡ owner) → IsCommand c
+named_spelling : (s : Counts) (kind : Kind) (from : ℕ) (c : Command) → AreSizes s → from < s.nodes
+    → (kind ≡ Send → from ≡ owner) → IsCommand c
     → take_of_line s (said_spelling kind from c) ≡ Some (record { kind = kind; from = from; command = c })
 unfolding take_of_line named_take said
 named_spelling s Send from c are within owners is =
@@ -124,7 +125,8 @@ record Read (s : Counts) (kind : Kind) (text : List ℕ) (t : Take) : Type 0 whe
   text_is : text ≡ spelling t.command
   is : IsCommand t.command
 
-take_from_spelled : (s : Counts) (kind : Kind) (index : ℕ) (text : List ℕ) (t : Take) → take_from s kind index text ≡ Some t → Read s kind text t × (t.from ≡ index)
+take_from_spelled : (s : Counts) (kind : Kind) (index : ℕ) (text : List ℕ) (t : Take) → take_from s kind index text ≡ Some t
+    → Read s kind text t × (t.from ≡ index)
 unfolding take_from
 take_from_spelled s kind index text t e =
     option_and_then_some (λ (name : ℕ). option_map (λ c. record { kind = kind; from = name; command = c }) (command_of text)) (name_due s index) t e
@@ -167,7 +169,8 @@ vote_of_spelled s kind text t e =
 Named : Counts → List ℕ → List ℕ → Take → Type 0
 Named s name text t = (name ++ (32 ∷ text) ≡ take_spelling t) × IsTake s t
 
-named_send : (s : Counts) (name text : List ℕ) (t : Take) → bytes_eq name (codes "send") ≡ true → take_from s Send owner text ≡ Some t → Named s name text t
+named_send : (s : Counts) (name text : List ℕ) (t : Take) → bytes_eq name (codes "send") ≡ true
+    → take_from s Send owner text ≡ Some t → Named s name text t
 unfolding Named
 named_send s name text t same e =
     let (said, from) = take_from_spelled s Send owner text t e in

@@ -357,7 +357,8 @@ role_line-text line said e =
     let ascii = word_text (codes "role ") refl then number said.0 (omega arith) then space then number said.1 (omega arith) in
     subst IsUtf8 (sym line_is) (IsUtf8-from_ascii _ ascii.is)
 
-pub order_line-text : (s : Counts) (line : List ℕ) (order : Order) → s.nodes ≤ 64 → order_of_line s line ≡ Some order → IsUtf8 line
+pub order_line-text : (s : Counts) (line : List ℕ) (order : Order) → s.nodes ≤ 64 → order_of_line s line ≡ Some order
+    → IsUtf8 line
 order_line-text s line order are e =
     let (node, at, line_is, is) = order_of_line_spelled s line order e in
     let ascii : Ascii (order_spelling node order) =

@@ -12,7 +12,8 @@ use Rattle.std.specs.List.{position_or_len, before_first, after_first}
 use Rattle.std.specs.Str.Parse.{AllDigits}
 use Rattle.role_commands.specs.Numbers.{is_space, split_word}
 
-split_word-plain : (front back : List ℕ) → ((i : ℕ) → i < length front → get_or front i 0 ≢ 32) → split_word (front ++ (32 ∷ back)) ≡ Some (front, back)
+split_word-plain : (front back : List ℕ) → ((i : ℕ) → i < length front → get_or front i 0 ≢ 32)
+    → split_word (front ++ (32 ∷ back)) ≡ Some (front, back)
 unfolding split_word
 split_word-plain front back plain =
     let at : position_or_len is_space (front ++ (32 ∷ back)) ≡ length front =
@@ -25,7 +26,8 @@ split_word-plain front back plain =
     rw (at, inside) (rw (take-append_seam, drop-append-add) refl)
 
 -- a word, where a search for a space ends behind it
-pub split_word-word : (word back : List ℕ) → position_or_len is_space word ≡ length word → split_word (word ++ (32 ∷ back)) ≡ Some (word, back)
+pub split_word-word : (word back : List ℕ) → position_or_len is_space word ≡ length word
+    → split_word (word ++ (32 ∷ back)) ≡ Some (word, back)
 split_word-word word back e =
     split_word-plain word back
     (λ i h space. let fails = fails_before_first is_space word i 0 (omega (arith, e)) in grind (arith, nat_tests))
@@ -36,7 +38,8 @@ split_word-decimal n back small =
     split_word-plain (decimal n) back
     (λ i h. not_in_digits (numerals_by_value (AllDigits 10) tells_digits) (decimal n) 32 (digits_decimal (numerals_by_value (AllDigits 10) tells_digits) n small) (λ r. omega (arith, r)) i h)
 
-pub split_word-joined : (text : List ℕ) (words : List ℕ × List ℕ) → split_word text ≡ Some words → text ≡ words.0 ++ (32 ∷ words.1)
+pub split_word-joined : (text : List ℕ) (words : List ℕ × List ℕ) → split_word text ≡ Some words
+    → text ≡ words.0 ++ (32 ∷ words.1)
 unfolding split_word
 split_word-joined text words e =
     let parts = cond_some (nat_lt (position_or_len is_space text) (length text)) (before_first is_space text, after_first is_space text) words e in

@@ -13,5 +13,6 @@ Appends-more a b c xs k n p q =
     subst (Appends a c) (sym (take-add k n xs)) (Appends-trans a b c _ _ p q')
 
 -- what was written when a writer failed
-pub AppendsFront-kept : (a b c : Option (List ℕ)) (xs : List ℕ) (k : ℕ) → Appends a b (take k xs) → Keeps b c → AppendsFront a c xs
+pub AppendsFront-kept : (a b c : Option (List ℕ)) (xs : List ℕ) (k : ℕ) → Appends a b (take k xs) → Keeps b c
+    → AppendsFront a c xs
 AppendsFront-kept a b c xs k p q = (take k xs, drop k xs, sym (take-append-drop k xs), Appends-kept a b c _ p q)

@@ -25,7 +25,8 @@ const BLOCK_BYTES: usize = 8192;
 
 /// Reads a script, and writes a line for each line of it.
 ///
-/// All that is due is written before the reader is asked for more. The memory that it takes does not grow with the script.
+/// All that is due is written before the reader is asked for more. A script of one instance takes memory that does not
+/// grow with it; one of a cluster keeps the node's history and its packets.
 ///
 /// # Errors
 ///

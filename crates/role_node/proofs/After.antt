@@ -60,7 +60,8 @@ room_kept old new sessions same h =
     let P : Relations → Type 0 = λ relations. KeptAreRight relations sessions in
     subst P (sym (same_relations old new same)) h
 
-room_policy : (streams : ℕ → List Command) (old new : PolicyValue) → SameRelations old new → IsPolicyOf streams old → IsPolicyOf streams new
+room_policy : (streams : ℕ → List Command) (old new : PolicyValue) → SameRelations old new → IsPolicyOf streams old
+    → IsPolicyOf streams new
 room_policy streams old new same was =
     record {
       assigned = λ user role.
@@ -88,7 +89,8 @@ after_issue roles history c old new h i s p t =
       kept = rw (p, t) h.kept;
     })
 
-pub after_act : (roles : Table) (history : List Event) (act a : ClientEvent) (old new : State) → IsStateAfter roles history old → act ≡ a →
+pub after_act : (roles : Table) (history : List Event) (act a : ClientEvent) (old new : State) → IsStateAfter roles history old
+    → act ≡ a →
     Happened a old.sessions.state new.sessions.state → KeepsRight old.sessions new.sessions →
     new.issued ≡ old.issued → new.streams ≡ old.streams → new.policy ≡ old.policy →
     IsStateAfter roles (history ++ Client act ∷ []) new
@@ -148,7 +150,8 @@ ok_is true e x y h = absurd cc
 ok_is false e x y h = cc
 
 -- the step that is due is what the packet causes
-pub step_is_due : (s : Counts) (taken : List PacketValue) (p : PacketValue) (step : StreamStep) → step_due s taken p ≡ Ok step → step_of s taken p ≡ step
+pub step_is_due : (s : Counts) (taken : List PacketValue) (p : PacketValue) (step : StreamStep) → step_due s taken p ≡ Ok step
+    → step_of s taken p ≡ step
 unfolding step_due
 step_is_due s taken p step e = ok_is (nat_le (reach s p.owner taken + 64) p.place) _ (step_of s taken p) step e
 
@@ -201,12 +204,15 @@ only_memory (Err f) (stream_fault.Beyond place end) true a e = absurd cc
 only_memory (Err f) (stream_fault.Beyond place end) false a e = absurd cc
 
 -- a blank policy is that of no packets
-pub blank_policy : (roles : Table) (streams : ℕ → List Command) (p : PolicyValue) → ((node : ℕ) → streams node ≡ []) → IsBlank roles p → IsPolicyOf streams p
+pub blank_policy : (roles : Table) (streams : ℕ → List Command) (p : PolicyValue) → ((node : ℕ) → streams node ≡ [])
+    → IsBlank roles p → IsPolicyOf streams p
 blank_policy roles streams p nothing blank =
     policy_same (λ node. []) streams p (λ node. sym (nothing node))
     (record {
       assigned = λ user role. blank.assigned user role ∙ sym (no_owner_said p.table role (says_of_user user role));
-      granted = λ operation object role. blank.granted operation object role ∙ sym (no_owner_said p.table role (says_of_permission operation object role));
+      granted =
+          λ operation object role. blank.granted operation object role
+          ∙ sym (no_owner_said p.table role (says_of_permission operation object role));
     })
 
 -- a refusal keeps the state, with what room was made
@@ -220,7 +226,8 @@ unfolding stream places_end answers_from
 stream_of_nothing s owner = refl
 
 -- the parts before the first event
-pub parts_of_nothing : (roles : Table) (a : State) → a.issued.items ≡ [] → a.streams.sizes ≡ roles.sizes → IsStateOf a.streams [] →
+pub parts_of_nothing : (roles : Table) (a : State) → a.issued.items ≡ [] → a.streams.sizes ≡ roles.sizes
+    → IsStateOf a.streams [] →
     IsBlank roles a.policy → a.sessions.state ≡ state_of [] → a.sessions.kept ≡ [] → IsStateAfter roles [] a
 parts_of_nothing roles a i s streams blank t kept =
     parts_same roles _ [] _ [] _ [] a issued-none packets-none client_events-none

@@ -64,12 +64,14 @@ entries_push config me entries entry are due recorded k e at =
 pub no_entries : (config : ConfigValue) (me : ℕ) → AreEntries config me []
 no_entries config me k e at = absurd cc
 
-mapped : (o : Option Entry) (event : Event) → option_map event_of o ≡ Some event → (entry : Entry) × (o ≡ Some entry) × (entry.event ≡ event)
+mapped : (o : Option Entry) (event : Event) → option_map event_of o ≡ Some event
+    → (entry : Entry) × (o ≡ Some entry) × (entry.event ≡ event)
 mapped None event e = absurd cc
 mapped (Some entry) event e = (entry, refl, cc)
 
 -- the events of such entries are a legal history
-pub legal : (config : ConfigValue) (me : ℕ) (entries : List Entry) → AreEntries config me entries → IsLegal config me (events entries)
+pub legal : (config : ConfigValue) (me : ℕ) (entries : List Entry) → AreEntries config me entries
+    → IsLegal config me (events entries)
 legal config me entries are k event at =
     let m = mapped (slice_get entries k) event (sym (slice_get-map event_of entries k) ∙ at) in
     let now = are k m.0 m.1 in
@@ -77,11 +79,13 @@ legal config me entries are k event at =
     let P : Event → Type 0 = λ x. IsTrue (is_recorded (answer_due config me (take k (events entries)) x)) in
     subst P m.2 recorded
 
-pub replies : (config : ConfigValue) (me : ℕ) (entries : List Entry) → AreEntries config me entries → AreReplies config me (events entries) entries
+pub replies : (config : ConfigValue) (me : ℕ) (entries : List Entry) → AreEntries config me entries
+    → AreReplies config me (events entries) entries
 replies config me entries are k entry at = (are k entry at).0
 
 -- an event that counts is recorded
-reply_is_recorded : (roles : Table) (me : ℕ) (history : List Event) (event : Event) → is_recorded (Ok (reply_to roles me history event)) ≡ true
+reply_is_recorded : (roles : Table) (me : ℕ) (history : List Event) (event : Event)
+    → is_recorded (Ok (reply_to roles me history event)) ≡ true
 reply_is_recorded roles me history (Issue c) = refl
 reply_is_recorded roles me history (Take p) = refl
 reply_is_recorded roles me history (Client (Open user)) = refl
@@ -99,16 +103,19 @@ pub counted_is_recorded : (roles : Table) (me : ℕ) (history : List Event) (eve
     r ≡ reply_to roles me history event → IsTrue (is_recorded (Ok r))
 counted_is_recorded roles me history event r is = ap (λ x. is_recorded (Ok x)) is ∙ reply_is_recorded roles me history event
 
-unless_full_counts : (full : Bool) (r : Result Effect NodeFault) → unless_full full r ≡ Ok effect.Counted → (full ≡ false) × (r ≡ Ok effect.Counted)
+unless_full_counts : (full : Bool) (r : Result Effect NodeFault) → unless_full full r ≡ Ok effect.Counted
+    → (full ≡ false) × (r ≡ Ok effect.Counted)
 unless_full_counts full (Ok effect.Idle) e = absurd cc
 unless_full_counts true (Ok effect.Counted) e = absurd cc
 unless_full_counts false (Ok effect.Counted) e = (refl, refl)
 unless_full_counts full (Err f) e = absurd cc
 
 -- where an event counts there is room
-pub counted_with_room : (config : ConfigValue) (me : ℕ) (history : List Event) (event : Event) → outlook config me history event ≡ Ok effect.Counted →
+pub counted_with_room : (config : ConfigValue) (me : ℕ) (history : List Event) (event : Event)
+    → outlook config me history event ≡ Ok effect.Counted →
     (nat_le config.limit (length history) ≡ false) × (outlook_with_room config.roles me history event ≡ Ok effect.Counted)
 counted_with_room config me history event e = unless_full_counts _ _ e
 
-recorded_by : (o : Result Effect NodeFault) (r : Reply) (b : Bool) → is_recorded (Ok r) ≡ true → o ≡ Ok effect.Counted → is_recorded (answered o r) ≡ true
+recorded_by : (o : Result Effect NodeFault) (r : Reply) (b : Bool) → is_recorded (Ok r) ≡ true → o ≡ Ok effect.Counted
+    → is_recorded (answered o r) ≡ true
 recorded_by o r b h e = ap (λ x. is_recorded (answered x r)) e ∙ h

@@ -71,7 +71,8 @@ pub obeyed_none : (s : Counts) (taken : List PacketValue) (p : PacketValue) (nod
     obeyed s (taken ++ p ∷ []) p.owner (reach s p.owner taken) node ≡ stream s node taken
 obeyed_none s taken p node = none_by s taken p node (node == p.owner) refl
 
-all_by : (s : Counts) (taken : List PacketValue) (owner count node : ℕ) (b : Bool) → reach s owner taken ≤ count → (node == owner) ≡ b →
+all_by : (s : Counts) (taken : List PacketValue) (owner count node : ℕ) (b : Bool) → reach s owner taken ≤ count
+    → (node == owner) ≡ b →
     (if b then take count (stream s owner taken) else stream s node taken) ≡ stream s node taken
 all_by s taken owner count node true h e =
     take_all count (stream s owner taken) h ∙ ap (λ n. stream s n taken) (sym (same_number node owner e))
@@ -82,24 +83,28 @@ pub obeyed_all : (s : Counts) (taken : List PacketValue) (owner count : ℕ) →
     obeyed s taken owner count node ≡ stream s node taken
 obeyed_all s taken owner count h node = all_by s taken owner count node (node == owner) h refl
 
-more_by : (s : Counts) (taken : List PacketValue) (owner count : ℕ) (c : Command) (node : ℕ) (b : Bool) → slice_get (stream s owner taken) count ≡ Some c →
+more_by : (s : Counts) (taken : List PacketValue) (owner count : ℕ) (c : Command) (node : ℕ) (b : Bool)
+    → slice_get (stream s owner taken) count ≡ Some c →
     (if b then (if b then take count (stream s owner taken) else stream s node taken) ++ c ∷ [] else (if b then take count (stream s owner taken) else stream s node taken))
     ≡ (if b then take (count + 1) (stream s owner taken) else stream s node taken)
 more_by s taken owner count c node true e = sym (take_one_more (stream s owner taken) count c e)
 more_by s taken owner count c node false e = refl
 
 -- one more command of the stream is obeyed
-pub obeyed_more : (s : Counts) (taken : List PacketValue) (owner count : ℕ) (c : Command) → slice_get (stream s owner taken) count ≡ Some c → (node : ℕ) →
+pub obeyed_more : (s : Counts) (taken : List PacketValue) (owner count : ℕ) (c : Command)
+    → slice_get (stream s owner taken) count ≡ Some c → (node : ℕ) →
     with_command (obeyed s taken owner count) owner c node ≡ obeyed s taken owner (count + 1) node
 obeyed_more s taken owner count c e node = more_by s taken owner count c node (node == owner) e
 
-past_by : (s : Counts) (taken : List PacketValue) (owner count node : ℕ) (b : Bool) → slice_get (stream s owner taken) count ≡ None →
+past_by : (s : Counts) (taken : List PacketValue) (owner count node : ℕ) (b : Bool)
+    → slice_get (stream s owner taken) count ≡ None →
     (if b then take count (stream s owner taken) else stream s node taken) ≡ (if b then take (count + 1) (stream s owner taken) else stream s node taken)
 past_by s taken owner count node true e = sym (take_no_more (stream s owner taken) count e)
 past_by s taken owner count node false e = refl
 
 -- there is none past the end
-pub obeyed_past : (s : Counts) (taken : List PacketValue) (owner count : ℕ) → slice_get (stream s owner taken) count ≡ None → (node : ℕ) →
+pub obeyed_past : (s : Counts) (taken : List PacketValue) (owner count : ℕ) → slice_get (stream s owner taken) count ≡ None
+    → (node : ℕ) →
     obeyed s taken owner count node ≡ obeyed s taken owner (count + 1) node
 obeyed_past s taken owner count e node = past_by s taken owner count node (node == owner) e
 
@@ -111,7 +116,8 @@ policy_same f g p same is =
     subst P e is
 
 -- a stream that reaches no further stays
-pub stream_same : (s : Counts) (taken : List PacketValue) (p : PacketValue) → reach s p.owner (taken ++ p ∷ []) ≤ reach s p.owner taken → (node : ℕ) →
+pub stream_same : (s : Counts) (taken : List PacketValue) (p : PacketValue)
+    → reach s p.owner (taken ++ p ∷ []) ≤ reach s p.owner taken → (node : ℕ) →
     stream s node taken ≡ stream s node (taken ++ p ∷ [])
 stream_same s taken p h node =
     sym (obeyed_none s taken p node) ∙ obeyed_all s (taken ++ p ∷ []) p.owner (reach s p.owner taken) h node
@@ -142,7 +148,8 @@ policy_more s taken owner place command old new e applied was =
     (obeyed_more s taken owner place command (sym e)) (applied_is (obeyed s taken owner place) owner command old new was applied)
 
 -- .. or there is none
-pub policy_past : (s : Counts) (taken : List PacketValue) (owner place : ℕ) (p : PolicyValue) → None ≡ slice_get (stream s owner taken) place →
+pub policy_past : (s : Counts) (taken : List PacketValue) (owner place : ℕ) (p : PolicyValue)
+    → None ≡ slice_get (stream s owner taken) place →
     IsPolicyOf (obeyed s taken owner place) p → IsPolicyOf (obeyed s taken owner (place + 1)) p
 policy_past s taken owner place p e was =
     policy_same (obeyed s taken owner place) (obeyed s taken owner (place + 1)) p (obeyed_past s taken owner place (sym e)) was

@@ -11,10 +11,12 @@ use Rattle.role_node.specs.Histories.{command_in, packet_in, act_in, issued, pac
 
 -- an element that gives nothing adds nothing
 none_more : {X Y : Type 0} (f : X → Option Y) (xs : List X) (x : X) → f x ≡ None → filter_map f (xs ++ x ∷ []) ≡ filter_map f xs
-none_more f xs x e = filter_map-append f xs (x ∷ []) ∙ ap (λ o. filter_map f xs ++ cons_option o []) e ∙ append-nil (filter_map f xs)
+none_more f xs x e =
+    filter_map-append f xs (x ∷ []) ∙ ap (λ o. filter_map f xs ++ cons_option o []) e ∙ append-nil (filter_map f xs)
 
 -- one that gives something adds it
-one_more : {X Y : Type 0} (f : X → Option Y) (xs : List X) (x : X) (y : Y) → f x ≡ Some y → filter_map f (xs ++ x ∷ []) ≡ filter_map f xs ++ y ∷ []
+one_more : {X Y : Type 0} (f : X → Option Y) (xs : List X) (x : X) (y : Y) → f x ≡ Some y
+    → filter_map f (xs ++ x ∷ []) ≡ filter_map f xs ++ y ∷ []
 one_more f xs x y e = filter_map-append f xs (x ∷ []) ∙ ap (λ o. filter_map f xs ++ cons_option o []) e
 
 pub issued-Issue : (history : List Event) (c : Command) → issued (history ++ Issue c ∷ []) ≡ issued history ++ c ∷ []
@@ -49,7 +51,8 @@ pub client_events-Take : (history : List Event) (p : PacketValue) → client_eve
 unfolding client_events
 client_events-Take history p = none_more act_in history (Take p) refl
 
-pub client_events-Client : (history : List Event) (a : ClientEvent) → client_events (history ++ Client a ∷ []) ≡ client_events history ++ a ∷ []
+pub client_events-Client : (history : List Event) (a : ClientEvent)
+    → client_events (history ++ Client a ∷ []) ≡ client_events history ++ a ∷ []
 unfolding client_events
 client_events-Client history a = one_more act_in history (Client a) a refl
 

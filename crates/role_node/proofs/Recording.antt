@@ -27,7 +27,8 @@ use Rattle.role_node.proofs.Parts.{client_events-length}
 use Rattle.role_node.proofs.Entries.{entries_push, events-push, events-length, counted_is_due, counted_is_recorded, counted_with_room}
 
 -- room that was made changes nothing of this
-pub inside_stays : (a b : Inside) → IsNode a → b.config ≡ a.config → b.me ≡ a.me → b.entries.items ≡ a.entries.items → Stays a.state b.state → IsNode b
+pub inside_stays : (a b : Inside) → IsNode a → b.config ≡ a.config → b.me ≡ a.me → b.entries.items ≡ a.entries.items
+    → Stays a.state b.state → IsNode b
 inside_stays a b is ec em ee stays =
     record {
       me = rw (ec, em) is.me;
@@ -72,7 +73,8 @@ second_test true b c e = absurd cc
 second_test false true c e = absurd cc
 second_test false false c e = refl
 
-routed_by : (routed : Bool) (r : Result Effect NodeFault) → (if routed then r else Err fault.Misrouted) ≡ Ok effect.Counted → routed ≡ true
+routed_by : (routed : Bool) (r : Result Effect NodeFault) → (if routed then r else Err fault.Misrouted) ≡ Ok effect.Counted
+    → routed ≡ true
 routed_by true r e = refl
 routed_by false r e = absurd cc
 

@@ -31,7 +31,8 @@ use Rattle.role_node.specs.declared.faults.NodeFault.TheVariants as fault
 abbrev IsOther : Option NodeFault → Type 0
 IsOther o = o ≡ Some fault.Memory → ⊥
 
-issue_other : (a b c : Bool) → IsOther (if a then Some fault.NotMine else (if b then Some fault.StreamFull else (if c then Some fault.Busy else None)))
+issue_other : (a b c : Bool)
+    → IsOther (if a then Some fault.NotMine else (if b then Some fault.StreamFull else (if c then Some fault.Busy else None)))
 issue_other true b c e = cc
 issue_other false true c e = cc
 issue_other false false true e = cc
@@ -48,7 +49,8 @@ session_other (Some session.AlreadyActive) h e = cc
 session_other (Some session.TooManyRoles) h e = cc
 session_other (Some session.Memory) h e = h refl
 
-open_other : (b : Bool) → ◌≡◌ {A = Option SessionFault} (if b then Some session.TooManySessions else None) (Some session.Memory) → ⊥
+open_other : (b : Bool) → ◌≡◌ {A = Option SessionFault} (if b then Some session.TooManySessions else None) (Some session.Memory)
+    → ⊥
 open_other true e = cc
 open_other false e = cc
 
@@ -76,7 +78,8 @@ end_other : (o : Option EndFault) → IsOther (option_map fault.End o)
 end_other None e = cc
 end_other (Some f) e = cc
 
-act_other : (roles : Table) (relations : Relations) (sessions : SessionState) (act : ClientEvent) → IsOther (act_fault roles relations sessions act)
+act_other : (roles : Table) (relations : Relations) (sessions : SessionState) (act : ClientEvent)
+    → IsOther (act_fault roles relations sessions act)
 act_other roles relations sessions (Open user) = session_other _ (open_other _)
 act_other roles relations sessions (Activate s user role) =
     session_other _ (activate_in_other roles relations (map.get sessions.open_sessions s) user role)
@@ -94,14 +97,17 @@ step_other false beyond place end step e = cc
 step_other true true place end step e = cc
 step_other true false place end step e = cc
 
-take_other : (roles : Table) (me : ℕ) (history : List Event) (p : PacketValue) → take_outlook roles me history p ≡ Err fault.Memory → ⊥
+take_other : (roles : Table) (me : ℕ) (history : List Event) (p : PacketValue)
+    → take_outlook roles me history p ≡ Err fault.Memory → ⊥
 unfolding step_due
 take_other roles me history p e = step_other (is_routed roles.sizes me p) _ _ _ (step_of roles.sizes (packets history) p) e
 
-early_other : (roles : Table) (me : ℕ) (history : List Event) (event : Event) → outlook_with_room roles me history event ≡ Err fault.Memory → ⊥
+early_other : (roles : Table) (me : ℕ) (history : List Event) (event : Event)
+    → outlook_with_room roles me history event ≡ Err fault.Memory → ⊥
 early_other roles me history (Issue c) e = or_counted_other _ (issue_other _ _ _) e
 early_other roles me history (Take p) e = take_other roles me history p e
-early_other roles me history (Client act) e = or_counted_other _ (act_other roles (relations_at roles history) (sessions_at history) act) e
+early_other roles me history (Client act) e =
+    or_counted_other _ (act_other roles (relations_at roles history) (sessions_at history) act) e
 
 full_other : (full : Bool) (r : Result Effect NodeFault) → (r ≡ Err fault.Memory → ⊥) → unless_full full r ≡ Err fault.Memory → ⊥
 full_other full (Ok effect.Idle) h e = cc
@@ -109,7 +115,8 @@ full_other true (Ok effect.Counted) h e = cc
 full_other false (Ok effect.Counted) h e = cc
 full_other full (Err f) h e = h e
 
-not_memory : (config : ConfigValue) (me : ℕ) (history : List Event) (event : Event) → outlook config me history event ≡ Err fault.Memory → ⊥
+not_memory : (config : ConfigValue) (me : ℕ) (history : List Event) (event : Event)
+    → outlook config me history event ≡ Err fault.Memory → ⊥
 not_memory config me history event e =
     full_other (nat_le config.limit (length history)) (outlook_with_room config.roles me history event) (early_other config.roles me history event) e
 

@@ -21,7 +21,8 @@ use Rattle.role_node.specs.declared.state.State.{State}
 use Rattle.role_node.proofs.Entries.{legal}
 
 -- the policy's relations are the history's
-pub relations_are : (roles : Table) (history : List Event) (a : State) → IsStateAfter roles history a → relations_of a.policy ≡ relations_at roles history
+pub relations_are : (roles : Table) (history : List Event) (a : State) → IsStateAfter roles history a
+    → relations_of a.policy ≡ relations_at roles history
 relations_are roles history a h =
     let assigned = λ (user role : ℕ).
     h.policy.assigned user role ∙ ap (λ table. is_user_assigned table (λ owner. stream roles.sizes owner (packets history)) user role) h.table in
@@ -35,7 +36,8 @@ pub legal_inside : (a : Inside) (v : NodeValue) → IsNode a → node_value a �
 legal_inside a v is e = subst IsLegalNode e (legal a.config a.me a.entries.items is.entries)
 
 -- an answer under what a node keeps is one after its history
-pub answered_after : (roles : Table) (history : List Event) (a : State) (question : Question) (r : Result Answer AskFault) → IsStateAfter roles history a →
+pub answered_after : (roles : Table) (history : List Event) (a : State) (question : Question) (r : Result Answer AskFault)
+    → IsStateAfter roles history a →
     IfOk r (IsAnswerUnder (relations_of a.policy) a.sessions.state question) → IfOk r (IsAnswerTo roles history question)
 answered_after roles history a question r h is =
     let P : Relations → Type 0 = λ relations. IfOk r (IsAnswerUnder relations (sessions_at history) question) in

@@ -23,7 +23,8 @@ new_life user = record { user = user; later = [] }
 abbrev one : ClientEvent → ℕ
 one event = cond (is_opening event) 1 0
 
-pub opened_count-push : (events : List ClientEvent) (event : ClientEvent) → opened_count (events ++ event ∷ []) ≡ opened_count events + cond (is_opening event) 1 0
+pub opened_count-push : (events : List ClientEvent) (event : ClientEvent)
+    → opened_count (events ++ event ∷ []) ≡ opened_count events + cond (is_opening event) 1 0
 unfolding opened_count
 opened_count-push events event = sum_by-append one events (event ∷ []) ∙ ap (λ n. sum_by one events + n) (zero-add (one event))
 
@@ -35,13 +36,16 @@ opened_count-open : (user : ℕ) (events : List ClientEvent) → opened_count (O
 unfolding opened_count
 opened_count-open user events = sum_by-cons one (Open user) events ∙ add_comm 1 (sum_by one events)
 
-opened_count-other : (event : ClientEvent) (events : List ClientEvent) → is_opening event ≡ false → opened_count (event ∷ events) ≡ opened_count events
+opened_count-other : (event : ClientEvent) (events : List ClientEvent) → is_opening event ≡ false
+    → opened_count (event ∷ events) ≡ opened_count events
 unfolding opened_count
-opened_count-other event events h = sum_by-cons one event events ∙ ap (λ b. cond b 1 0 + sum_by one events) h ∙ zero-add (sum_by one events)
+opened_count-other event events h =
+    sum_by-cons one event events ∙ ap (λ b. cond b 1 0 + sum_by one events) h ∙ zero-add (sum_by one events)
 
 -- ---- lives
 
-pub life_of-later : (j : ℕ) (events : List ClientEvent) (event : ClientEvent) → is_opening event ≡ false → life_of j (events ++ event ∷ []) ≡ option_map (later_by event) (life_of j events)
+pub life_of-later : (j : ℕ) (events : List ClientEvent) (event : ClientEvent) → is_opening event ≡ false
+    → life_of j (events ++ event ∷ []) ≡ option_map (later_by event) (life_of j events)
 unfolding life_of
 life_of-later j [] (Open user) h = absurd (cc)
 life_of-later j [] (Activate s user role) h = refl
@@ -84,7 +88,8 @@ pub life_of-opened : (j : ℕ) (events : List ClientEvent) (user : ℕ) →
     life_of j (events ++ Open user ∷ []) ≡ (if j == opened_count events + 1 then Some (new_life user) else option_map (later_by (Open user)) (life_of j events))
 unfolding life_of
 life_of-opened j [] user = rw opened_count-none refl
-life_of-opened j (Open v ∷ events) user = rw (opened_count-open v events) (by (opened_count events) (eqb_tells j 1) (life_of-opened (j - 1) events user))
+life_of-opened j (Open v ∷ events) user =
+    rw (opened_count-open v events) (by (opened_count events) (eqb_tells j 1) (life_of-opened (j - 1) events user))
   where
     by : (n : ℕ) → ((j == 1) ≡ true) × (j ≡ 1) ⊎ ((j == 1) ≡ false) × (j ≢ 1) →
         life_of (j - 1) (events ++ Open user ∷ []) ≡ (if j - 1 == n + 1 then Some (new_life user) else option_map (later_by (Open user)) (life_of (j - 1) events)) →
@@ -96,8 +101,10 @@ life_of-opened j (Open v ∷ events) user = rw (opened_count-open v events) (by 
     by n (inr more) e =
         let same : (j - 1 == n + 1) ≡ (j == n + 1 + 1) = grind (arith, nat_tests) in
         rw more.0 (rw same at e)
-life_of-opened j (Activate s u role ∷ events) user = rw (opened_count-other (Activate s u role) events refl) (life_of-opened j events user)
-life_of-opened j (DropRole s u role ∷ events) user = rw (opened_count-other (DropRole s u role) events refl) (life_of-opened j events user)
+life_of-opened j (Activate s u role ∷ events) user =
+    rw (opened_count-other (Activate s u role) events refl) (life_of-opened j events user)
+life_of-opened j (DropRole s u role ∷ events) user =
+    rw (opened_count-other (DropRole s u role) events refl) (life_of-opened j events user)
 life_of-opened j (Close s u ∷ events) user = rw (opened_count-other (Close s u) events refl) (life_of-opened j events user)
 
 -- ---- active roles
@@ -107,7 +114,8 @@ or_false true = refl
 or_false false = refl
 
 -- an event about no role of the session leaves them
-pub active_roles-idle : (id : ℕ) (events : List ClientEvent) (event : ClientEvent) → ((role : ℕ) → is_about id role event ≡ false) → active_roles id (event ∷ []) ≡ [] →
+pub active_roles-idle : (id : ℕ) (events : List ClientEvent) (event : ClientEvent)
+    → ((role : ℕ) → is_about id role event ≡ false) → active_roles id (event ∷ []) ≡ [] →
     active_roles id (events ++ event ∷ []) ≡ active_roles id events
 unfolding active_roles
 active_roles-idle id [] event h none = none
@@ -125,7 +133,8 @@ abbrev but : ℕ → List ℕ → List ℕ
 but role roles = filter (λ active. not (active == role)) roles
 
 -- an event about a role takes it out, and then says itself whether it is active
-pub active_roles-about : (id role : ℕ) (events : List ClientEvent) (event : ClientEvent) → ((r : ℕ) → is_about id r event ≡ (r == role)) →
+pub active_roles-about : (id role : ℕ) (events : List ClientEvent) (event : ClientEvent)
+    → ((r : ℕ) → is_about id r event ≡ (r == role)) →
     active_roles id (events ++ event ∷ []) ≡ but role (active_roles id events) ++ active_roles id (event ∷ [])
 unfolding active_roles
 active_roles-about id role [] event h = refl
@@ -149,7 +158,8 @@ active_roles-about id role (Close s u ∷ events) event h = active_roles-about i
 
 -- ---- sessions
 
-and_then-map : (f : Life → Option Session) (g : Life → Life) (k : Session → Option Session) → ((l : Life) → f (g l) ≡ option_and_then k (f l)) →
+and_then-map : (f : Life → Option Session) (g : Life → Life) (k : Session → Option Session)
+    → ((l : Life) → f (g l) ≡ option_and_then k (f l)) →
     (o : Option Life) → option_and_then f (option_map g o) ≡ option_and_then k (option_and_then f o)
 and_then-map f g k h None = refl
 and_then-map f g k h (Some l) = h l
@@ -159,12 +169,14 @@ and_then-same None = refl
 and_then-same (Some s) = refl
 
 -- an event that opens no session changes the open ones one by one
-session_in-later : (events : List ClientEvent) (event : ClientEvent) (id : ℕ) (k : Session → Option Session) → is_opening event ≡ false →
+session_in-later : (events : List ClientEvent) (event : ClientEvent) (id : ℕ) (k : Session → Option Session)
+    → is_opening event ≡ false →
     ((l : Life) → while_open id (later_by event l) ≡ option_and_then k (while_open id l)) →
     session_in (events ++ event ∷ []) id ≡ option_and_then k (session_in events id)
 unfolding session_in
 session_in-later events event id k h each =
-    ap (option_and_then (while_open id)) (life_of-later id events event h) ∙ and_then-map (while_open id) (later_by event) k each (life_of id events)
+    ap (option_and_then (while_open id)) (life_of-later id events event h)
+    ∙ and_then-map (while_open id) (later_by event) k each (life_of id events)
 
 -- one more event that doesn't close the session
 open-still : (id : ℕ) (event : ClientEvent) (life : Life) (k : Session → Session) → is_closing id event ≡ false →
@@ -181,7 +193,8 @@ open-still id event life k h is =
     by false = refl
 
 -- an event about no role of the session, which doesn't close it either, leaves it
-idle-still : (id : ℕ) (event : ClientEvent) (life : Life) → is_closing id event ≡ false → ((role : ℕ) → is_about id role event ≡ false) → active_roles id (event ∷ []) ≡ [] →
+idle-still : (id : ℕ) (event : ClientEvent) (life : Life) → is_closing id event ≡ false
+    → ((role : ℕ) → is_about id role event ≡ false) → active_roles id (event ∷ []) ≡ [] →
     while_open id (later_by event life) ≡ while_open id life
 idle-still id event life h about none =
     open-still id event life (λ session. session) h (λ i. record { user = life.user; active = sym (active_roles-idle id life.later event about none) i }) ∙ and_then-same _
@@ -192,15 +205,20 @@ unfolding session_in active_roles
 session_in-opened events user id =
     ap (option_and_then (while_open id)) (life_of-opened id events user) ∙ by (id == opened_count events + 1)
   where
-    by : (b : Bool) → option_and_then (while_open id) (if b then Some (new_life user) else option_map (later_by (Open user)) (life_of id events))
+    by : (b : Bool)
+        → option_and_then (while_open id) (if b then Some (new_life user) else option_map (later_by (Open user)) (life_of id events))
         ≡ (if b then Some (record { user = user; active = [] }) else option_and_then (while_open id) (life_of id events))
     by true = refl
-    by false = and_then-map (while_open id) (later_by (Open user)) Some (λ l. idle-still id (Open user) l refl (λ role. refl) refl ∙ sym (and_then-same _)) (life_of id events) ∙ and_then-same _
+    by false =
+        and_then-map (while_open id) (later_by (Open user)) Some (λ l. idle-still id (Open user) l refl (λ role. refl) refl ∙ sym (and_then-same _)) (life_of id events) ∙ and_then-same _
 
-closed-then : (id : ℕ) (event : ClientEvent) (life : Life) → is_closing id event ≡ true → while_open id (later_by event life) ≡ None
-closed-then id event life h = rw (list_any-append (is_closing id) life.later (event ∷ []), h) (by (list_any (is_closing id) life.later))
+closed-then : (id : ℕ) (event : ClientEvent) (life : Life) → is_closing id event ≡ true
+    → while_open id (later_by event life) ≡ None
+closed-then id event life h =
+    rw (list_any-append (is_closing id) life.later (event ∷ []), h) (by (list_any (is_closing id) life.later))
   where
-    by : (b : Bool) → cond {A = Option Session} (b || (true || false)) None (Some (record { user = life.user; active = active_roles id (life.later ++ event ∷ []) })) ≡ None
+    by : (b : Bool)
+        → cond {A = Option Session} (b || (true || false)) None (Some (record { user = life.user; active = active_roles id (life.later ++ event ∷ []) })) ≡ None
     by true = refl
     by false = refl
 
@@ -213,9 +231,12 @@ pub session_in-closed : (events : List ClientEvent) (s user id : ℕ) →
 unfolding active_roles
 session_in-closed events s user id = by (cases_Bool (id == s))
   where
-    by : ((id == s) ≡ true) ⊎ ((id == s) ≡ false) → session_in (events ++ Close s user ∷ []) id ≡ (if id == s then None else session_in events id)
-    by (inl e) = rw e (session_in-later events (Close s user) id (λ session. None) refl (λ l. closed-then id (Close s user) l e ∙ sym (and_then-none _)) ∙ and_then-none _)
-    by (inr e) = rw e (session_in-later events (Close s user) id Some refl (λ l. idle-still id (Close s user) l e (λ role. refl) refl ∙ sym (and_then-same _)) ∙ and_then-same _)
+    by : ((id == s) ≡ true) ⊎ ((id == s) ≡ false)
+        → session_in (events ++ Close s user ∷ []) id ≡ (if id == s then None else session_in events id)
+    by (inl e) =
+        rw e (session_in-later events (Close s user) id (λ session. None) refl (λ l. closed-then id (Close s user) l e ∙ sym (and_then-none _)) ∙ and_then-none _)
+    by (inr e) =
+        rw e (session_in-later events (Close s user) id Some refl (λ l. idle-still id (Close s user) l e (λ role. refl) refl ∙ sym (and_then-same _)) ∙ and_then-same _)
 
 -- an event of one session about one role
 module _ (s role : ℕ) (event : ClientEvent) (change : Session → Session)
@@ -232,7 +253,8 @@ module _ (s role : ℕ) (event : ClientEvent) (change : Session → Session)
       as_map None = refl
       as_map (Some x) = refl
 
-      by : ((id == s) ≡ true) ⊎ ((id == s) ≡ false) → session_in (events ++ event ∷ []) id ≡ (if id == s then option_map change (session_in events id) else session_in events id)
+      by : ((id == s) ≡ true) ⊎ ((id == s) ≡ false)
+          → session_in (events ++ event ∷ []) id ≡ (if id == s then option_map change (session_in events id) else session_in events id)
       by (inl e) =
           rw e (session_in-later events event id (λ session. Some (change session)) no_opening
           (λ l. open-still id event l change (no_closing id)

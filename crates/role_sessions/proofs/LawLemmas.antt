@@ -45,7 +45,8 @@ contains_kept : (p : ℕ → Bool) (xs : List ℕ) (x : ℕ) → Contains xs x �
 contains_kept p [] x h passes = h
 contains_kept p (y ∷ xs) x h passes = by (p y) refl (contains_cases y xs x h) (λ rest. contains_kept p xs x rest passes)
   where
-    by : (b : Bool) → p y ≡ b → (y ≡ x) ⊎ Contains xs x → (Contains xs x → Contains (filter p xs) x) → Contains (cond b (y ∷ filter p xs) (filter p xs)) x
+    by : (b : Bool) → p y ≡ b → (y ≡ x) ⊎ Contains xs x → (Contains xs x → Contains (filter p xs) x)
+        → Contains (cond b (y ∷ filter p xs) (filter p xs)) x
     by true e (inl same) further = subst (λ z. Contains (z ∷ filter p xs) x) (sym same) (contains_first x (filter p xs))
     by true e (inr rest) further = Contains-append_right (y ∷ []) (filter p xs) x (further rest)
     by false e (inl same) further = absurd (true≢false (sym passes ∙ ap p (sym same) ∙ e))
@@ -61,7 +62,8 @@ find_found : (p : ℕ → Bool) (xs : List ℕ) (x : ℕ) → find p xs ≡ Some
 find_found p [] x h = absurd (cc)
 find_found p (y ∷ xs) x h = by (p y) refl h (find_found p xs x)
   where
-    by : (b : Bool) → p y ≡ b → cond b (Some y) (find p xs) ≡ Some x → (find p xs ≡ Some x → (p x ≡ true) × Contains xs x) → (p x ≡ true) × Contains (y ∷ xs) x
+    by : (b : Bool) → p y ≡ b → cond b (Some y) (find p xs) ≡ Some x → (find p xs ≡ Some x → (p x ≡ true) × Contains xs x)
+        → (p x ≡ true) × Contains (y ∷ xs) x
     by true e is further =
         let same : y ≡ x = cc in
         (subst (λ z. p z ≡ true) same e, subst (Contains (y ∷ xs)) same (contains_first y xs))
@@ -71,9 +73,11 @@ find_found p (y ∷ xs) x h = by (p y) refl h (find_found p xs x)
 
 find_missing : (p : ℕ → Bool) (xs : List ℕ) → find p xs ≡ None → (x : ℕ) → Contains xs x → p x ≡ true → ⊥
 find_missing p [] h x there passes = let below : there.0 < 0 = there.1 in omega arith
-find_missing p (y ∷ xs) h x there passes = by (p y) refl h (contains_cases y xs x there) (λ none rest. find_missing p xs none x rest passes)
+find_missing p (y ∷ xs) h x there passes =
+    by (p y) refl h (contains_cases y xs x there) (λ none rest. find_missing p xs none x rest passes)
   where
-    by : (b : Bool) → p y ≡ b → cond b (Some y) (find p xs) ≡ None → (y ≡ x) ⊎ Contains xs x → (find p xs ≡ None → Contains xs x → ⊥) → ⊥
+    by : (b : Bool) → p y ≡ b → cond b (Some y) (find p xs) ≡ None → (y ≡ x) ⊎ Contains xs x
+        → (find p xs ≡ None → Contains xs x → ⊥) → ⊥
     by true e is either further = cc
     by false e is (inl same) further = true≢false (sym passes ∙ ap p (sym same) ∙ e)
     by false e is (inr rest) further = further is rest
@@ -184,7 +188,8 @@ ids_are_given_in_order events (suc id) there = by (cases_lt (opened_count events
     by (inl beyond) = absurd (there (session_in-beyond events (suc id) beyond))
     by (inr within) = (omega arith, within)
 
-either_none : {A B : Type 0} (b : Bool) (f : A → B) (o : Option A) (p : Option B) → o ≡ None → p ≡ None → (if b then option_map f o else p) ≡ None
+either_none : {A B : Type 0} (b : Bool) (f : A → B) (o : Option A) (p : Option B) → o ≡ None → p ≡ None
+    → (if b then option_map f o else p) ≡ None
 either_none true f o p e h = ap (option_map f) e
 either_none false f o p e h = h
 
@@ -192,12 +197,15 @@ still_none : (b : Bool) (o : Option Session) → o ≡ None → (if b then None 
 still_none true o e = refl
 still_none false o e = e
 
-closed_step : (events : List ClientEvent) (event : ClientEvent) (id : ℕ) → id ≤ opened_count events → session_in events id ≡ None → session_in (events ++ event ∷ []) id ≡ None
+closed_step : (events : List ClientEvent) (event : ClientEvent) (id : ℕ) → id ≤ opened_count events
+    → session_in events id ≡ None → session_in (events ++ event ∷ []) id ≡ None
 closed_step events (Open user) id given closed =
     let other : (id == opened_count events + 1) ≡ false = grind (arith, nat_tests) in
     session_in-opened events user id ∙ (λ i. if other i then Some (record { user = user; active = [] }) else closed i)
-closed_step events (Activate s user role) id given closed = session_in-activated events s user role id ∙ either_none (id == s) _ _ _ closed closed
-closed_step events (DropRole s user role) id given closed = session_in-dropped events s user role id ∙ either_none (id == s) _ _ _ closed closed
+closed_step events (Activate s user role) id given closed =
+    session_in-activated events s user role id ∙ either_none (id == s) _ _ _ closed closed
+closed_step events (DropRole s user role) id given closed =
+    session_in-dropped events s user role id ∙ either_none (id == s) _ _ _ closed closed
 closed_step events (Close s user) id given closed = session_in-closed events s user id ∙ still_none (id == s) _ closed
 
 pub closed_stay_closed : ClosedStayClosed

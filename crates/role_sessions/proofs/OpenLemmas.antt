@@ -33,11 +33,13 @@ find-lookup q (e ∷ es) = λ i. cond (unsigned_tied q e.0 i) (Some e.1) (find-l
 pub get-map_of : (es : Entries) (q : ℕ) → map.get (map_of es) q ≡ lookup (nat_eq q) es
 get-map_of es q = get-from_entries nat_cmp_total es q ∙ find-lookup q es
 
-given : (old new : Entries) (id : ℕ) (w : Option Session) → Gives id w old new → (q : ℕ) → map.get (map_of new) q ≡ (if q == id then w else map.get (map_of old) q)
+given : (old new : Entries) (id : ℕ) (w : Option Session) → Gives id w old new → (q : ℕ)
+    → map.get (map_of new) q ≡ (if q == id then w else map.get (map_of old) q)
 given old new id w gives q =
     get-map_of new q ∙ gives q ∙ (λ i. if nat_eq_equiv.symm id q i then w else sym (get-map_of old q) i)
 
-pub map_of-insert : (old new : Entries) (id : ℕ) (session : Session) → Gives id (Some session) old new → map_of new ≡ map.insert (map_of old) id session
+pub map_of-insert : (old new : Entries) (id : ℕ) (session : Session) → Gives id (Some session) old new
+    → map_of new ≡ map.insert (map_of old) id session
 map_of-insert old new id session gives =
     same_map nat_cmp_total nat_cmp-IsAntisymmetric _ _ (λ q. given old new id (Some session) gives q ∙ sym (get-inserted (map_of old) id session q))
 
@@ -65,7 +67,8 @@ IsLong-remove old new id long gives len =
     ap map.len (map_of-remove old new id gives) ∙ len-remove nat_cmp_total (map_of old) id
     ∙ by (map.contains_key (map_of old) id) (ap is_some (get-map_of old id)) len
   where
-    by : (b : Bool) → b ≡ is_some (lookup (nat_eq id) old) → length new + (if is_some (lookup (nat_eq id) old) then 1 else 0) ≡ length old →
+    by : (b : Bool) → b ≡ is_some (lookup (nat_eq id) old)
+        → length new + (if is_some (lookup (nat_eq id) old) then 1 else 0) ≡ length old →
         cond b (map.len (map_of old) - 1) (map.len (map_of old)) ≡ length new
     by true e len = let more : length new + 1 ≡ length old = rw (← e) at len in omega (arith, long)
     by false e len = let same : length new + 0 ≡ length old = rw (← e) at len in omega (arith, long)
@@ -77,7 +80,8 @@ module _ (old new : Entries) (id : ℕ) (session written : Session) (here : Some
       let there : is_some (lookup (nat_eq id) old) ≡ true = ap is_some (sym here) in
       IsLong-insert old new id written long gives (rw there (omega (arith, len)))
 
-  pub map_of-written : (m : map.FinMap nat_cmp Session) (change : Session → Session) → map_of old ≡ m → written ≡ change session → map_of new ≡ changed_at m id change
+  pub map_of-written : (m : map.FinMap nat_cmp Session) (change : Session → Session) → map_of old ≡ m → written ≡ change session
+      → map_of new ≡ changed_at m id change
   map_of-written m change view is =
       let found : map.get m id ≡ Some session = ap (λ n. map.get n id) (sym view) ∙ get-map_of old id ∙ sym here in
       map_of-insert old new id written gives
@@ -85,13 +89,15 @@ module _ (old new : Entries) (id : ℕ) (session written : Session) (here : Some
       ∙ ap (λ o. option_map_or (λ s. map.insert m id (change s)) o m) (sym found)
 
 -- what stood there, written anew, changes nothing
-pub map_of-same : (old new : Entries) (id : ℕ) (session written : Session) → Some session ≡ lookup (nat_eq id) old → new ≡ set_value (nat_eq id) old written → written ≡ session →
+pub map_of-same : (old new : Entries) (id : ℕ) (session written : Session) → Some session ≡ lookup (nat_eq id) old
+    → new ≡ set_value (nat_eq id) old written → written ≡ session →
     map_of new ≡ map_of old
 map_of-same old new id session written here is same =
     ap map_of (is ∙ ap (set_value (nat_eq id) old) same ∙ set_value_same (nat_eq id) old session (sym here))
 
 -- no session has the id
-pub map_of-absent : (old new : Entries) (id : ℕ) (m : map.FinMap nat_cmp Session) (change : Session → Session) → None ≡ lookup (nat_eq id) old → new ≡ old → map_of old ≡ m →
+pub map_of-absent : (old new : Entries) (id : ℕ) (m : map.FinMap nat_cmp Session) (change : Session → Session)
+    → None ≡ lookup (nat_eq id) old → new ≡ old → map_of old ≡ m →
     map_of new ≡ changed_at m id change
 map_of-absent old new id m change absent is view =
     let missing : map.get m id ≡ None = ap (λ n. map.get n id) (sym view) ∙ get-map_of old id ∙ sym absent in

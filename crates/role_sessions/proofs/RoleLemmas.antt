@@ -43,7 +43,8 @@ module _ (relations : Relations) (inside session : Session) (view : inside ≡ s
       let none : (length (counted_roles relations session) == 0) ≡ not counts = none-filter (relations.assigned session.user) session.active ∙ ap not are in
       rw (yours, active, none) (elim counts as (λ b. (if b then rest else Deny NoneAssigned) ≡ (if not b then Deny NoneAssigned else rest)) [ true ↦ refl | false ↦ refl ])
 
-  pub none_counts : list_any (relations.assigned session.user) session.active ≡ false → Deny NoneAssigned ≡ verdict relations (Some session) user operation object
+  pub none_counts : list_any (relations.assigned session.user) session.active ≡ false
+      → Deny NoneAssigned ≡ verdict relations (Some session) user operation object
   none_counts are = passed false (allowed (find (relations.granted operation object) (counted_roles relations session))) are
 
   pub some_counts : list_any (relations.assigned session.user) session.active ≡ true →

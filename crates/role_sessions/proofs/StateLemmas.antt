@@ -33,14 +33,17 @@ find-below f a (suc n) q h = by (f a) (find-below f (a + 1) n q (omega arith))
     by None e = e
     by (Some s) e = rw apart e
 
-find-within : (f : ℕ → Option Session) (a n q : ℕ) → a ≤ q → ((x : ℕ) → a + n ≤ x → f x ≡ None) → find nat_cmp q (entries_of f (range_with_len a n)) ≡ f q
+find-within : (f : ℕ → Option Session) (a n q : ℕ) → a ≤ q → ((x : ℕ) → a + n ≤ x → f x ≡ None)
+    → find nat_cmp q (entries_of f (range_with_len a n)) ≡ f q
 find-within f a zero q h none = sym (none q (omega arith))
-find-within f a (suc n) q h none = by (f a) refl (eqb_tells q a) (λ above. find-within f (a + 1) n q above (λ x high. none x (omega arith)))
+find-within f a (suc n) q h none =
+    by (f a) refl (eqb_tells q a) (λ above. find-within f (a + 1) n q above (λ x high. none x (omega arith)))
   where
     rest : List (ℕ × Session)
     rest = entries_of f (range_with_len (a + 1) n)
 
-    by : (o : Option Session) → f a ≡ o → ((q == a) ≡ true) × (q ≡ a) ⊎ ((q == a) ≡ false) × (q ≢ a) → (a + 1 ≤ q → find nat_cmp q rest ≡ f q) →
+    by : (o : Option Session) → f a ≡ o → ((q == a) ≡ true) × (q ≡ a) ⊎ ((q == a) ≡ false) × (q ≢ a)
+        → (a + 1 ≤ q → find nat_cmp q rest ≡ f q) →
         find nat_cmp q (cons_option (option_map (λ (session : Session). (a, session)) o) rest) ≡ f q
     by None e (inl same) further = find-below f (a + 1) n q (omega (arith, same.1)) ∙ sym e ∙ ap f (sym same.1)
     by None e (inr apart) further = further (omega (arith, apart.1))
@@ -51,7 +54,8 @@ find-within f a (suc n) q h none = by (f a) refl (eqb_tells q a) (λ above. find
 pub get-state_of : (events : List ClientEvent) (id : ℕ) → map.get (state_of events).open_sessions id ≡ session_in events id
 unfolding state_of
 get-state_of events zero =
-    get-from_entries nat_cmp_total _ 0 ∙ find-below (session_in events) 1 (opened_count events) 0 (omega arith) ∙ sym (session_in-zero events)
+    get-from_entries nat_cmp_total _ 0 ∙ find-below (session_in events) 1 (opened_count events) 0 (omega arith)
+    ∙ sym (session_in-zero events)
 get-state_of events (suc id) =
     get-from_entries nat_cmp_total _ (suc id)
     ∙ find-within (session_in events) 1 (opened_count events) (suc id) (omega arith) (λ x above. session_in-beyond events x (omega arith))
@@ -61,15 +65,19 @@ unfolding state_of
 opened-state_of events = refl
 
 -- states with the same count and the same open sessions
-pub same_state : (a b : SessionState) → a.opened ≡ b.opened → ((id : ℕ) → map.get a.open_sessions id ≡ map.get b.open_sessions id) → a ≡ b
+pub same_state : (a b : SessionState) → a.opened ≡ b.opened
+    → ((id : ℕ) → map.get a.open_sessions id ≡ map.get b.open_sessions id) → a ≡ b
 same_state a b opened sessions =
     let same = same_map nat_cmp_total nat_cmp-IsAntisymmetric a.open_sessions b.open_sessions sessions in
     λ i. record { opened = opened i; open_sessions = same i }
 
-pub get-inserted : (m : map.FinMap nat_cmp Session) (id : ℕ) (session : Session) (q : ℕ) → map.get (map.insert m id session) q ≡ (if q == id then Some session else map.get m q)
-get-inserted m id session q = get-insert nat_cmp_total m id session q ∙ ap (λ b. if b then Some session else map.get m q) (unsigned_tied q id)
+pub get-inserted : (m : map.FinMap nat_cmp Session) (id : ℕ) (session : Session) (q : ℕ)
+    → map.get (map.insert m id session) q ≡ (if q == id then Some session else map.get m q)
+get-inserted m id session q =
+    get-insert nat_cmp_total m id session q ∙ ap (λ b. if b then Some session else map.get m q) (unsigned_tied q id)
 
-pub get-removed : (m : map.FinMap nat_cmp Session) (id q : ℕ) → map.get (map.remove m id) q ≡ (if q == id then None else map.get m q)
+pub get-removed : (m : map.FinMap nat_cmp Session) (id q : ℕ)
+    → map.get (map.remove m id) q ≡ (if q == id then None else map.get m q)
 get-removed m id q = get-remove nat_cmp_total m id q ∙ ap (λ b. if b then None else map.get m q) (unsigned_tied q id)
 
 pub get-changed_at : (m : map.FinMap nat_cmp Session) (id : ℕ) (change : Session → Session) (q : ℕ) →
@@ -80,7 +88,8 @@ get-changed_at m id change q = by (map.get m id) refl (eqb_tells q id)
         map.get (option_map_or (λ session. map.insert m id (change session)) o m) q ≡ (if q == id then option_map change (map.get m q) else map.get m q)
     by None e (inl same) = rw same.0 (ap (map.get m) same.1 ∙ e ∙ ap (option_map change) (sym e ∙ ap (map.get m) (sym same.1)))
     by None e (inr apart) = rw apart.0 refl
-    by (Some s) e (inl same) = get-inserted m id (change s) q ∙ rw same.0 (ap (option_map change) (sym e ∙ ap (map.get m) (sym same.1)))
+    by (Some s) e (inl same) =
+        get-inserted m id (change s) q ∙ rw same.0 (ap (option_map change) (sym e ∙ ap (map.get m) (sym same.1)))
     by (Some s) e (inr apart) = get-inserted m id (change s) q ∙ rw apart.0 refl
 
 -- ---- the four events
@@ -130,11 +139,14 @@ state_of-last_active events s user role =
     ∙ sym (get-state_of (events ++ Activate s user role ∷ []) id ∙ session_in-activated events s user role id))
 
 -- a role that isn't among them is not missed
-pub filter-absent : (role : ℕ) (roles : List ℕ) → list_any (λ active. active == role) roles ≡ false → filter (λ active. not (active == role)) roles ≡ roles
+pub filter-absent : (role : ℕ) (roles : List ℕ) → list_any (λ active. active == role) roles ≡ false
+    → filter (λ active. not (active == role)) roles ≡ roles
 filter-absent role [] h = refl
 filter-absent role (r ∷ roles) h = by (r == role) h (filter-absent role roles)
   where
-    by : (b : Bool) → (b || list_any (λ active. active == role) roles) ≡ false → (list_any (λ active. active == role) roles ≡ false → filter (λ active. not (active == role)) roles ≡ roles) → (if not b then r ∷ filter (λ active. not (active == role)) roles else filter (λ active. not (active == role)) roles) ≡ r ∷ roles
+    by : (b : Bool) → (b || list_any (λ active. active == role) roles) ≡ false
+        → (list_any (λ active. active == role) roles ≡ false → filter (λ active. not (active == role)) roles ≡ roles)
+        → (if not b then r ∷ filter (λ active. not (active == role)) roles else filter (λ active. not (active == role)) roles) ≡ r ∷ roles
     by true e further = absurd (cc)
     by false e further = ap (λ rest. r ∷ rest) (further e)
 
@@ -144,15 +156,18 @@ pub state_of-activated : (events : List ClientEvent) (s user role : ℕ) (sessio
 state_of-activated events s user role session found new =
     (λ i. record {
       opened = (state_of events).opened;
-      open_sessions = option_map_or (λ x. map.insert (state_of events).open_sessions s (with_role role x)) (found i) (state_of events).open_sessions;
+      open_sessions =
+          option_map_or (λ x. map.insert (state_of events).open_sessions s (with_role role x)) (found i) (state_of events).open_sessions;
     })
     ∙ (λ i. record {
       opened = (state_of events).opened;
-      open_sessions = map.insert (state_of events).open_sessions s (record { user = session.user; active = sym (filter-absent role session.active new) i ++ role ∷ [] });
+      open_sessions =
+          map.insert (state_of events).open_sessions s (record { user = session.user; active = sym (filter-absent role session.active new) i ++ role ∷ [] });
     })
     ∙ (λ i. record {
       opened = (state_of events).opened;
-      open_sessions = option_map_or (λ x. map.insert (state_of events).open_sessions s (last_active role x)) (sym found i) (state_of events).open_sessions;
+      open_sessions =
+          option_map_or (λ x. map.insert (state_of events).open_sessions s (last_active role x)) (sym found i) (state_of events).open_sessions;
     })
     ∙ state_of-last_active events s user role
 
@@ -172,7 +187,8 @@ no_fault true true false active full e = absurd (cc)
 no_fault true true true true full e = absurd (cc)
 no_fault true true true false full e = refl
 
-activatable : (table : Table) (relations : Relations) (o : Option Session) (user role : ℕ) → activate_in table relations o user role ≡ None →
+activatable : (table : Table) (relations : Relations) (o : Option Session) (user role : ℕ)
+    → activate_in table relations o user role ≡ None →
     (session : Session) × ((o ≡ Some session) × (list_any (λ active. active == role) session.active ≡ false))
 activatable table relations None user role e = absurd (cc)
 activatable table relations (Some found) user role e =
@@ -183,14 +199,16 @@ module _ (n : ℕ) (open_sessions new : map.FinMap nat_cmp Session) (old : Sessi
     at : record { opened = n; open_sessions = open_sessions } ≡ state_of events
     at = view ∙ are
 
-    pub then_opened : (user : ℕ) (session : Session) → session ≡ record { user = user; active = [] } → new ≡ map.insert open_sessions (n + 1) session →
+    pub then_opened : (user : ℕ) (session : Session) → session ≡ record { user = user; active = [] }
+        → new ≡ map.insert open_sessions (n + 1) session →
         record { opened = n + 1; open_sessions = new } ≡ state_of (events ++ Open user ∷ [])
     then_opened user session is made =
         (λ i. record { opened = n + 1; open_sessions = made i })
         ∙ (λ i. record { opened = (at i).opened + 1; open_sessions = map.insert (at i).open_sessions ((at i).opened + 1) (is i) })
         ∙ state_of-opened events user
 
-    pub then_closed : (s user : ℕ) → new ≡ map.remove open_sessions s → record { opened = n; open_sessions = new } ≡ state_of (events ++ Close s user ∷ [])
+    pub then_closed : (s user : ℕ) → new ≡ map.remove open_sessions s
+        → record { opened = n; open_sessions = new } ≡ state_of (events ++ Close s user ∷ [])
     then_closed s user made =
         (λ i. record { opened = n; open_sessions = made i })
         ∙ (λ i. record { opened = (at i).opened; open_sessions = map.remove (at i).open_sessions s })
@@ -203,7 +221,8 @@ module _ (n : ℕ) (open_sessions new : map.FinMap nat_cmp Session) (old : Sessi
         ∙ (λ i. record { opened = (at i).opened; open_sessions = changed_at (at i).open_sessions s (without_role role) })
         ∙ state_of-dropped events s user role
 
-    pub then_activated : (table : Table) (relations : Relations) (s user role : ℕ) → activate_due table relations old s user role ≡ None →
+    pub then_activated : (table : Table) (relations : Relations) (s user role : ℕ)
+        → activate_due table relations old s user role ≡ None →
         new ≡ changed_at open_sessions s (with_role role) → record { opened = n; open_sessions = new } ≡ state_of (events ++ Activate s user role ∷ [])
     then_activated table relations s user role due made =
         let free = activatable table relations (map.get old.open_sessions s) user role due in

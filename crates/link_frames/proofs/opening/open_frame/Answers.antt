@@ -11,4 +11,5 @@ pub returns-clause-only : goal.returns-clause-only
 returns-clause-only c p h = c.open_bytes.ensures ∙ open_again _ _ _ p (omega (arith, c.ranges.cluster)) h
 
 pub returns-clause-found : goal.returns-clause-found
-returns-clause-found c = if_ok _ _ (λ p e. open_takes _ _ _ p (λ i. omega (arith, c.type_inv.bytes i)) (sym c.open_bytes.ensures ∙ e))
+returns-clause-found c =
+    if_ok _ _ (λ p e. open_takes _ _ _ p (λ i. omega (arith, c.type_inv.bytes i)) (sym c.open_bytes.ensures ∙ e))

@@ -7,7 +7,9 @@ use Rattle.rbac_state.proofs.laws.policy_of_streams.Goals as goal
 pub returns-clause-blank : goal.returns-clause-blank
 returns-clause-blank c table p blank = record {
   assigned = λ user role. blank.assigned user role ∙ sym (no_owner_said p.table role (says_of_user user role));
-  granted = λ operation object role. blank.granted operation object role ∙ sym (no_owner_said p.table role (says_of_permission operation object role));
+  granted =
+      λ operation object role. blank.granted operation object role
+      ∙ sym (no_owner_said p.table role (says_of_permission operation object role));
 }
 
 pub returns-clause-applied : goal.returns-clause-applied

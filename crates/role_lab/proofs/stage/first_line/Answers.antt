@@ -3,7 +3,8 @@ use Rattle.role_lab.proofs.Answering.{first_line-bad, first_line-good, first_lin
 use Rattle.role_lab.proofs.stage.first_line.Goals as goal
 
 pub returns-in-Some : goal.returns-in-Some
-returns-in-Some c = first_line-good _ _ _ _ (sym c.sizes_of_line.ensures ∙ c.in-Some.is) c.new-instance.ensures c.in_ok-text.ensures
+returns-in-Some c =
+    first_line-good _ _ _ _ (sym c.sizes_of_line.ensures ∙ c.in-Some.is) c.new-instance.ensures c.in_ok-text.ensures
 
 pub returns-in_default-cluster_of_line : goal.returns-in_default-cluster_of_line
 returns-in_default-cluster_of_line c =

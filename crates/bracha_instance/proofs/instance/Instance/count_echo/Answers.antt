@@ -6,7 +6,8 @@ use Rattle.bracha_instance.proofs.Counting.{no_vote, echo_late, echo_early}
 use Rattle.bracha_instance.proofs.instance.Instance.count_echo.Goals as goal
 
 pub insert-requires : goal.insert-requires
-insert-requires c = no_vote c.self.inside.echoes c.args.from (ap (λ st. has_voted st Echo c.args.from) c.self.view_is ∙ c.requires)
+insert-requires c =
+    no_vote c.self.inside.echoes c.args.from (ap (λ st. has_voted st Echo c.args.from) c.self.view_is ∙ c.requires)
 
 pub returns-then-is_some-clause-ok : goal.returns-then-is_some-clause-ok
 returns-then-is_some-clause-ok c =

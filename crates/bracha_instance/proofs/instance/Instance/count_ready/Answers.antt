@@ -6,7 +6,8 @@ use Rattle.bracha_instance.proofs.Counting.{no_vote, ready_late, ready_early}
 use Rattle.bracha_instance.proofs.instance.Instance.count_ready.Goals as goal
 
 pub insert-requires : goal.insert-requires
-insert-requires c = no_vote c.self.inside.readies c.args.from (ap (λ st. has_voted st Ready c.args.from) c.self.view_is ∙ c.requires)
+insert-requires c =
+    no_vote c.self.inside.readies c.args.from (ap (λ st. has_voted st Ready c.args.from) c.self.view_is ∙ c.requires)
 
 pub returns-then-is_some-clause-ok : goal.returns-then-is_some-clause-ok
 returns-then-is_some-clause-ok c =

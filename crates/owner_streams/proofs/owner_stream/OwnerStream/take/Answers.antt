@@ -61,8 +61,10 @@ returns-clause-kept c =
     record {
       states = still_states c.args.sizes.now c.args.self.now.places.items c.take_at.new.places.items c.args.packet.now
           c.take_at.ensures.others c.in_ok-taken.ensures.state c.requires.kept.states;
-      run = λ place h. subst (λ items. IsSome (delivered_in (slot_at items place))) c.deref.ensures.value (c.run_end-self.ensures.run place h);
-      run_ends = subst (λ items. delivered_in (slot_at items c.run_end-self.result) ≡ None) c.deref.ensures.value c.run_end-self.ensures.run_ends;
+      run =
+          λ place h. subst (λ items. IsSome (delivered_in (slot_at items place))) c.deref.ensures.value (c.run_end-self.ensures.run place h);
+      run_ends =
+          subst (λ items. delivered_in (slot_at items c.run_end-self.result) ≡ None) c.deref.ensures.value c.run_end-self.ensures.run_ends;
       in_window = omega arith;
       in_range = omega arith;
     }

@@ -9,7 +9,8 @@ pub invariant_of-self : goal.invariant_of-self
 invariant_of-self c =
     record {
       one_each = length-set c.self.inside.owners.items c.from-owner.result c.take.new.self ∙ c.self.invariant.one_each;
-      each = All-set (IsOwnerStream c.self.inside.sizes) c.self.inside.owners.items c.from-owner.result c.take.new.self c.take.ensures.kept c.self.invariant.each;
+      each =
+          All-set (IsOwnerStream c.self.inside.sizes) c.self.inside.owners.items c.from-owner.result c.take.new.self c.take.ensures.kept c.self.invariant.each;
     }
 
 pub returns-clause-due : goal.returns-clause-due
