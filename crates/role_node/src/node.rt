@@ -151,6 +151,22 @@ impl Node {
         self.entries.as_slice()
     }
 
+    /// What the node was told at its start.
+    pub fn config(&self) -> &Config
+        ensures value { result.now ≡ self.now.config }
+        ensures me { self.now.me < self.now.config.roles.sizes.nodes }
+    {
+        &self.config
+    }
+
+    /// The node's own name, which is a node's of its sizes.
+    pub fn me(&self) -> NodeName
+        ensures value { result ≡ self.now.me }
+        ensures node { self.now.me < self.now.config.roles.sizes.nodes }
+    {
+        self.me
+    }
+
     /// How far the owner's stream reaches here. The owner must be of the node's sizes.
     pub fn reach(&self, owner: NodeName) -> u32
         requires { owner < self.now.config.roles.sizes.nodes }
