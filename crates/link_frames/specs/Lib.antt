@@ -1,3 +1,4 @@
+pub mod Devices
 pub mod FrameReads
 pub mod Frames
 pub mod Hmac

@@ -1,6 +1,7 @@
 //! The messages of the broadcast, and the links that carry them.
 #![tactic(auto)]
 
+mod device;
 mod faulty;
 mod hmac;
 mod keys;
@@ -13,6 +14,7 @@ mod reading;
 mod sealing;
 mod watched;
 
+pub use device::{DeviceFault, read_patiently, write_whole};
 pub use faulty::{Faulty, Mishap};
 pub use hmac::hmac_sha256;
 pub use keys::{KeyFault, PairKeys};
