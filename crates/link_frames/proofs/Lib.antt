@@ -1,7 +1,12 @@
 pub mod FrameLaws
 pub mod FrameReadLemmas
+pub mod Fronts
+pub mod LineLemmas
+pub mod Onto
 pub mod OpeningLemmas
+pub mod Peeking
 pub mod PacketReading
+pub mod Passing
 pub mod SameTags
 pub mod Waiting
 pub mod Writing

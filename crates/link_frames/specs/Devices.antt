@@ -1,5 +1,5 @@
 -- How patiently a reader or a writer is asked, and when it has failed.
-use Rattle.std.specs.Prelude.{◌≡◌, ℕ, ◌+◌, ◌≤◌, ◌⊎◌, List, ◌++◌, Option}
+use Rattle.std.specs.Prelude.{◌≡◌, ℕ, ◌+◌, ◌<◌, ◌≤◌, ◌⊎◌, List, ◌++◌, Option}
 use Rattle.std.specs.Io.KnownBytes.{Appends}
 use Rattle.link_frames.specs.Watching.{Tally, most_count, one_more, RoseBy}
 
@@ -12,6 +12,10 @@ pub record WentOn (old new : Tally) : Type 0 where
   pub reads : RoseBy 0 old.reads new.reads
   pub faults : RoseBy 0 old.faults new.faults
   pub unbroken : new.breaks ≡ old.breaks
+
+-- reads were made, and counted
+abbrev pub WasAsked : Tally → Tally → Type 0
+WasAsked old new = (old.reads < new.reads) × (new.reads ≤ most_count)
 
 -- one call broke, and none else
 pub record Broke (old new : Tally) : Type 0 where

@@ -1,3 +1,5 @@
+pub mod Aheads
+pub mod Blocks
 pub mod Devices
 pub mod FrameReads
 pub mod Frames
@@ -7,6 +9,8 @@ pub mod KeyRings
 pub mod Keys
 pub mod Laws
 pub mod Layout
+pub mod Lines
+pub mod Nexts
 pub mod Opening
 pub mod Packets
 pub mod Texts

@@ -4,7 +4,7 @@ ghost use Rattle.std.specs.Prelude.{◌≡◌, ◌+◌, ◌*◌, ◌≤◌, ◌<
 ghost use Rattle.std.specs.Io.{ReadsAtMost};
 ghost use Rattle.std.specs.Io.KnownBytes.{ReadConsumes, WriteAppends, Appends};
 ghost use Rattle.link_frames.specs.Watching.{watched_inner, watched_faults, watched_reads, watched_tally};
-ghost use Rattle.link_frames.specs.Devices.{most_retries, WentOn, CallFailed, ReaderFailed, AppendsFront};
+ghost use Rattle.link_frames.specs.Devices.{most_retries, WentOn, WasAsked, CallFailed, ReaderFailed, AppendsFront};
 
 use crate::watched::{Watched, is_interruption};
 use std::error::Error;
@@ -45,7 +45,7 @@ pub fn read_patiently<R: Read>(
     ensures bytes { ReadConsumes (R.remaining (watched_inner reader.old)) (R.remaining (watched_inner reader.new))
         result buffer.new }
     ensures ok { OnOk result (WentOn (watched_tally reader.old) (watched_tally reader.new)) }
-    ensures asked { OnOk result (watched_reads reader.old < watched_reads reader.new) }
+    ensures asked { OnOk result (WasAsked (watched_tally reader.old) (watched_tally reader.new)) }
     ensures retries { OnOk result (watched_faults reader.new ≤ watched_faults reader.old + most_retries) }
     ensures err { OnErr result (ReaderFailed (watched_tally reader.old) (watched_tally reader.new)) }
 {
