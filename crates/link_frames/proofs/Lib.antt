@@ -1,3 +1,5 @@
+pub mod Ending
+pub mod Exported
 pub mod FrameLaws
 pub mod FrameReadLemmas
 pub mod Fronts
@@ -7,6 +9,8 @@ pub mod OpeningLemmas
 pub mod Peeking
 pub mod PacketReading
 pub mod Passing
+pub mod Running
 pub mod SameTags
+pub mod TextLemmas
 pub mod Waiting
 pub mod Writing

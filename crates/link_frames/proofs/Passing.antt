@@ -1,11 +1,11 @@
 -- A line that is passed over block by block.
-use Rattle.std.proofs.Common.{◌≡◌, ℕ, zero, suc, ◌+◌, ◌<◌, ◌≤◌, ◌⊎◌, inl, inr, max, List, [], ◌∷◌, ◌++◌, length, take, Option, None, Some, false, true, refl, sym, ap, subst, ◌∙◌, arith, append_assoc, length-append, append-nil}
+use Rattle.std.proofs.Common.{◌≡◌, ℕ, zero, suc, ◌+◌, ◌<◌, ◌≤◌, ◌⊎◌, inl, inr, max, List, [], ◌∷◌, ◌++◌, length, take, Option, None, Some, false, true, sym, ap, subst, ◌∙◌, arith, append_assoc, length-append, append-nil}
 use Rattle.std.proofs.lemmas.Bool.{true≢false}
-use Rattle.std.proofs.KnownBytes.{Consumes-trans, Consumes-kept, Consumes-nil}
+use Rattle.std.proofs.KnownBytes.{Consumes-trans, Consumes-kept}
 use Rattle.std.specs.Io.KnownBytes.{Consumes, Keeps, IsAtEnd, prepend_known}
 use Rattle.link_frames.specs.Watching.{Tally}
 use Rattle.link_frames.specs.Devices.{WentOn}
-use Rattle.link_frames.specs.Lines.{line_end, is_line_end, ended, NoLineEnd}
+use Rattle.link_frames.specs.Lines.{line_end, ended, NoLineEnd}
 use Rattle.link_frames.specs.Nexts.{Begins, PassedLine, PassedPart}
 use Rattle.link_frames.specs.declared.next.Next.TheVariants.{TooLong}
 use Rattle.link_frames.specs.Blocks.{block_bytes}
@@ -19,15 +19,21 @@ pub record Passing (front ahead : List ℕ) (before now : Option (List ℕ)) (ol
   pub went : WentOn old new
   pub held : held_new ≤ max held_old block_bytes
 
-NoLineEnd-append : (xs ys : List ℕ) → NoLineEnd xs → NoLineEnd ys → NoLineEnd (xs ++ ys)
-NoLineEnd-append [] ys p q = q
-NoLineEnd-append (x ∷ xs) ys p q = (p.0, NoLineEnd-append xs ys p.1 q)
-
 -- the bytes ahead give their first part
 pub Consumes-front : (known : Option (List ℕ)) (front xs ys : List ℕ) → front ≡ xs ++ ys
     → Consumes (prepend_known front known) (prepend_known ys known) xs
 Consumes-front None front xs ys e = tt
 Consumes-front (Some zs) front xs ys e = ap (λ l. l ++ zs) e ∙ append_assoc xs ys zs
+
+-- all of the bytes ahead are used up
+pub Consumes-ahead : (known : Option (List ℕ)) (front rest : List ℕ) → rest ≡ []
+    → Consumes (prepend_known front known) (prepend_known rest known) front
+Consumes-ahead known front rest none =
+    Consumes-front known front front rest (sym (ap (λ l. front ++ l) none ∙ append-nil front))
+
+pub NoLineEnd-append : (xs ys : List ℕ) → NoLineEnd xs → NoLineEnd ys → NoLineEnd (xs ++ ys)
+NoLineEnd-append [] ys p q = q
+NoLineEnd-append (x ∷ xs) ys p q = (p.0, NoLineEnd-append xs ys p.1 q)
 
 -- a line whose end comes behind so many bytes that have none
 longer : (m : ℕ) (line rest : List ℕ) → NoLineEnd (take m (ended line ++ rest)) → m ≤ length (ended line ++ rest)

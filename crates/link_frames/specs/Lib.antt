@@ -9,6 +9,7 @@ pub mod KeyRings
 pub mod Keys
 pub mod Laws
 pub mod Layout
+pub mod LinePrograms
 pub mod Lines
 pub mod Nexts
 pub mod Opening

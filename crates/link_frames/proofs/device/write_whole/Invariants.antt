@@ -1,7 +1,5 @@
-use Rattle.std.proofs.Common.{ℕ, ◌≡◌, ◌+◌, ◌-◌, ◌*◌, ◌≤◌, List, Option, length, take}
-use Rattle.std.specs.Io.KnownBytes.{Appends}
-use Rattle.link_frames.specs.Watching.{Tally, watched_inner, watched_tally}
-use Rattle.link_frames.specs.Devices.{WentOn}
+use Rattle.std.proofs.Common.{◌-◌, length}
+use Rattle.link_frames.specs.Watching.{watched_inner, watched_tally}
 use Rattle.link_frames.proofs.Writing.{Sent}
 use Rattle.link_frames.proofs.device.write_whole.Given as goal
 
