@@ -23,7 +23,8 @@ pub some_tail : (p : Option (List ℕ)) → (tail : List ℕ) × HasBytes p tail
 some_tail None = ([], tt)
 some_tail (Some ys) = (ys, refl)
 
-tail_of : (known : Option (List ℕ)) (front : List ℕ) → (rest : List ℕ) × HasBytes (prepend_known front known) (front ++ rest)
+tail_of : (known : Option (List ℕ)) (front : List ℕ)
+    → (rest : List ℕ) × HasBytes (prepend_known front known) (front ++ rest)
 tail_of None front = ([], tt)
 tail_of (Some ys) front = (ys, refl)
 
@@ -39,7 +40,8 @@ nothing_left (Some ys) end = end
 
 -- The input is all that was read, with what comes behind. `sent` of its text was written, and `held` is to be. `bad` is
 -- the number of its first bad line.
-pub record Ended {S : Type 0} (next : S → List ℕ → Option (S × List ℕ)) (start : S) (known out_old out_new : Option (List ℕ)) (held : List ℕ) (bad : Option ℕ) : Type 0 where
+pub record Ended {S : Type 0} (next : S → List ℕ → Option (S × List ℕ)) (start : S)
+    (known out_old out_new : Option (List ℕ)) (held : List ℕ) (bad : Option ℕ) : Type 0 where
   pub input : List ℕ
   pub sent : List ℕ
   pub has : HasBytes known input
@@ -48,13 +50,15 @@ pub record Ended {S : Type 0} (next : S → List ℕ → Option (S × List ℕ))
   pub stops : bad_by next 1 start (lines_of input) ≡ bad
 
 -- the text of an input was written
-pub record Whole {S : Type 0} (next : S → List ℕ → Option (S × List ℕ)) (start : S) (known out_old out_new : Option (List ℕ)) (bad : Option ℕ) : Type 0 where
+pub record Whole {S : Type 0} (next : S → List ℕ → Option (S × List ℕ)) (start : S)
+    (known out_old out_new : Option (List ℕ)) (bad : Option ℕ) : Type 0 where
   pub input : List ℕ
   pub has : HasBytes known input
   pub stops : bad_by next 1 start (lines_of input) ≡ bad
   pub wrote : Appends out_old out_new (text_by next start (lines_of input))
 
-module _ {S : Type 0} {next : S → List ℕ → Option (S × List ℕ)} {start : S} {k a b : Option (List ℕ)} {held : List ℕ} {bad : Option ℕ} (end : Ended next start k a b held bad) where
+module _ {S : Type 0} {next : S → List ℕ → Option (S × List ℕ)} {start : S} {k a b : Option (List ℕ)} {held : List ℕ}
+    {bad : Option ℕ} (end : Ended next start k a b held bad) where
   -- what is held was written
   pub Ended-whole : (c : Option (List ℕ)) → Appends b c held → Whole next start k a c bad
   Ended-whole c wrote = record {
@@ -72,7 +76,8 @@ module _ {S : Type 0} {next : S → List ℕ → Option (S × List ℕ)} {start 
       end.goes ∙ ap (λ l. end.sent ++ l) is ∙ sym (append_assoc end.sent front rest) in
       (end.input, end.has, (end.sent ++ front, rest, all, Appends-trans a b c end.sent front end.wrote wrote))
 
-module _ {S : Type 0} {next : S → List ℕ → Option (S × List ℕ)} {start state : S} {k p a b : Option (List ℕ)} {held : List ℕ} {number : ℕ} (ran : Ran next start k p a b held state number) where
+module _ {S : Type 0} {next : S → List ℕ → Option (S × List ℕ)} {start state : S} {k p a b : Option (List ℕ)}
+    {held : List ℕ} {number : ℕ} (ran : Ran next start k p a b held state number) where
   -- what comes behind gives no text
   ended_at : (tail : List ℕ) → HasBytes p tail → text_by next state (lines_of tail) ≡ []
       → Ended next start k a b held (bad_by next number state (lines_of tail))
@@ -136,16 +141,20 @@ module _ {S : Type 0} {next : S → List ℕ → Option (S × List ℕ)} {start 
       → holds ≡ held ++ ended text → Ended next start k a b holds None
   Ran-passed_last q front text holds after passed some good grown =
       let (took, end) = passed.passed in
-      let has = subst (HasBytes p) (append-nil passed.line) (HasBytes-done p q passed.line [] took (nothing_left q end)) in
+      let has = subst (HasBytes p) (append-nil passed.line)
+      (HasBytes-done p q passed.line [] took (nothing_left q end)) in
       last_at passed.line text holds after passed.none some has good grown
 
-module _ {S : Type 0} {next : S → List ℕ → Option (S × List ℕ)} {start state : S} {k a b : Option (List ℕ)} {held : List ℕ} {number : ℕ} (known : Option (List ℕ)) (front : List ℕ) (ran : Ran next start k (prepend_known front known) a b held state number) where
+module _ {S : Type 0} {next : S → List ℕ → Option (S × List ℕ)} {start state : S} {k a b : Option (List ℕ)}
+    {held : List ℕ} {number : ℕ} (known : Option (List ℕ)) (front : List ℕ)
+    (ran : Ran next start k (prepend_known front known) a b held state number) where
   -- the input has ended
   pub Ran-end : front ≡ [] → IsAtEnd known → Ended next start k a b held None
   Ran-end none end =
       let has : HasBytes (prepend_known front known) [] =
       subst (HasBytes (prepend_known front known)) none (tail_at_end known front end) in
-      let silent : text_by next state (lines_of []) ≡ [] = ap (text_by next state) lines_of-nil ∙ text_by-nil next state in
+      let silent : text_by next state (lines_of []) ≡ [] =
+      ap (text_by next state) lines_of-nil ∙ text_by-nil next state in
       let good : bad_by next number state (lines_of []) ≡ None =
       ap (bad_by next number state) lines_of-nil ∙ bad_by-nil next number state in
       subst (λ (bad : Option ℕ). Ended next start k a b held bad) good (ended_at ran [] has silent)

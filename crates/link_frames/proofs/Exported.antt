@@ -1,5 +1,5 @@
 -- What layers above may cite of the proofs. Declares nothing.
---     WentOn-nothing, -trans, CallFailed-later, ReaderFailed-later      calls one after another, and when one of them failed
+--     WentOn-nothing, -trans, CallFailed-later, ReaderFailed-later      calls one after another, and a failed one
 --     AppendsFront-nothing, -whole      what was written when a writer failed
 --     NoLineEnd-.., EndsAt-position, used_line      where a line ends
 --     lines_of-..      the lines of bytes that are known in part

@@ -25,11 +25,13 @@ pub failed : {a b : Option (List ℕ)} {old new : Tally} {reads have : ℕ} {fra
     → GavePart a c × RoseBy 1 old.faults last.faults × (last.breaks ≡ one_more old.breaks)
 failed {have} {frame} c last h keeps faults breaks =
     let len : length (take have frame) ≡ have = length-take-le have frame (omega (arith, h.len, h.part)) in
-    ((have, h.part, (take have frame, len, Consumes-kept _ _ _ _ h.gave keeps)), omega (arith, h.few), omega (arith, h.unbroken))
+    let given = Consumes-kept _ _ _ _ h.gave keeps in
+    ((have, h.part, (take have frame, len, given)), omega (arith, h.few), omega (arith, h.unbroken))
 
 -- a read was interrupted
 pub interrupted : {a b : Option (List ℕ)} {old new : Tally} {reads have : ℕ} {frame : List ℕ}
-    (c : Option (List ℕ)) (last : Tally) (after : List ℕ) → HasRead a b old new reads have frame → Keeps b c → last.faults ≡ one_more new.faults
+    (c : Option (List ℕ)) (last : Tally) (after : List ℕ) → HasRead a b old new reads have frame → Keeps b c
+    → last.faults ≡ one_more new.faults
     → last.breaks ≡ new.breaks → length after ≡ length frame → take have after ≡ take have frame
     → HasRead a c old last (reads + 1) have after
 interrupted c last after h keeps faults breaks len front = record {
@@ -43,7 +45,8 @@ interrupted c last after h keeps faults breaks len front = record {
 
 -- a read gave some bytes, and the frame is not whole
 pub gave_more : {a b : Option (List ℕ)} {old new : Tally} {reads have : ℕ} {frame : List ℕ}
-    (c : Option (List ℕ)) (n : ℕ) (last : Tally) (after given : List ℕ) → HasRead a b old new reads have frame → Consumes b c given → last.faults ≡ new.faults
+    (c : Option (List ℕ)) (n : ℕ) (last : Tally) (after given : List ℕ) → HasRead a b old new reads have frame
+    → Consumes b c given → last.faults ≡ new.faults
     → last.breaks ≡ new.breaks → 0 < n → have + n < 52 → length after ≡ length frame
     → take (have + n) after ≡ take have frame ++ given
     → HasRead a c old last (reads + 1) (have + n) after

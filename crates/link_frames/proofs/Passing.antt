@@ -11,7 +11,8 @@ use Rattle.link_frames.specs.declared.next.Next.TheVariants.{TooLong}
 use Rattle.link_frames.specs.Blocks.{block_bytes}
 
 -- a part of the line was used up, which is none yet, or all of the bytes that were ahead at first
-pub record Passing (front ahead : List ℕ) (before now : Option (List ℕ)) (old new : Tally) (held_old held_new : ℕ) : Type 0 where
+pub record Passing (front ahead : List ℕ) (before now : Option (List ℕ)) (old new : Tally)
+    (held_old held_new : ℕ) : Type 0 where
   pub part : List ℕ
   pub none : NoLineEnd part
   pub used : Consumes before now part
@@ -40,7 +41,9 @@ longer : (m : ℕ) (line rest : List ℕ) → NoLineEnd (take m (ended line ++ r
     → m ≤ length line
 longer zero line rest none within = omega arith
 longer (suc m) [] rest none within = absurd (true≢false none.0)
-longer (suc m) (b ∷ bs) rest none within = let more = longer m bs rest none.1 (omega (arith, within)) in omega (arith, more)
+longer (suc m) (b ∷ bs) rest none within =
+    let more = longer m bs rest none.1 (omega (arith, within)) in
+    omega (arith, more)
 
 -- the whole line was ahead
 starts_long : (front rest line : List ℕ) → front ≡ ended line ++ rest → (limit : ℕ) → Begins limit front TooLong
@@ -59,7 +62,8 @@ pub record UsedUp (front : List ℕ) (before now : Option (List ℕ)) : Type 0 w
   pub used : Consumes before now part
   pub more : length front ≤ length part
 
-module _ {front ahead : List ℕ} {before now : Option (List ℕ)} {old new : Tally} {held_old held_new : ℕ} (so_far : Passing front ahead before now old new held_old held_new) where
+module _ {front ahead : List ℕ} {before now : Option (List ℕ)} {old new : Tally} {held_old held_new : ℕ}
+    (so_far : Passing front ahead before now old new held_old held_new) where
   -- the line's end was ahead
   pub passed_end : (after : Option (List ℕ)) (rest line : List ℕ) → NoLineEnd line → ahead ≡ ended line ++ rest
       → Consumes now after (ended line) → PassedLine front before after true

@@ -11,12 +11,14 @@ use Rattle.link_frames.proofs.TextLemmas.{text_by-nil, text_by-good, bad_by-nil,
 
 -- Of the known bytes, `pending` are left. `sent` was written, and `held` is to be. Whatever comes next, its lines go
 -- on from this state and this number.
-pub record Ran {S : Type 0} (next : S → List ℕ → Option (S × List ℕ)) (start : S) (known pending out_old out_new : Option (List ℕ)) (held : List ℕ) (state : S) (number : ℕ) : Type 0 where
+pub record Ran {S : Type 0} (next : S → List ℕ → Option (S × List ℕ)) (start : S)
+    (known pending out_old out_new : Option (List ℕ)) (held : List ℕ) (state : S) (number : ℕ) : Type 0 where
   pub done : List ℕ
   pub sent : List ℕ
   pub read : Consumes known pending done
   pub wrote : Appends out_old out_new sent
-  pub goes : (rest : List ℕ) → text_by next start (lines_of (done ++ rest)) ≡ (sent ++ held) ++ text_by next state (lines_of rest)
+  pub goes : (rest : List ℕ)
+      → text_by next start (lines_of (done ++ rest)) ≡ (sent ++ held) ++ text_by next state (lines_of rest)
   pub stops : (rest : List ℕ) → bad_by next 1 start (lines_of (done ++ rest)) ≡ bad_by next number state (lines_of rest)
   pub counted : (rest : List ℕ) → length (lines_of (done ++ rest)) + 1 ≡ number + length (lines_of rest)
 
@@ -25,7 +27,8 @@ pub Ran-start : {S : Type 0} (next : S → List ℕ → Option (S × List ℕ)) 
     (front held : List ℕ) → front ≡ [] → held ≡ []
     → Ran next start known (prepend_known front known) out out held start 1
 Ran-start next start known out front held none empty =
-    let same : prepend_known front known ≡ known = ap (λ l. prepend_known l known) none ∙ prepend_known-nil known in record {
+    let same : prepend_known front known ≡ known =
+    ap (λ l. prepend_known l known) none ∙ prepend_known-nil known in record {
       done = [];
       sent = [];
       read = subst (λ (k : Option (List ℕ)). Consumes known k []) (sym same) (Consumes-nil known);
@@ -35,7 +38,8 @@ Ran-start next start known out front held none empty =
       counted = λ rest. omega arith;
     }
 
-module _ {S : Type 0} {next : S → List ℕ → Option (S × List ℕ)} {start state : S} {k p a b : Option (List ℕ)} {held : List ℕ} {number : ℕ} (ran : Ran next start k p a b held state number) where
+module _ {S : Type 0} {next : S → List ℕ → Option (S × List ℕ)} {start state : S} {k p a b : Option (List ℕ)}
+    {held : List ℕ} {number : ℕ} (ran : Ran next start k p a b held state number) where
   -- more bytes are ahead
   pub Ran-kept : (q : Option (List ℕ)) → Keeps p q → Ran next start k q a b held state number
   Ran-kept q kept = record {
@@ -56,7 +60,8 @@ module _ {S : Type 0} {next : S → List ℕ → Option (S × List ℕ)} {start 
     read = ran.read;
     wrote = Appends-trans a b c ran.sent part ran.wrote moved;
     goes = λ rest.
-        let due : ran.sent ++ held ≡ (ran.sent ++ part) ++ left = ap (λ l. ran.sent ++ l) is ∙ sym (append_assoc ran.sent part left) in
+        let due : ran.sent ++ held ≡ (ran.sent ++ part) ++ left =
+        ap (λ l. ran.sent ++ l) is ∙ sym (append_assoc ran.sent part left) in
         ran.goes rest ∙ ap (λ l. l ++ text_by next state (lines_of rest)) due;
     stops = ran.stops;
     counted = ran.counted;
@@ -67,8 +72,10 @@ module _ {S : Type 0} {next : S → List ℕ → Option (S × List ℕ)} {start 
       → Consumes p q (ended line) → next state line ≡ Some (after, text) → holds ≡ held ++ ended text
       → Ran next start k q a b holds after (number + 1)
   Ran-taken q line text holds after none took good grown =
-      let regrouped : (rest : List ℕ) → (ran.done ++ ended line) ++ rest ≡ ran.done ++ (line ++ line_end ∷ rest) = λ rest. simp append_assoc in
-      let taken : (rest : List ℕ) → lines_of (line ++ line_end ∷ rest) ≡ line ∷ lines_of rest = λ rest. lines_of-line line rest none in record {
+      let regrouped : (rest : List ℕ) → (ran.done ++ ended line) ++ rest ≡ ran.done ++ (line ++ line_end ∷ rest) =
+      λ rest. simp append_assoc in
+      let taken : (rest : List ℕ) → lines_of (line ++ line_end ∷ rest) ≡ line ∷ lines_of rest =
+      λ rest. lines_of-line line rest none in record {
         done = ran.done ++ ended line;
         sent = ran.sent;
         read = Consumes-trans k p q ran.done (ended line) ran.read took;
@@ -88,8 +95,11 @@ module _ {S : Type 0} {next : S → List ℕ → Option (S × List ℕ)} {start 
             ∙ bad_by-good next number state after line text (lines_of rest) good;
         counted = λ rest.
             let before = ran.counted (line ++ line_end ∷ rest) in
-            let one : length (lines_of (line ++ line_end ∷ rest)) ≡ length (lines_of rest) + 1 = ap length (taken rest) ∙ omega arith in
-            let same : length (lines_of ((ran.done ++ ended line) ++ rest)) ≡ length (lines_of (ran.done ++ (line ++ line_end ∷ rest))) = ap (λ l. length (lines_of l)) (regrouped rest) in
+            let one : length (lines_of (line ++ line_end ∷ rest)) ≡ length (lines_of rest) + 1 =
+            ap length (taken rest) ∙ omega arith in
+            let lines_after : List ℕ → ℕ = λ l. length (lines_of l) in
+            let same : lines_after ((ran.done ++ ended line) ++ rest)
+            ≡ lines_after (ran.done ++ (line ++ line_end ∷ rest)) = ap lines_after (regrouped rest) in
             omega arith;
       }
 
@@ -112,7 +122,8 @@ module _ {S : Type 0} {next : S → List ℕ → Option (S × List ℕ)} {start 
 
   pub Ran-number : length (lines_of ran.done) + 1 ≡ number
   Ran-number =
-      let same : length (lines_of (ran.done ++ [])) ≡ length (lines_of ran.done) = ap (λ l. length (lines_of l)) (append-nil ran.done) in
+      let same : length (lines_of (ran.done ++ [])) ≡ length (lines_of ran.done) =
+      ap (λ l. length (lines_of l)) (append-nil ran.done) in
       let none : length (lines_of []) ≡ 0 = ap length lines_of-nil in
       omega (arith, ran.counted [], same, none)
 

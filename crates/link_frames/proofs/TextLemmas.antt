@@ -8,7 +8,8 @@ module _ {S : Type 0} (next : S → List ℕ → Option (S × List ℕ)) where
   unfolding text_by
   text_by-nil state = refl
 
-  pub text_by-good : (state after : S) (line text : List ℕ) (lines : List (List ℕ)) → next state line ≡ Some (after, text)
+  pub text_by-good : (state after : S) (line text : List ℕ) (lines : List (List ℕ))
+      → next state line ≡ Some (after, text)
       → text_by next state (line ∷ lines) ≡ ended text ++ text_by next after lines
   unfolding text_by
   text_by-good state after line text lines e = rw e refl

@@ -15,7 +15,8 @@ module _ {S : Type 0} (next : S → List ℕ → Option (S × List ℕ)) where
   -- the number of the first bad line, if there is one; the first line has this number
   unfoldable pub bad_by : ℕ → S → List (List ℕ) → Option ℕ
   bad_by number state [] = None
-  bad_by number state (line ∷ lines) = option_map_or (λ p. bad_by (number + 1) p.0 lines) (next state line) (Some number)
+  bad_by number state (line ∷ lines) =
+      option_map_or (λ p. bad_by (number + 1) p.0 lines) (next state line) (Some number)
 
 -- the known bytes of a reader are this input; a reader of unknown bytes may have any
 abbrev pub HasBytes : Option (List ℕ) → List ℕ → Type 0

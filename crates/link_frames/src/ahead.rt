@@ -102,7 +102,8 @@ impl Ahead {
     ///
     /// `Device` where the reader has failed, and `Memory`. A part of the line is used up then.
     pub fn pass_line<R: Read>(&mut self, reader: &mut Watched<R>) -> Result<bool, AheadFault>
-        ensures ok { IfOk result (PassedLine (front_of self.old) (pending (R.remaining (watched_inner reader.old)) self.old)
+        ensures ok { IfOk result (PassedLine (front_of self.old)
+            (pending (R.remaining (watched_inner reader.old)) self.old)
             (pending (R.remaining (watched_inner reader.new)) self.new)) }
         ensures err { OnErr result (PassedPart (pending (R.remaining (watched_inner reader.old)) self.old)
             (pending (R.remaining (watched_inner reader.new)) self.new)) }

@@ -69,7 +69,8 @@ pub(crate) fn read_onto<R: Read>(
     ensures ok { IfOk result (Onto (R.remaining (watched_inner reader.old)) (R.remaining (watched_inner reader.new))
         bytes.old.items bytes.new.items) }
     ensures kept { OnErr result (bytes.new.items ≡ bytes.old.items) }
-    ensures unread { OnErr result (Keeps (R.remaining (watched_inner reader.old)) (R.remaining (watched_inner reader.new))) }
+    ensures unread { OnErr result
+        (Keeps (R.remaining (watched_inner reader.old)) (R.remaining (watched_inner reader.new))) }
     ensures held { length bytes.new.items ≤ length bytes.old.items + block_bytes }
     ensures asked { OnOk result (WasAsked (watched_tally reader.old) (watched_tally reader.new)) }
     ensures counts { ReadAhead (watched_tally reader.old) (watched_tally reader.new) result }

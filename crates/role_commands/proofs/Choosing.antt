@@ -31,7 +31,8 @@ behind_name word line read c e =
 
 -- a choice by a name: what holds behind this word, and behind the others
 pub by_name : {B : Type 0} (P : List ℕ → B → Type 0) (name word : List ℕ) (x others : Option B) (b : B)
-    → (if bytes_eq name word then x else others) ≡ Some b → (x ≡ Some b → P word b) → (others ≡ Some b → P name b) → P name b
+    → (if bytes_eq name word then x else others) ≡ Some b → (x ≡ Some b → P word b) → (others ≡ Some b → P name b)
+    → P name b
 by_name P name word x others b e holds rest =
     if_else _ _ _ b e
     (λ same is.

@@ -34,11 +34,11 @@ split_word-front front back plain =
     let text = front ++ (32 ∷ back) in
     let within : length front < length text = omega (arith, length-append front (32 ∷ back)) in
     let before : (k : ℕ) → k < length front → is_space (get_or text k 0) ≡ false = λ k h.
-        let same : get_or text k 0 ≡ get_or front k 0 = get_or_append_left front (32 ∷ back) 0 k h in
-        let other : get_or front k 0 ≢ 32 = plain k h in rw same (grind (arith, nat_tests)) in
+    let same : get_or text k 0 ≡ get_or front k 0 = get_or_append_left front (32 ∷ back) 0 k h in
+    let other : get_or front k 0 ≢ 32 = plain k h in rw same (grind (arith, nat_tests)) in
     let at : position_or_len is_space text ≡ length front =
-        position_or_len_is is_space text (length front) 0 (omega (arith, within)) before
-        (λ h. rw (get_or-append_seam front 32 back 0) refl) in
+    position_or_len_is is_space text (length front) 0 (omega (arith, within)) before
+    (λ h. rw (get_or-append_seam front 32 back 0) refl) in
     let inside : nat_lt (length front) (length text) ≡ true = grind (arith, nat_tests) in
     rw (at, inside) (rw (take-append_seam, drop-append-add) refl)
 

@@ -6,7 +6,7 @@ use Rattle.std.specs.Fmt.{decimal}
 use Rattle.std.specs.List.{position_or_len}
 use Rattle.std.specs.Str.{bytes_eq}
 use Rattle.role_commands.specs.Laws.{CommandsAreRead, CommandsAreSpelled, SpellingsDiffer}
-use Rattle.role_commands.specs.Numbers.{is_space, split_word, wide_number, narrow_number}
+use Rattle.role_commands.specs.Numbers.{is_space, wide_number, narrow_number}
 use Rattle.role_commands.specs.Reading.{user_and_role, operation_and_object, role_and_permission, named_command, command_of}
 use Rattle.role_commands.specs.Words.{spelling, IsCommand, two_words, three_words}
 use Rattle.role_commands.specs.declared.command.Command.{Command}
@@ -14,7 +14,6 @@ use Rattle.role_commands.specs.declared.command.Command.TheVariants.{Assign, Dea
 use Rattle.role_commands.proofs.Choosing.{if_else, mapped}
 use Rattle.role_commands.proofs.NumberLemmas.{wide_read, narrow_read, wide_spelled, narrow_spelled}
 use Rattle.role_commands.proofs.Splitting.{split_word-decimal, split_word-word, split_word-joined}
-
 pub use Rattle.role_commands.proofs.Splitting.{split_word_is}
 
 -- ---- reading what was written
@@ -29,10 +28,12 @@ operation_and_object_read : (operation object : ℕ) → operation < 2 ^ 16 → 
     → operation_and_object (decimal operation ++ (32 ∷ decimal object)) ≡ Some (operation, object)
 unfolding operation_and_object
 operation_and_object_read operation object narrow wide =
-    rw (split_word-decimal operation (decimal object) (omega arith)) (rw (narrow_read operation narrow, wide_read object wide) refl)
+    rw (split_word-decimal operation (decimal object) (omega arith))
+    (rw (narrow_read operation narrow, wide_read object wide) refl)
 
 role_and_permission_read : (role operation object : ℕ) → role < 2 ^ 16 → operation < 2 ^ 16 → object < 2 ^ 32
-    → role_and_permission (decimal role ++ (32 ∷ (decimal operation ++ (32 ∷ decimal object)))) ≡ Some (role, operation, object)
+    → role_and_permission (decimal role ++ (32 ∷ (decimal operation ++ (32 ∷ decimal object)))) ≡ Some
+    (role, operation, object)
 unfolding role_and_permission
 role_and_permission_read role operation object role_fits fits wide =
     rw (split_word-decimal role (decimal operation ++ (32 ∷ decimal object)) (omega arith))
@@ -62,7 +63,8 @@ command_of-spelling (Grant role operation object) is =
     ap command_of (three_words-grouped (codes "grant") role operation object) ∙ command_of-front (codes "grant") _ refl
     ∙ rw (role_and_permission_read role operation object is.0 is.1 is.2) refl
 command_of-spelling (Revoke role operation object) is =
-    ap command_of (three_words-grouped (codes "revoke") role operation object) ∙ command_of-front (codes "revoke") _ refl
+    ap command_of (three_words-grouped (codes "revoke") role operation object)
+    ∙ command_of-front (codes "revoke") _ refl
     ∙ rw (role_and_permission_read role operation object is.0 is.1 is.2) refl
 
 -- ---- writing what was read
@@ -77,13 +79,14 @@ triple_of : (x : Option ℕ) (y : Option (ℕ × ℕ)) (n : ℕ × ℕ × ℕ)
     → option_and_then (λ a. option_map (λ b. (a, b.0, b.1)) y) x ≡ Some n → (x ≡ Some n.0) × (y ≡ Some (n.1, n.2))
 triple_of None y n e = cc
 triple_of (Some a) None n e = cc
-triple_of (Some a) (Some b) n e = let is = same_Some (a, b.0, b.1) n e in (ap (λ m. Some m.0) is, ap (λ m. Some (m.1, m.2)) is)
+triple_of (Some a) (Some b) n e = let is =
+    same_Some (a, b.0, b.1) n e in (ap (λ m. Some m.0) is, ap (λ m. Some (m.1, m.2)) is)
 
 user_and_role_spelled : (text : List ℕ) (n : ℕ × ℕ) → user_and_role text ≡ Some n
     → (text ≡ decimal n.0 ++ (32 ∷ decimal n.1)) × (n.0 < 2 ^ 32) × (n.1 < 2 ^ 16)
 unfolding user_and_role
 user_and_role_spelled text n e =
-    option_and_then_some (λ (words : List ℕ × List ℕ). option_and_then (λ user. option_map (λ role. (user, role)) (narrow_number words.1)) (wide_number words.0)) (split_word text) n e
+    option_and_then_some _ _ _ e
     (λ words cut read.
     let parts = pair_of (wide_number words.0) (narrow_number words.1) n read in
     let user = wide_spelled n.0 words.0 parts.0 in
@@ -94,7 +97,7 @@ operation_and_object_spelled : (text : List ℕ) (n : ℕ × ℕ) → operation_
     → (text ≡ decimal n.0 ++ (32 ∷ decimal n.1)) × (n.0 < 2 ^ 16) × (n.1 < 2 ^ 32)
 unfolding operation_and_object
 operation_and_object_spelled text n e =
-    option_and_then_some (λ (words : List ℕ × List ℕ). option_and_then (λ operation. option_map (λ object. (operation, object)) (wide_number words.1)) (narrow_number words.0)) (split_word text) n e
+    option_and_then_some _ _ _ e
     (λ words cut read.
     let parts = pair_of (narrow_number words.0) (wide_number words.1) n read in
     let operation = narrow_spelled n.0 words.0 parts.0 in
@@ -102,10 +105,11 @@ operation_and_object_spelled text n e =
     (split_word-joined text words cut ∙ rw (operation.0, object.0) refl, operation.1, object.1))
 
 role_and_permission_spelled : (text : List ℕ) (n : ℕ × ℕ × ℕ) → role_and_permission text ≡ Some n
-    → (text ≡ decimal n.0 ++ (32 ∷ (decimal n.1 ++ (32 ∷ decimal n.2)))) × (n.0 < 2 ^ 16) × (n.1 < 2 ^ 16) × (n.2 < 2 ^ 32)
+    → (text ≡ decimal n.0 ++ (32 ∷ (decimal n.1 ++ (32 ∷ decimal n.2)))) × (n.0 < 2 ^ 16) × (n.1 < 2 ^ 16)
+    × (n.2 < 2 ^ 32)
 unfolding role_and_permission
 role_and_permission_spelled text n e =
-    option_and_then_some (λ (words : List ℕ × List ℕ). option_and_then (λ role. option_map (λ permission. (role, permission.0, permission.1)) (operation_and_object words.1)) (narrow_number words.0)) (split_word text) n e
+    option_and_then_some _ _ _ e
     (λ words cut read.
     let parts = triple_of (narrow_number words.0) (operation_and_object words.1) n read in
     let role = narrow_spelled n.0 words.0 parts.0 in
@@ -115,9 +119,22 @@ role_and_permission_spelled text n e =
 Named : List ℕ → List ℕ → Command → Type 0
 Named name numbers c = (name ++ (32 ∷ numbers) ≡ spelling c) × IsCommand c
 
+-- the word and two numbers are the spelling of what is made of them
+abbrev SpellPairs : List ℕ → (ℕ → ℕ → Command) → Type 0
+SpellPairs word make =
+    (user role : ℕ) → user < 2 ^ 32 → role < 2 ^ 16
+    → (two_words word user role ≡ spelling (make user role)) × IsCommand (make user role)
+
+-- the same of three
+abbrev SpellTriples : List ℕ → (ℕ → ℕ → ℕ → Command) → Type 0
+SpellTriples word make =
+    (role operation object : ℕ) → role < 2 ^ 16 → operation < 2 ^ 16 → object < 2 ^ 32
+    → (three_words word role operation object ≡ spelling (make role operation object))
+    × IsCommand (make role operation object)
+
 module _ (name numbers : List ℕ) (c : Command) where
-  named_pair : (word : List ℕ) (make : ℕ → ℕ → Command)
-      → ((user role : ℕ) → user < 2 ^ 32 → role < 2 ^ 16 → (two_words word user role ≡ spelling (make user role)) × IsCommand (make user role)) → bytes_eq name word ≡ true → option_map (λ n. make n.0 n.1) (user_and_role numbers) ≡ Some c → Named name numbers c
+  named_pair : (word : List ℕ) (make : ℕ → ℕ → Command) → SpellPairs word make → bytes_eq name word ≡ true
+      → option_map (λ n. make n.0 n.1) (user_and_role numbers) ≡ Some c → Named name numbers c
   unfolding Named
   named_pair word make spells same e =
       let (n, read, made) = mapped (λ (m : ℕ × ℕ). make m.0 m.1) (user_and_role numbers) c e in
@@ -125,11 +142,12 @@ module _ (name numbers : List ℕ) (c : Command) where
       let spelled = spells n.0 n.1 wide narrow in
       let is : name ≡ word = (bytes_eq-Decides name word).0 same in
       let text : name ++ (32 ∷ numbers) ≡ spelling (make n.0 n.1) =
-      ap (λ m. m ++ (32 ∷ numbers)) is ∙ ap (λ t. word ++ (32 ∷ t)) joined ∙ sym (two_words-grouped word n.0 n.1) ∙ spelled.0 in
+      ap (λ m. m ++ (32 ∷ numbers)) is ∙ ap (λ t. word ++ (32 ∷ t)) joined ∙ sym (two_words-grouped word n.0 n.1)
+      ∙ spelled.0 in
       (text ∙ ap spelling made, subst IsCommand made spelled.1)
 
-  named_triple : (word : List ℕ) (make : ℕ → ℕ → ℕ → Command)
-      → ((role operation object : ℕ) → role < 2 ^ 16 → operation < 2 ^ 16 → object < 2 ^ 32 → (three_words word role operation object ≡ spelling (make role operation object)) × IsCommand (make role operation object)) → bytes_eq name word ≡ true → option_map (λ n. make n.0 n.1 n.2) (role_and_permission numbers) ≡ Some c → Named name numbers c
+  named_triple : (word : List ℕ) (make : ℕ → ℕ → ℕ → Command) → SpellTriples word make → bytes_eq name word ≡ true
+      → option_map (λ n. make n.0 n.1 n.2) (role_and_permission numbers) ≡ Some c → Named name numbers c
   unfolding Named
   named_triple word make spells same e =
       let (n, read, made) = mapped (λ (m : ℕ × ℕ × ℕ). make m.0 m.1 m.2) (role_and_permission numbers) c e in
@@ -137,22 +155,23 @@ module _ (name numbers : List ℕ) (c : Command) where
       let spelled = spells n.0 n.1 n.2 role operation object in
       let is : name ≡ word = (bytes_eq-Decides name word).0 same in
       let text : name ++ (32 ∷ numbers) ≡ spelling (make n.0 n.1 n.2) =
-      ap (λ m. m ++ (32 ∷ numbers)) is ∙ ap (λ t. word ++ (32 ∷ t)) joined ∙ sym (three_words-grouped word n.0 n.1 n.2) ∙ spelled.0 in
+      ap (λ m. m ++ (32 ∷ numbers)) is ∙ ap (λ t. word ++ (32 ∷ t)) joined
+      ∙ sym (three_words-grouped word n.0 n.1 n.2) ∙ spelled.0 in
       (text ∙ ap spelling made, subst IsCommand made spelled.1)
 
   named_spelled : named_command name numbers ≡ Some c → Named name numbers c
   unfolding named_command
   named_spelled e =
-      if_else _ _ _ c e (named_pair (codes "assign") (λ u r. Assign u r) (λ u r wide narrow. (refl, (wide, narrow))))
-      (λ others. if_else _ _ _ c others (named_pair (codes "deassign") (λ u r. Deassign u r) (λ u r wide narrow. (refl, (wide, narrow))))
-      (λ rest. if_else _ _ _ c rest (named_triple (codes "grant") (λ r p b. Grant r p b) (λ r p b role operation object. (refl, (role, operation, object))))
-      (λ last. if_else _ _ _ c last (named_triple (codes "revoke") (λ r p b. Revoke r p b) (λ r p b role operation object. (refl, (role, operation, object))))
+      if_else _ _ _ c e (named_pair (codes "assign") Assign (λ u r i j. (refl, (i, j))))
+      (λ others. if_else _ _ _ c others (named_pair (codes "deassign") Deassign (λ u r i j. (refl, (i, j))))
+      (λ rest. if_else _ _ _ c rest (named_triple (codes "grant") Grant (λ r p b i j k. (refl, (i, j, k))))
+      (λ last. if_else _ _ _ c last (named_triple (codes "revoke") Revoke (λ r p b i j k. (refl, (i, j, k))))
       (λ none. absurd (none-some c none)))))
 
 pub command_of_spelled : CommandsAreSpelled
 unfolding command_of Named
 command_of_spelled text c e =
-    option_and_then_some (λ (words : List ℕ × List ℕ). named_command words.0 words.1) (split_word text) c e
+    option_and_then_some _ _ _ e
     (λ words cut read.
     let named = named_spelled words.0 words.1 c read in
     (split_word-joined text words cut ∙ named.0, named.1))

@@ -5,7 +5,6 @@ use Rattle.std.specs.Str.{bytes_eq}
 use Rattle.role_commands.specs.Numbers.{split_word}
 use Rattle.role_commands.specs.declared.command.Command.{Command}
 use Rattle.role_commands.specs.declared.command.Command.TheVariants.{Assign, Deassign, Grant, Revoke}
-
 -- users and objects have 32 bits, roles and operations have 16
 pub use Rattle.role_commands.specs.Numbers.{wide_number, narrow_number}
 
