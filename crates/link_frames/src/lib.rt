@@ -1,4 +1,8 @@
-//! The messages of the broadcast, and the links that carry them.
+//! The messages of the broadcast, the links that carry them, and how a program reads lines and writes texts
+//! over a reader and a writer that may fail.
+//!
+//! `specs/Devices.antt` says when a device has failed, and `specs/LinePrograms.antt` what a program means that
+//! goes over lines.
 #![tactic(auto)]
 
 mod ahead;
