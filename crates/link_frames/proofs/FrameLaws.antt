@@ -33,23 +33,39 @@ one_frame ring cluster xs ys p fits also e d =
 pub length-frame : FrameLength
 unfolding frame fields_of
 length-frame key cluster p =
-    omega (arith, length-append (fields_of cluster p) (hmac key (fields_of cluster p)), length-append (header cluster p) (bytes_of p.command), length-bytes_of p.command, length-hmac key (fields_of cluster p))
+    omega (
+      arith,
+      length-append (fields_of cluster p) (hmac key (fields_of cluster p)),
+      length-append (header cluster p) (bytes_of p.command),
+      length-bytes_of p.command,
+      length-hmac key (fields_of cluster p),
+    )
 
 made : ℕ → ℕ → Kind → ℕ → ℕ → Command → PacketValue
 made from to kind owner place command =
     record { from = from; to = to; kind = kind; owner = owner; place = place; command = command }
 
-same_made : {a b : ℕ} {c d : ℕ} {k l : Kind} {o u : ℕ} {s t : ℕ} {x y : Command} → a ≡ b → c ≡ d → k ≡ l → o ≡ u → s ≡ t → x ≡ y
+same_made : {a b : ℕ} {c d : ℕ} {k l : Kind} {o u : ℕ} {s t : ℕ} {x y : Command} → a ≡ b → c ≡ d → k ≡ l → o ≡ u
+    → s ≡ t → x ≡ y
     → made a c k o s x ≡ made b d l u t y
 same_made e1 e2 e3 e4 e5 e6 = cc
 
 pub frames_differ : FramesDiffer
 unfolding frame fields_of made
 frames_differ k l c d p q in_c in_d packet other e =
-    let same_kind : Some p.kind ≡ Some q.kind = sym (kind_again p.kind) ∙ ap (λ bs. kind_in (get_or bs 7 0)) e ∙ kind_again q.kind in
+    let same_kind : Some p.kind ≡ Some q.kind =
+    sym (kind_again p.kind) ∙ ap (λ bs. kind_in (get_or bs 7 0)) e ∙ kind_again q.kind in
     let kind : p.kind ≡ q.kind = cc in
-    let command_part : (key : List ℕ) (cluster : ℕ) (r : PacketValue) → part 11 9 (frame key cluster r) ≡ bytes_of r.command = λ key cluster r. take_at (bytes_of r.command) _ 9 (length-bytes_of r.command) in
-    let command = bytes_of_injective p.command q.command packet.2 other.2 (sym (command_part k c p) ∙ ap (part 11 9) e ∙ command_part l d q) in
-    let place = sym (from_be_bytes-to_be_bytes_2 p.place packet.1) ∙ ap (λ bs. from_be_bytes w16 (part 9 2 bs)) e ∙ from_be_bytes-to_be_bytes_2 q.place other.1 in
-    let cluster = sym (from_be_bytes-to_be_bytes_4 c in_c) ∙ ap (λ bs. from_be_bytes w32 (part 1 4 bs)) e ∙ from_be_bytes-to_be_bytes_4 d in_d in
-    (cluster, same_made (ap (λ bs. get_or bs 5 0) e) (ap (λ bs. get_or bs 6 0) e) kind (ap (λ bs. get_or bs 8 0) e) place command)
+    let command_part : (key : List ℕ) (cluster : ℕ) (r : PacketValue)
+    → part 11 9 (frame key cluster r) ≡ bytes_of r.command =
+    λ key cluster r. take_at (bytes_of r.command) _ 9 (length-bytes_of r.command) in
+    let command = bytes_of_injective p.command q.command packet.2 other.2
+    (sym (command_part k c p) ∙ ap (part 11 9) e ∙ command_part l d q) in
+    let place = sym (from_be_bytes-to_be_bytes_2 p.place packet.1) ∙ ap (λ bs. from_be_bytes w16 (part 9 2 bs)) e
+    ∙ from_be_bytes-to_be_bytes_2 q.place other.1 in
+    let cluster = sym (from_be_bytes-to_be_bytes_4 c in_c) ∙ ap (λ bs. from_be_bytes w32 (part 1 4 bs)) e
+    ∙ from_be_bytes-to_be_bytes_4 d in_d in (
+      cluster,
+      same_made (ap (λ bs. get_or bs 5 0) e) (ap (λ bs. get_or bs 6 0) e) kind
+          (ap (λ bs. get_or bs 8 0) e) place command,
+    )

@@ -24,7 +24,8 @@ length-hmac key text = length-sha256 _
 -- ---- parts of bytes
 
 part-add : (at n m : ℕ) (bytes : List ℕ) → part at (n + m) bytes ≡ part at n bytes ++ part (at + n) m bytes
-part-add at n m bytes = take-add n m (drop at bytes) ∙ ap (λ l. take n (drop at bytes) ++ take m l) (drop-drop n at bytes)
+part-add at n m bytes = take-add n m (drop at bytes)
+    ∙ ap (λ l. take n (drop at bytes) ++ take m l) (drop-drop n at bytes)
 
 part-one : (at : ℕ) (bytes : List ℕ) → at < length bytes → part at 1 bytes ≡ get_or bytes at 0 ∷ []
 part-one at bytes h = rw (drop-cons bytes at 0 h) refl
@@ -44,10 +45,15 @@ fields_are : (cluster nodes sender receiver : ℕ) (bytes : List ℕ) (p : Packe
     → part 0 20 bytes ≡ fields_of cluster p
 unfolding fields_of
 fields_are cluster nodes sender receiver bytes p fits len version cluster_is from to h =
-    let four : to_be_bytes w32 cluster ≡ part 1 4 bytes = be_bytes_4 (part 1 4 bytes) cluster (length-part 1 4 bytes (omega arith)) (IsBytes-part 1 4 bytes fits) (sym cluster_is) in
-    let two : to_be_bytes w16 p.place ≡ part 9 2 bytes = be_bytes_2 (part 9 2 bytes) p.place (length-part 9 2 bytes (omega arith)) (IsBytes-part 9 2 bytes fits) (sym h.place) in
+    let four : to_be_bytes w32 cluster ≡ part 1 4 bytes =
+    be_bytes_4 (part 1 4 bytes) cluster (length-part 1 4 bytes (omega arith)) (IsBytes-part 1 4 bytes fits)
+    (sym cluster_is) in
+    let two : to_be_bytes w16 p.place ≡ part 9 2 bytes =
+    be_bytes_2 (part 9 2 bytes) p.place (length-part 9 2 bytes (omega arith)) (IsBytes-part 9 2 bytes fits)
+    (sym h.place) in
     let command = (command_takes (part 11 9 bytes) p.command (IsBytes-part 11 9 bytes fits) h.command).0 in
-    let one : (at n : ℕ) → at < 52 → get_or bytes at 0 ≡ n → part at 1 bytes ≡ n ∷ [] = λ at n lt e. part-one at bytes (omega arith) ∙ ap (λ b. b ∷ []) e in
+    let one : (at n : ℕ) → at < 52 → get_or bytes at 0 ≡ n → part at 1 bytes ≡ n ∷ [] =
+    λ at n lt e. part-one at bytes (omega arith) ∙ ap (λ b. b ∷ []) e in
     part-add 0 1 19 bytes ∙ both (one 0 1 (omega arith) version)
     (part-add 1 4 15 bytes ∙ both (sym four)
     (part-add 5 1 14 bytes ∙ both (one 5 p.from (omega arith) (from ∙ sym h.from))
@@ -71,11 +77,14 @@ open_takes ring cluster bytes p fits e =
     let sender = get_or bytes 5 0 in
     let len : length bytes ≡ 52 = eqb-true _ _ a.0 in
     let read = packet_takes ring.sizes.nodes sender ring.me bytes p g.1 in
-    let fields = fields_are cluster ring.sizes.nodes sender ring.me bytes p fits len (eqb-true _ _ b.0) (eqb-true _ _ c.0) refl (eqb-true _ _ d.0) read in
+    let fields = fields_are cluster ring.sizes.nodes sender ring.me bytes p fits len (eqb-true _ _ b.0)
+    (eqb-true _ _ c.0) refl (eqb-true _ _ d.0) read in
     let tag : part 20 32 bytes ≡ hmac (key_with ring sender) (part 0 20 bytes) = (bytes_eq-Decides _ _).0 g.0 in
     let tag_is : part 20 32 bytes ≡ hmac (key_with ring p.from) (fields_of cluster p) =
-    tag ∙ ap (λ n. hmac (key_with ring n) (part 0 20 bytes)) (sym read.from) ∙ ap (hmac (key_with ring p.from)) fields in
-    let whole : bytes ≡ part 0 20 bytes ++ part 20 32 bytes = sym (take_all 52 bytes (omega arith)) ∙ part-add 0 20 32 bytes in
+    tag ∙ ap (λ n. hmac (key_with ring n) (part 0 20 bytes)) (sym read.from)
+    ∙ ap (hmac (key_with ring p.from)) fields in
+    let whole : bytes ≡ part 0 20 bytes ++ part 20 32 bytes =
+    sym (take_all 52 bytes (omega arith)) ∙ part-add 0 20 32 bytes in
     let place = IsBytes-part 9 2 bytes fits in
     let command = command_takes (part 11 9 bytes) p.command (IsBytes-part 11 9 bytes fits) read.command in
     record {
@@ -89,7 +98,8 @@ open_takes ring cluster bytes p fits e =
 -- the fields of a packet to the ring's node and their tag
 opens : (ring : KeyRing) (cluster : ℕ) (p : PacketValue) (command tag : List ℕ) → length command ≡ 9 → length tag ≡ 32
     → command_in command ≡ Some p.command
-    → tag ≡ hmac (key_with ring p.from) (header cluster p ++ command) → cluster < 2 ^ 32 → p.place < 2 ^ 16 → SentByOwner p
+    → tag ≡ hmac (key_with ring p.from) (header cluster p ++ command) → cluster < 2 ^ 32 → p.place < 2 ^ 16
+    → SentByOwner p
     → p.to ≡ ring.me → p.from < ring.sizes.nodes → p.owner < ring.sizes.nodes
     → open_due ring cluster (header cluster p ++ (command ++ tag)) ≡ Ok p
 unfolding open_due
@@ -98,8 +108,10 @@ opens ring cluster p command tag nine long is_command is_tag in_cluster in_place
     let len : length bytes ≡ 52 = omega (arith, length-append command tag) in
     let command_part : part 11 9 bytes ≡ command = take_at command tag 9 nine in
     let tag_part : part 20 32 bytes ≡ tag = ap (take 32) (drop_at command tag 9 nine) ∙ take_all 32 tag (omega arith) in
-    let fields_part : part 0 20 bytes ≡ header cluster p ++ command = ap (λ l. header cluster p ++ l) (take_at command tag 9 nine) in
-    let right_tag : part 20 32 bytes ≡ hmac (key_with ring p.from) (part 0 20 bytes) = tag_part ∙ is_tag ∙ ap (hmac (key_with ring p.from)) (sym fields_part) in
+    let fields_part : part 0 20 bytes ≡ header cluster p ++ command =
+    ap (λ l. header cluster p ++ l) (take_at command tag 9 nine) in
+    let right_tag : part 20 32 bytes ≡ hmac (key_with ring p.from) (part 0 20 bytes) =
+    tag_part ∙ is_tag ∙ ap (hmac (key_with ring p.from)) (sym fields_part) in
     let fields : HasFields ring.sizes.nodes p.from ring.me bytes p = record {
       from = refl;
       to = to;
@@ -125,4 +137,5 @@ open_again ring cluster bytes p in_cluster h =
     let command = bytes_of p.command in
     let tag = hmac (key_with ring p.from) (header cluster p ++ command) in
     ap (open_due ring cluster) (h.frame ∙ append_assoc (header cluster p) command tag)
-    ∙ opens ring cluster p command tag (length-bytes_of p.command) (length-hmac _ _) (command_again p.command h.packet.2) refl in_cluster h.packet.1 h.packet.0 h.to h.from h.owner
+    ∙ opens ring cluster p command tag (length-bytes_of p.command) (length-hmac _ _)
+    (command_again p.command h.packet.2) refl in_cluster h.packet.1 h.packet.0 h.to h.from h.owner

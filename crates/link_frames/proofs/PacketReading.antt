@@ -32,7 +32,8 @@ unfolding with_some
 some_ok None fault rest y e = absurd cc
 some_ok (Some x) fault rest y e = (x, refl, e)
 
-pub some_again : {X Y : Type 0} (o : Option X) (fault : LinkFault) (rest : X → Result Y LinkFault) (x : X) (y : Result Y LinkFault) → o ≡ Some x → rest x ≡ y → with_some o fault rest ≡ y
+pub some_again : {X Y : Type 0} (o : Option X) (fault : LinkFault) (rest : X → Result Y LinkFault) (x : X)
+    (y : Result Y LinkFault) → o ≡ Some x → rest x ≡ y → with_some o fault rest ≡ y
 unfolding with_some
 some_again o fault rest x y is e = rw is e
 
@@ -100,7 +101,8 @@ eqb_same n = eq-eqb n n refl
 due_again : (p : PacketValue) → SentByOwner p → packet_due p.from p.to (message_of p) ≡ Some p
 unfolding relayed
 due_again p h =
-    let free : relayed p.kind (eqb p.from p.owner) ≡ false = own p.kind (eqb p.from p.owner) (λ s. ap (λ n. eqb p.from n) (sym (h s)) ∙ eqb_same p.from) in
+    let free : relayed p.kind (eqb p.from p.owner) ≡ false =
+    own p.kind (eqb p.from p.owner) (λ s. ap (λ n. eqb p.from n) (sym (h s)) ∙ eqb_same p.from) in
     rw free refl
 
 -- what the fields of a packet are read from
@@ -139,7 +141,8 @@ pub packet_again : (nodes from to : ℕ) (bytes : List ℕ) (p : PacketValue) �
     → packet_in nodes from to bytes ≡ Ok p
 unfolding packet_in
 packet_again nodes from to bytes p h =
-    let message : Message = record { kind = p.kind; owner = get_or bytes 8 0; place = from_be_bytes w16 (part 9 2 bytes); command = p.command } in
+    let message : Message = record
+    { kind = p.kind; owner = get_or bytes 8 0; place = from_be_bytes w16 (part 9 2 bytes); command = p.command } in
     let due : packet_due from to message ≡ Some p = rw (h.owner, h.place, ← h.from, ← h.to) (due_again p h.by_owner) in
     some_again _ _ _ p.kind _ (ap kind_in h.kind ∙ kind_again p.kind)
     (demand_again _ _ _ _ (lt-ltb _ _ (omega (arith, h.owner, h.is_node)))

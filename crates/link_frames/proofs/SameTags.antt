@@ -26,10 +26,13 @@ pub record Compared (a b : List ℕ) (i differences : ℕ) : Type 0 where
 pub Compared-more : (a b : List ℕ) (i differences : ℕ) → Compared a b i differences
     → Compared a b (i + 1) (bit_or differences (bit_xor (get_or a i 0) (get_or b i 0)))
 Compared-more a b i differences h = record {
-  same = λ e. let parts = or_zero differences (bit_xor (get_or a i 0) (get_or b i 0)) e in below_more (λ k. get_or a k 0 ≡ get_or b k 0) i (h.same parts.0) (xor_zero _ _ parts.1);
+  same = λ e.
+      let parts = or_zero differences (bit_xor (get_or a i 0) (get_or b i 0)) e in
+      below_more (λ k. get_or a k 0 ≡ get_or b k 0) i (h.same parts.0) (xor_zero _ _ parts.1);
   none = λ all.
       let before : differences ≡ 0 = h.none (λ k lt. all k (omega arith)) in
-      let here : bit_xor (get_or a i 0) (get_or b i 0) ≡ 0 = ap (λ n. bit_xor n (get_or b i 0)) (all i (omega arith)) ∙ xor_self (get_or b i 0) in
+      let here : bit_xor (get_or a i 0) (get_or b i 0) ≡ 0 =
+      ap (λ n. bit_xor n (get_or b i 0)) (all i (omega arith)) ∙ xor_self (get_or b i 0) in
       ap (λ n. bit_or n (bit_xor (get_or a i 0) (get_or b i 0))) before ∙ or_zero_l _ ∙ here;
 }
 
@@ -38,9 +41,13 @@ pub compared : (a b : List ℕ) (i differences : ℕ) → length a ≡ length b 
 compared a b i differences len end h = go (bytes_eq a b) refl
   where
     go : (r : Bool) → bytes_eq a b ≡ r → eqb differences 0 ≡ r
-    go true e = let same : a ≡ b = (bytes_eq-Decides a b).0 e in eq-eqb _ _ (h.none (λ k lt. ap (λ l. get_or l k 0) same))
+    go true e =
+        let same : a ≡ b = (bytes_eq-Decides a b).0 e in
+        eq-eqb _ _ (h.none (λ k lt. ap (λ l. get_or l k 0) same))
     go false e = other (eqb differences 0) refl
       where
         other : (t : Bool) → eqb differences 0 ≡ t → t ≡ false
         other false t = refl
-        other true t = let same : bytes_eq a b ≡ true = (bytes_eq-Decides a b).1 (same_number_lists a b len (λ k lt. h.same (eqb-true _ _ t) k (omega arith))) in absurd cc
+        other true t =
+            let all : a ≡ b = same_number_lists a b len (λ k lt. h.same (eqb-true _ _ t) k (omega arith)) in
+            let same : bytes_eq a b ≡ true = (bytes_eq-Decides a b).1 all in absurd cc

@@ -17,7 +17,8 @@ kind_byte Ready = 3
 
 -- the fields in front of the command
 abbrev pub header : ℕ → PacketValue → List ℕ
-header cluster p = version ∷ to_be_bytes w32 cluster ++ p.from ∷ p.to ∷ kind_byte p.kind ∷ p.owner ∷ to_be_bytes w16 p.place
+header cluster p =
+    version ∷ to_be_bytes w32 cluster ++ p.from ∷ p.to ∷ kind_byte p.kind ∷ p.owner ∷ to_be_bytes w16 p.place
 
 -- all fields
 unfoldable pub fields_of : ℕ → PacketValue → List ℕ

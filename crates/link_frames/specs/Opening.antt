@@ -7,6 +7,7 @@ use Rattle.link_frames.specs.Hmac.{hmac}
 use Rattle.link_frames.specs.KeyRings.{KeyRing, key_with}
 use Rattle.link_frames.specs.Layout.{version, frame_len, version_at, cluster_at, from_at, to_at, kind_at, owner_at, place_at, command_at, tag_at, tag_len}
 use Rattle.link_frames.specs.Packets.{PacketValue, packet_due}
+use Rattle.link_frames.specs.declared.packet.Message.{Message}
 use Rattle.link_frames.specs.declared.kind.Kind.{Kind}
 use Rattle.link_frames.specs.declared.kind.Kind.TheVariants.{Send, Echo, Ready}
 use Rattle.link_frames.specs.declared.opening.LinkFault.{LinkFault}
@@ -30,7 +31,10 @@ packet_in nodes from to bytes =
     with_some (kind_in (slice_index bytes kind_at)) faults.BadKind (λ kind.
     demand (nat_lt (slice_index bytes owner_at) nodes) faults.BadOwner (
     with_some (command_in (part command_at command_length bytes)) faults.BadCommand (λ command.
-    with_some (packet_due from to (record { kind = kind; owner = slice_index bytes owner_at; place = from_be_bytes w16 (part place_at 2 bytes); command = command })) faults.SendNotByOwner Ok)))
+    let place = from_be_bytes w16 (part place_at 2 bytes) in
+    let owner = slice_index bytes owner_at in
+    let message : Message = record { kind = kind; owner = owner; place = place; command = command } in
+    with_some (packet_due from to message) faults.SendNotByOwner Ok)))
 
 -- the first fault of these bytes at the ring's node, or the packet whose frame they are
 unfoldable pub open_due : KeyRing → ℕ → List ℕ → Result PacketValue LinkFault

@@ -18,11 +18,14 @@ fields_same : (t r p o t' r' p' o' : ℕ) → r < 2 ^ 16 → p < 2 ^ 32 → o < 
     → fields_bytes t r p o ≡ fields_bytes t' r' p' o' → SameFields t r p o t' r' p' o'
 fields_same t r p o t' r' p' o' hr hp ho hr' hp' ho' e = record {
   tag = ap (λ bs. get_or bs 0 0) e;
-  role = sym (from_be_bytes-to_be_bytes_2 r hr) ∙ ap (λ bs. from_be_bytes w16 (drop 1 bs)) e ∙ from_be_bytes-to_be_bytes_2 r' hr';
+  role = sym (from_be_bytes-to_be_bytes_2 r hr) ∙ ap (λ bs. from_be_bytes w16 (drop 1 bs)) e
+      ∙ from_be_bytes-to_be_bytes_2 r' hr';
   user_or_object =
-      sym (from_be_bytes-to_be_bytes_4 p hp) ∙ ap (λ bs. from_be_bytes w32 (drop 3 bs)) e ∙ from_be_bytes-to_be_bytes_4 p' hp';
+      sym (from_be_bytes-to_be_bytes_4 p hp) ∙ ap (λ bs. from_be_bytes w32 (drop 3 bs)) e
+      ∙ from_be_bytes-to_be_bytes_4 p' hp';
   operation =
-      sym (from_be_bytes-to_be_bytes_2 o ho) ∙ ap (λ bs. from_be_bytes w16 (drop 7 bs)) e ∙ from_be_bytes-to_be_bytes_2 o' ho';
+      sym (from_be_bytes-to_be_bytes_2 o ho) ∙ ap (λ bs. from_be_bytes w16 (drop 7 bs)) e
+      ∙ from_be_bytes-to_be_bytes_2 o' ho';
 }
 
 pub length-bytes_of : NineBytes
@@ -39,11 +42,14 @@ IsRow (Deassign user role) t r p o = SameFields t r p o 2 role user 0
 IsRow (Grant role operation object) t r p o = SameFields t r p o 3 role object operation
 IsRow (Revoke role operation object) t r p o = SameFields t r p o 4 role object operation
 
-fields_of : (c : Command) (t r p o : ℕ) → r < 2 ^ 16 → p < 2 ^ 32 → o < 2 ^ 16 → IsCommand c → fields_bytes t r p o ≡ bytes_of c
+fields_of : (c : Command) (t r p o : ℕ) → r < 2 ^ 16 → p < 2 ^ 32 → o < 2 ^ 16 → IsCommand c
+    → fields_bytes t r p o ≡ bytes_of c
     → IsRow c t r p o
 unfolding bytes_of IsRow
-fields_of (Assign user role) t r p o hr hp ho fits e = fields_same t r p o 1 role user 0 hr hp ho fits.1 fits.0 (omega arith) e
-fields_of (Deassign user role) t r p o hr hp ho fits e = fields_same t r p o 2 role user 0 hr hp ho fits.1 fits.0 (omega arith) e
+fields_of (Assign user role) t r p o hr hp ho fits e =
+    fields_same t r p o 1 role user 0 hr hp ho fits.1 fits.0 (omega arith) e
+fields_of (Deassign user role) t r p o hr hp ho fits e =
+    fields_same t r p o 2 role user 0 hr hp ho fits.1 fits.0 (omega arith) e
 fields_of (Grant role operation object) t r p o hr hp ho fits e =
     fields_same t r p o 3 role object operation hr hp ho fits.0 fits.2 fits.1 e
 fields_of (Revoke role operation object) t r p o hr hp ho fits e =

@@ -16,7 +16,8 @@ pub IsBytes-part : (at n : ℕ) (bytes : List ℕ) → IsBytes bytes → IsBytes
 IsBytes-part at n bytes h i =
     elim (cases_lt i n) [
       | inl lt ↦ rw (get_or-take n (drop at bytes) i 0 lt, get_or-drop) (h (at + i))
-      | inr le ↦ rw (get_or_past (take n (drop at bytes)) i 0 (omega (arith, length-take n (drop at bytes)))) (omega arith)
+      | inr le ↦ rw (get_or_past (take n (drop at bytes)) i 0 (omega (arith, length-take n (drop at bytes))))
+          (omega arith)
     ]
 
 bytes_same : (bytes : List ℕ) → bytes_eq bytes bytes ≡ true
@@ -26,13 +27,31 @@ bytes_same bytes = (bytes_eq-Decides bytes bytes).1 refl
 pub command_again : (c : Command) → IsCommand c → command_in (bytes_of c) ≡ Some c
 unfolding command_in bytes_of
 command_again (Assign user role) fits =
-    rw (from_be_bytes-to_be_bytes_2 role fits.1, from_be_bytes-to_be_bytes_4 user fits.0, bytes_same (bytes_of (Assign user role))) refl
+    rw (
+      from_be_bytes-to_be_bytes_2 role fits.1,
+      from_be_bytes-to_be_bytes_4 user fits.0,
+      bytes_same (bytes_of (Assign user role)),
+    ) refl
 command_again (Deassign user role) fits =
-    rw (from_be_bytes-to_be_bytes_2 role fits.1, from_be_bytes-to_be_bytes_4 user fits.0, bytes_same (bytes_of (Deassign user role))) refl
+    rw (
+      from_be_bytes-to_be_bytes_2 role fits.1,
+      from_be_bytes-to_be_bytes_4 user fits.0,
+      bytes_same (bytes_of (Deassign user role)),
+    ) refl
 command_again (Grant role operation object) fits =
-    rw (from_be_bytes-to_be_bytes_2 role fits.0, from_be_bytes-to_be_bytes_2 operation fits.1, from_be_bytes-to_be_bytes_4 object fits.2, bytes_same (bytes_of (Grant role operation object))) refl
+    rw (
+      from_be_bytes-to_be_bytes_2 role fits.0,
+      from_be_bytes-to_be_bytes_2 operation fits.1,
+      from_be_bytes-to_be_bytes_4 object fits.2,
+      bytes_same (bytes_of (Grant role operation object)),
+    ) refl
 command_again (Revoke role operation object) fits =
-    rw (from_be_bytes-to_be_bytes_2 role fits.0, from_be_bytes-to_be_bytes_2 operation fits.1, from_be_bytes-to_be_bytes_4 object fits.2, bytes_same (bytes_of (Revoke role operation object))) refl
+    rw (
+      from_be_bytes-to_be_bytes_2 role fits.0,
+      from_be_bytes-to_be_bytes_2 operation fits.1,
+      from_be_bytes-to_be_bytes_4 object fits.2,
+      bytes_same (bytes_of (Revoke role operation object)),
+    ) refl
 
 spelled : (bytes : List ℕ) (read : Option Command) (c : Command)
     → option_and_then (λ d. cond (bytes_eq bytes (bytes_of d)) (Some d) None) read ≡ Some c
@@ -40,11 +59,13 @@ spelled : (bytes : List ℕ) (read : Option Command) (c : Command)
 spelled bytes None c e = absurd cc
 spelled bytes (Some d) c e = go (bytes_eq bytes (bytes_of d)) refl e
   where
-    go : (b : Bool) → bytes_eq bytes (bytes_of d) ≡ b → cond b (Some d) None ≡ Some c → (Some d ≡ Some c) × (bytes ≡ bytes_of c)
+    go : (b : Bool) → bytes_eq bytes (bytes_of d) ≡ b → cond b (Some d) None ≡ Some c
+        → (Some d ≡ Some c) × (bytes ≡ bytes_of c)
     go true t e = (e, (bytes_eq-Decides bytes (bytes_of d)).0 t ∙ ap bytes_of cc)
     go false t e = absurd cc
 
-chosen_fits : {A : Type 0} (b : Bool) (x y : Option A) (P : A → Type 0) → IfSome x P → IfSome y P → IfSome (cond b x y) P
+chosen_fits : {A : Type 0} (b : Bool) (x y : Option A) (P : A → Type 0) → IfSome x P → IfSome y P
+    → IfSome (cond b x y) P
 chosen_fits true x y P one other = one
 chosen_fits false x y P one other = other
 
@@ -72,11 +93,13 @@ command_takes bytes c fits e =
     let ps = IsBytes-part 3 4 bytes fits in
     let os = IsBytes-part 7 2 bytes fits in
     let is = spelled bytes (tagged tag role party operation) c e in
-    let in_range = tagged_fits tag role party operation (omega (arith, rs 0, rs 1)) (omega (arith, ps 0, ps 1, ps 2, ps 3)) (omega (arith, os 0, os 1)) in
+    let in_range = tagged_fits tag role party operation (omega (arith, rs 0, rs 1))
+    (omega (arith, ps 0, ps 1, ps 2, ps 3)) (omega (arith, os 0, os 1)) in
     (is.1, subst (λ (o : Option Command). IfSome o IsCommand) is.0 in_range)
 
 -- what decodes bytes exactly gives the command that they are read as
-pub decoded : (bytes : List ℕ) (o : Option Command) → IsBytes bytes → IfSome o (λ c. bytes ≡ bytes_of c) → IfSome o IsCommand
+pub decoded : (bytes : List ℕ) (o : Option Command) → IsBytes bytes → IfSome o (λ c. bytes ≡ bytes_of c)
+    → IfSome o IsCommand
     → ((c : Command) → IsCommand c → bytes ≡ bytes_of c → o ≡ Some c) → o ≡ command_in bytes
 decoded bytes (Some c) fits found in_range only = sym (command_again c in_range) ∙ ap command_in (sym found)
 decoded bytes None fits found in_range only = go (command_in bytes) refl

@@ -35,10 +35,14 @@ from_entries-insert m n k v updates =
     same_map nat_cmp_total nat_cmp-IsAntisymmetric _ _ (λ q.
     get-entries n.entries q ∙ updates.0 q
     ∙ ap (λ b. cond b (Some v) (tree.get nat_cmp m q)) ((eq_by_cmp_equiv nat_cmp_total).symm k q)
-    ∙ sym (get-insert nat_cmp_total (map.from_entries m.entries) k v q ∙ ap (cond (eq_by_cmp nat_cmp q k) (Some v)) (get-entries m.entries q)))
+    ∙ sym (get-insert nat_cmp_total (map.from_entries m.entries) k v q
+    ∙ ap (cond (eq_by_cmp nat_cmp q k) (Some v)) (get-entries m.entries q)))
 
 pub no_entries : (sizes : Counts) → AreEntries sizes []
-no_entries sizes = (((λ role. rw (get-empty nat_cmp role) tt), rw (len-empty nat_cmp ℕ) (omega arith)), len-empty nat_cmp ℕ)
+no_entries sizes = (
+  ((λ role. rw (get-empty nat_cmp role) tt), rw (len-empty nat_cmp ℕ) (omega arith)),
+  len-empty nat_cmp ℕ,
+)
 
 either_owner : (b : Bool) (v n : ℕ) (o : Option ℕ) → v < n → IfSome o (λ owner. owner < n)
     → IfSome (cond b (Some v) o) (λ owner. owner < n)
@@ -52,19 +56,28 @@ no_value (Some x) e = cc
 -- one more role in the tree
 pub one_more_entry : (sizes : Counts) (m n : BTreeMap ℕ ℕ) (k v : ℕ) (old : Option ℕ) → AreEntries sizes m.entries
     → tree.Updates nat_cmp m n k (Some v) → is_some (owner_in m.entries k) ≡ false → old ≡ owner_in m.entries k
-    → length n.entries ≡ length m.entries + (if is_some old then 0 else 1) → length m.entries < most_roles → v < sizes.nodes
+    → length n.entries ≡ length m.entries + (if is_some old then 0 else 1) → length m.entries < most_roles
+    → v < sizes.nodes
     → AreEntries sizes n.entries
 one_more_entry sizes m n k v old are updates new had more room below =
     let is = from_entries-insert m n k v updates in
     let none : map.get (map.from_entries {R = nat_cmp} m.entries) k ≡ None = get-entries m.entries k ∙ no_value _ new in
     let one : length n.entries ≡ length m.entries + 1 = rw (ap is_some had ∙ new) at more in
-    let longer : map.len (map.from_entries {R = nat_cmp} n.entries) ≡ map.len (map.from_entries {R = nat_cmp} m.entries) + 1 =
+    let longer : map.len (map.from_entries {R = nat_cmp} n.entries) ≡ map.len
+    (map.from_entries {R = nat_cmp} m.entries) + 1 =
     ap map.len is ∙ len-insert nat_cmp_total (map.from_entries m.entries) k v ∙ rw none refl in
-    let same_len : map.len (map.from_entries {R = nat_cmp} m.entries) ≡ length m.entries = are.1 in
-    (((λ role. rw (is, get-insert nat_cmp_total (map.from_entries m.entries) k v role) (either_owner (eq_by_cmp nat_cmp role k) v sizes.nodes _ below (are.0.0 role))), omega arith), omega arith)
+    let same_len : map.len (map.from_entries {R = nat_cmp} m.entries) ≡ length m.entries = are.1 in (
+      (
+        (λ role. rw (is, get-insert nat_cmp_total (map.from_entries m.entries) k v role)
+            (either_owner (eq_by_cmp nat_cmp role k) v sizes.nodes _ below (are.0.0 role))),
+        omega arith,
+      ),
+      omega arith,
+    )
 
 -- what is due, from what the tree says of a role with a named owner
-module _ (sizes : Counts) (m : BTreeMap ℕ ℕ) (t : Table) (is : table_of sizes m.entries ≡ t) (role owner named : ℕ) (name : name_due sizes owner ≡ Some named) where
+module _ (sizes : Counts) (m : BTreeMap ℕ ℕ) (t : Table) (is : table_of sizes m.entries ≡ t) (role owner named : ℕ)
+    (name : name_due sizes owner ≡ Some named) where
   pub named_below : (named < sizes.nodes) × (named ≡ owner)
   named_below =
       let parts = cond_some (nat_lt owner sizes.nodes) owner named name in
@@ -92,7 +105,8 @@ module _ (sizes : Counts) (m : BTreeMap ℕ ℕ) (t : Table) (is : table_of size
       let few : nat_le most_roles (length m.entries) ≡ false = grind (arith, nat_tests) in
       rw (← is) (rw (is_node, has_role, new, are.1, few) refl)
 
-  pub added : (n : BTreeMap ℕ ℕ) → tree.Updates nat_cmp m n role (Some named) → table_of sizes n.entries ≡ with_role t role owner
+  pub added : (n : BTreeMap ℕ ℕ) → tree.Updates nat_cmp m n role (Some named)
+      → table_of sizes n.entries ≡ with_role t role owner
   added n updates = rw (← is, ← named_below.1, from_entries-insert m n role named updates) refl
 
 or_none : {A : Type 0} (o : Option A) → option_or o None ≡ o
@@ -105,6 +119,7 @@ pub extended_entries : (empty m n : BTreeMap ℕ ℕ) → tree.IsEmpty empty →
 extended_entries empty m n none ordered inserts =
     btree_map_from_get nat_cmp_total n m inserts.1 ordered (λ q.
     inserts.0 q
-    ∙ update_all_distinct (eq_by_cmp_equiv nat_cmp_total) (eq_by_cmp nat_cmp) (λ _ _. refl) (tree.get nat_cmp empty) m.entries q (IsDistinct-from_sorted nat_cmp (keys_of m.entries) ordered)
+    ∙ update_all_distinct (eq_by_cmp_equiv nat_cmp_total) (eq_by_cmp nat_cmp) (λ _ _. refl)
+    (tree.get nat_cmp empty) m.entries q (IsDistinct-from_sorted nat_cmp (keys_of m.entries) ordered)
     ∙ ap (λ es. option_or (tree.get nat_cmp m q) (lookup (is_at (nat_cmp q)) es)) none
     ∙ or_none (tree.get nat_cmp m q)) exact_unsigned

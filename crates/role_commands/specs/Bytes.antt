@@ -11,7 +11,8 @@ abbrev pub command_length : ℕ
 command_length = 9
 
 abbrev pub fields_bytes : ℕ → ℕ → ℕ → ℕ → List ℕ
-fields_bytes tag role user_or_object operation = tag ∷ (to_be_bytes w16 role ++ to_be_bytes w32 user_or_object ++ to_be_bytes w16 operation)
+fields_bytes tag role user_or_object operation =
+    tag ∷ (to_be_bytes w16 role ++ to_be_bytes w32 user_or_object ++ to_be_bytes w16 operation)
 
 -- the bytes of a command
 unfoldable pub bytes_of : Command → List ℕ
@@ -41,4 +42,5 @@ tagged tag role user_or_object operation =
 unfoldable pub command_in : List ℕ → Option Command
 command_in bytes =
     option_and_then (λ c. if bytes_eq bytes (bytes_of c) then Some c else None)
-    (tagged (slice_index bytes 0) (from_be_bytes w16 (part 1 2 bytes)) (from_be_bytes w32 (part 3 4 bytes)) (from_be_bytes w16 (part 7 2 bytes)))
+    (tagged (slice_index bytes 0) (from_be_bytes w16 (part 1 2 bytes)) (from_be_bytes w32 (part 3 4 bytes))
+    (from_be_bytes w16 (part 7 2 bytes)))

@@ -56,6 +56,15 @@ fn no_commands(rt: HostRuntime) -> Result<(), Fail> {
 }
 
 #[test]
+fn numbers_of_words(rt: HostRuntime) {
+    assert_eq!(rt; numbers::byte_number("255"), Some(u8::MAX));
+    assert_eq!(rt; numbers::byte_number("256"), None);
+    assert_eq!(rt; numbers::long_number("18446744073709551615"), Some(u64::MAX));
+    assert_eq!(rt; numbers::long_number("18446744073709551616"), None);
+    assert_eq!(rt; numbers::split_word("check 1 7"), Some(("check", "1 7")));
+}
+
+#[test]
 fn bytes(rt: HostRuntime) -> Result<(), Fail> {
     for (bytes, command) in [
         (
@@ -106,7 +115,10 @@ fn tables(rt: HostRuntime) -> Result<(), Fail> {
     assert_eq!(rt; table.add(3, 4), Err(TableFault::NoSuchNode));
     assert_eq!(rt; table.add(2, 4), Err(TableFault::NoSuchNode));
     let copy = table.copy(rt.alloc())?;
+    let first = sizes.name(0).ok_or("no name")?;
     for owners in [&table, &copy] {
+        assert!(rt; owners.is_owned_by(2, first));
+        assert!(rt; !owners.is_owned_by(7, first));
         assert_eq!(rt; owners.sizes(), sizes);
         assert_eq!(rt; owners.owner(2), sizes.name(0));
         assert_eq!(rt; owners.owner(7), sizes.name(3));

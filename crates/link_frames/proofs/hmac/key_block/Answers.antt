@@ -7,4 +7,5 @@ pub returns-else-key-gt-BLOCK_LEN : goal.returns-else-key-gt-BLOCK_LEN
 returns-else-key-gt-BLOCK_LEN c =
     let key = c.args.key.now in
     let short : ltb 64 (length key) ≡ false = le-ltb _ _ c.if-key-gt-BLOCK_LEN.false in
-    rw (c.copy_from_slice-else-key-gt-BLOCK_LEN.ensures.after, short) (ap (λ l. key ++ l) (drop-replicate (length key) 64 0))
+    rw (c.copy_from_slice-else-key-gt-BLOCK_LEN.ensures.after, short)
+    (ap (λ l. key ++ l) (drop-replicate (length key) 64 0))

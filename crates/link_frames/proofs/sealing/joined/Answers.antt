@@ -4,7 +4,8 @@ use borrow.Rule.Slice.PartMut.{put_mid}
 use Rattle.link_frames.proofs.sealing.joined.Goals as goal
 
 -- both parts of a buffer were written
-joined_is : (first fields second tag rest : List ℕ) → first ≡ fields → second ≡ tag → length fields ≡ 20 → length rest ≡ 32
+joined_is : (first fields second tag rest : List ℕ) → first ≡ fields → second ≡ tag → length fields ≡ 20
+    → length rest ≡ 32
     → put_mid 20 32 (first ++ rest) second ≡ fields ++ tag
 joined_is first fields second tag rest one two len more =
     let front : take 20 (first ++ rest) ≡ fields = ap (λ l. take 20 (l ++ rest)) one ∙ take_at fields rest 20 len in

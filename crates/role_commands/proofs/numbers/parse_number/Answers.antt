@@ -6,7 +6,8 @@ use Rattle.role_commands.proofs.numbers.parse_number.Goals as goal
 
 pub returns-then-starts_with-clause-value : goal.returns-then-starts_with-clause-value
 returns-then-starts_with-clause-value c =
-    let signed = (starts_char 43 c.args.word.now _ c.starts_with.ensures.cases (omega arith) (omega arith)).0 c.if-starts_with.true in
+    let signed = (starts_char 43 c.args.word.now _ c.starts_with.ensures.cases (omega arith) (omega arith)).0
+    c.if-starts_with.true in
     sym (signed_none c.args.most c.args.word.now (omega arith) signed)
 
 pub returns-then-is_padded-clause-value : goal.returns-then-is_padded-clause-value
@@ -23,11 +24,13 @@ returns-in-Ok-clause-value c =
       | inl more ↦ let padded = c.is_padded.ensures.1 (more, zero) in absurd (cc)
       | inr le ↦ le
     ] in
-    sym (parsed_some c.args.most c.args.word.now _ c.parse.ensures.value.0 (omega arith) _ c.in-Ok.is c.if-number-most.true plain lead)
+    sym (parsed_some c.args.most c.args.word.now _ c.parse.ensures.value.0
+    (omega arith) _ c.in-Ok.is c.if-number-most.true plain lead)
 
 pub returns-in_default-clause-value : goal.returns-in_default-clause-value
 returns-in_default-clause-value c =
-    sym (parsed_above c.args.most c.args.word.now _ c.parse.ensures.value.0 (omega arith) _ c.in-Ok.is c.if-number-most.false)
+    sym (parsed_above c.args.most c.args.word.now _ c.parse.ensures.value.0
+    (omega arith) _ c.in-Ok.is c.if-number-most.false)
 
 pub returns-in_default-2-clause-value : goal.returns-in_default-2-clause-value
 returns-in_default-2-clause-value c =

@@ -12,8 +12,10 @@ copied_entries : (c : goal.After-result-1) → c.extend.new.self.entries ≡ c.s
 copied_entries c =
     let ordered : tree.IsOrdered nat_cmp c.self.inside.owners = c.extend.ensures.ran.2.5 in
     let fact : OnOk c.extend.result (c.extend.new.self.entries ≡ c.self.inside.owners.entries) =
-    fact_from_extend deref_pair c.extend.result c.extend.ensures.ran (λ it b. YieldsList-from_rest c.self.inside.owners.entries b.0)
-    (λ xs e h. extended_entries c.new-owners.result c.self.inside.owners c.extend.new.self c.new-owners.ensures.empty ordered (rw e at h)) in
+    fact_from_extend deref_pair c.extend.result c.extend.ensures.ran
+    (λ it b. YieldsList-from_rest c.self.inside.owners.entries b.0)
+    (λ xs e h. extended_entries c.new-owners.result c.self.inside.owners c.extend.new.self c.new-owners.ensures.empty
+    ordered (rw e at h)) in
     rw c.in_ok-extend.was at fact
 
 pub invariant_of-result : goal.invariant_of-result

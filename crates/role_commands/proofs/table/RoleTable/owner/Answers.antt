@@ -5,7 +5,8 @@ use Rattle.role_commands.proofs.table.RoleTable.owner.Goals as goal
 
 pub returns-clause-value : goal.returns-clause-value
 returns-clause-value c =
-    rw (← c.self.view_is) (c.copied.ensures ∙ c.get.ensures.value ∙ sym (get-entries c.self.inside.owners.entries c.args.role))
+    rw (← c.self.view_is) (c.copied.ensures ∙ c.get.ensures.value
+    ∙ sym (get-entries c.self.inside.owners.entries c.args.role))
 
 pub returns-clause-node : goal.returns-clause-node
 returns-clause-node c =
