@@ -37,8 +37,10 @@ says_of_user-concerns user role (Revoke r p b) = inl refl
 pub says_of_permission-concerns : (operation object role : ℕ) → Concerns role (says_of_permission operation object role)
 says_of_permission-concerns operation object role (Assign u r) = inl refl
 says_of_permission-concerns operation object role (Deassign u r) = inl refl
-says_of_permission-concerns operation object role (Grant r p b) = of_role ((operation == p) && (object == b)) role r true
-says_of_permission-concerns operation object role (Revoke r p b) = of_role ((operation == p) && (object == b)) role r false
+says_of_permission-concerns operation object role (Grant r p b) =
+    of_role ((operation == p) && (object == b)) role r true
+says_of_permission-concerns operation object role (Revoke r p b) =
+    of_role ((operation == p) && (object == b)) role r false
 
 last_or-push : {A : Type 0} (o : Option A) (xs : List A) (x : A) → last_or o (xs ++ x ∷ []) ≡ Some x
 last_or-push o [] x = refl
@@ -69,17 +71,20 @@ if_both : (b : Bool) (x : Bool) → (if b then x else x) ≡ x
 if_both true x = refl
 if_both false x = refl
 
-one_stream : (streams : ℕ → List Command) (node : ℕ) (command : Command) (says : Command → Option Bool) (owner : ℕ) (mine : Bool) →
+one_stream : (streams : ℕ → List Command) (node : ℕ) (command : Command) (says : Command
+    → Option Bool) (owner : ℕ) (mine : Bool) →
     last_said says (if mine then streams owner ++ command ∷ [] else streams owner)
     ≡ (if mine then unwrap_or (says command) (last_said says (streams owner)) else last_said says (streams owner))
 one_stream streams node command says owner true = last_said-push says (streams owner) command
 one_stream streams node command says owner false = refl
 
-unless_said : (mine : Bool) (o : Option Bool) (before : Bool) → o ≡ None → (if mine then unwrap_or o before else before) ≡ before
+unless_said : (mine : Bool) (o : Option Bool) (before : Bool) → o ≡ None
+    → (if mine then unwrap_or o before else before) ≡ before
 unless_said true o before e = rw e
 unless_said false o before e = refl
 
-by_owner : (table : Table) (streams : ℕ → List Command) (node : ℕ) (command : Command) (role : ℕ) (says : Command → Option Bool) (owner : Option ℕ) →
+by_owner : (table : Table) (streams : ℕ → List Command) (node : ℕ) (command : Command) (role : ℕ) (says : Command
+    → Option Bool) (owner : Option ℕ) →
     map.get table.owners role ≡ owner → (says command ≡ None) ⊎ (role_of command ≡ role) →
     option_map_or (λ o. last_said says (with_command streams node command o)) owner false
     ≡ said_by table node command says (option_map_or (λ o. last_said says (streams o)) owner false)
@@ -94,16 +99,20 @@ by_owner table streams node command role says (Some owner) e (inr p) =
     one_stream streams node command says owner (owner == node)
     ∙ sym (rw (p, e))
 
-nothing_said : (says : Command → Option Bool) (owner : Option ℕ) → option_map_or (λ o. last_said says []) owner false ≡ false
+nothing_said : (says : Command → Option Bool) (owner : Option ℕ)
+    → option_map_or (λ o. last_said says []) owner false ≡ false
 nothing_said says None = refl
 nothing_said says (Some owner) = last_said-none says
 
 -- the same of what the owner said
-pub owner_said-push : (table : Table) (streams : ℕ → List Command) (node : ℕ) (command : Command) (role : ℕ) (says : Command → Option Bool) →
+pub owner_said-push : (table : Table) (streams : ℕ
+    → List Command) (node : ℕ) (command : Command) (role : ℕ) (says : Command → Option Bool) →
     Concerns role says →
-    owner_said table (with_command streams node command) role says ≡ said_by table node command says (owner_said table streams role says)
+    owner_said table (with_command streams node command) role says
+    ≡ said_by table node command says (owner_said table streams role says)
 owner_said-push table streams node command role says concerns =
     by_owner table streams node command role says (map.get table.owners role) refl (concerns command)
 
-pub no_owner_said : (table : Table) (role : ℕ) (says : Command → Option Bool) → owner_said table (λ node. []) role says ≡ false
+pub no_owner_said : (table : Table) (role : ℕ) (says : Command → Option Bool)
+    → owner_said table (λ node. []) role says ≡ false
 no_owner_said table role says = nothing_said says (map.get table.owners role)

@@ -15,7 +15,8 @@ last_said says commands = unwrap_or (last_or None (filter_map says commands)) fa
 
 -- the same of the stream of the role's owner; `false` where the table doesn't have the role
 abbrev pub owner_said : Table → (ℕ → List Command) → ℕ → (Command → Option Bool) → Bool
-owner_said table streams role says = option_map_or (λ owner. last_said says (streams owner)) (map.get table.owners role) false
+owner_said table streams role says =
+    option_map_or (λ owner. last_said says (streams owner)) (map.get table.owners role) false
 
 -- user assignment: the user has the role, where `streams` gives each node's stream
 abbrev pub is_user_assigned : Table → (ℕ → List Command) → ℕ → ℕ → Bool
@@ -23,7 +24,8 @@ is_user_assigned table streams user role = owner_said table streams role (says_o
 
 -- permission assignment: the role may do the operation on the object
 abbrev pub is_permission_granted : Table → (ℕ → List Command) → ℕ → ℕ → ℕ → Bool
-is_permission_granted table streams operation object role = owner_said table streams role (says_of_permission operation object role)
+is_permission_granted table streams operation object role =
+    owner_said table streams role (says_of_permission operation object role)
 
 -- the streams after one more command of this node
 abbrev pub with_command : (ℕ → List Command) → ℕ → Command → ℕ → List Command
