@@ -23,7 +23,7 @@ use bracha_instance::Effect;
 use link_frames::{Kind, Message, Packet, Place};
 use owner_streams::{PLACES, StreamStep, Streams, WINDOW};
 use quorum_sizes::NodeName;
-use rbac_state::Policy;
+use rbac_state::{Policy, push_within_capacity};
 use role_commands::{Command, Items, RoleTable};
 use role_sessions::{ClientEvent, SessionFault, Sessions, Verdict};
 use std::alloc::{AllocError, Global};
@@ -152,7 +152,7 @@ impl State {
     {
         self.issued.try_reserve(1)?;
         let place = self.issued.len() as Place;
-        let _ = self.issued.push(command);
+        push_within_capacity(&mut self.issued, command);
         Ok(Reply::Issued(Message {
             kind: Kind::Send,
             owner: me,
