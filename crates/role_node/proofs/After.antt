@@ -34,31 +34,31 @@ use Rattle.role_node.specs.declared.state.State.{State}
 use Rattle.role_node.proofs.Parts.{issued-Issue, issued-Take, issued-Client, packets-Issue, packets-Take, packets-Client, client_events-Issue, client_events-Take, client_events-Client, issued-none, packets-none, client_events-none}
 use Rattle.role_node.proofs.Growing.{obeyed_none, obeyed_all, policy_same, stream_same}
 
-parts_same : (roles : Table) (commands commands' : List Command) (taken taken' : List PacketValue)
-    (acts acts' : List ClientEvent) (a : State) →
-    commands ≡ commands' → taken ≡ taken' → acts ≡ acts' → ArePartsOf roles commands' taken' acts' a
-    → ArePartsOf roles commands taken acts a
-parts_same roles commands commands' taken taken' acts acts' a c t e h =
+parts_same : {roles : Table} {commands commands' : List Command} {taken taken' : List PacketValue}
+    {acts acts' : List ClientEvent} {a : State} → commands ≡ commands' → taken ≡ taken' → acts ≡ acts' →
+    ArePartsOf roles commands' taken' acts' a → ArePartsOf roles commands taken acts a
+parts_same {roles = roles} {commands = commands} {commands' = commands'} {taken = taken} {taken' = taken'} {acts =
+    acts} {a = a}
+    c t e h =
     let P : List Command → Type 0 = λ x. ArePartsOf roles x taken acts a in
     let Q : List PacketValue → Type 0 = λ x. ArePartsOf roles commands' x acts a in
     let R : List ClientEvent → Type 0 = λ x. ArePartsOf roles commands' taken' x a in
     subst P (sym c) (subst Q (sym t) (subst R (sym e) h))
 
 -- answers that were right under a policy are so with more room in it
-pub kept_with_room : (old new : PolicyValue) (sessions : SessionsValue) → SameRelations old new →
+pub kept_with_room : {old new : PolicyValue} (sessions : SessionsValue) → SameRelations old new →
     KeptAreRight (relations_of old) sessions → KeptAreRight (relations_of new) sessions
-kept_with_room old new sessions same h =
+kept_with_room {old = old} {new = new} sessions same h =
     let P : Relations → Type 0 = λ relations. KeptAreRight relations sessions in
     subst P (sym (relations_stay old new same)) h
 
-pub after_issue : (roles : Table) (history : List Event) (c : Command) (old new : State)
+pub after_issue : (roles : Table) (history : List Event) (c : Command) {old new : State}
     → IsStateAfter roles history old →
     new.issued.items ≡ old.issued.items ++ c ∷ [] → new.streams ≡ old.streams → new.policy ≡ old.policy
     → new.sessions ≡ old.sessions →
     IsStateAfter roles (history ++ Issue c ∷ []) new
-after_issue roles history c old new h i s p t =
-    parts_same roles _ (issued history ++ c ∷ []) _ (packets history) _ (client_events history) new
-    (issued-Issue history c) (packets-Issue history c) (client_events-Issue history c)
+after_issue roles history c h i s p t =
+    parts_same (issued-Issue history c) (packets-Issue history c) (client_events-Issue history c)
     (record {
       issued = i ∙ ap (λ commands. commands ++ c ∷ []) h.issued;
       sizes = ap (λ streams. streams.sizes) s ∙ h.sizes;
@@ -70,15 +70,14 @@ after_issue roles history c old new h i s p t =
       kept = rw (p, t) h.kept;
     })
 
-pub after_act : (roles : Table) (history : List Event) (act a : ClientEvent) (old new : State)
+pub after_act : (roles : Table) (history : List Event) {act a : ClientEvent} {old new : State}
     → IsStateAfter roles history old
     → act ≡ a →
     Happened a old.sessions.state new.sessions.state → KeepsRight old.sessions new.sessions →
     new.issued ≡ old.issued → new.streams ≡ old.streams → new.policy ≡ old.policy →
     IsStateAfter roles (history ++ Client act ∷ []) new
-after_act roles history act a old new h e happened keeps i s p =
-    parts_same roles _ (issued history) _ (packets history) _ (client_events history ++ act ∷ []) new
-    (issued-Client history act) (packets-Client history act) (client_events-Client history act)
+after_act roles history {act = act} {old = old} h e happened keeps i s p =
+    parts_same (issued-Client history act) (packets-Client history act) (client_events-Client history act)
     (record {
       issued = ap (λ items. items.items) i ∙ h.issued;
       sizes = ap (λ streams. streams.sizes) s ∙ h.sizes;
@@ -92,16 +91,15 @@ after_act roles history act a old new h e happened keeps i s p =
     })
 
 -- what a packet needs of the parts that it changes
-pub after_take : (roles : Table) (history : List Event) (p : PacketValue) (old new : State)
+pub after_take : (roles : Table) (history : List Event) (p : PacketValue) {old new : State}
     → IsStateAfter roles history old →
     SentByOwner p → new.issued ≡ old.issued → new.streams.sizes ≡ old.streams.sizes →
     IsStateOf new.streams (packets history ++ p ∷ []) → new.policy.table ≡ old.policy.table →
     IsPolicyOf (λ owner. stream roles.sizes owner (packets history ++ p ∷ [])) new.policy →
     new.sessions.state ≡ old.sessions.state → KeptAreRight (relations_of new.policy) new.sessions →
     IsStateAfter roles (history ++ Take p ∷ []) new
-after_take roles history p old new h sent i s streams t policy sessions kept =
-    parts_same roles _ (issued history) _ (packets history ++ p ∷ []) _ (client_events history) new
-    (issued-Take history p) (packets-Take history p) (client_events-Take history p)
+after_take roles history p h sent i s streams t policy sessions kept =
+    parts_same (issued-Take history p) (packets-Take history p) (client_events-Take history p)
     (record {
       issued = ap (λ items. items.items) i ∙ h.issued;
       sizes = s ∙ h.sizes;
@@ -114,11 +112,11 @@ after_take roles history p old new h sent i s streams t policy sessions kept =
     })
 
 -- room in the policy changes nothing
-pub stays_with_room : (roles : Table) (history : List Event) (old new : State) → IsStateAfter roles history old →
+pub stays_with_room : (roles : Table) (history : List Event) {old new : State} → IsStateAfter roles history old →
     new.issued ≡ old.issued → new.streams ≡ old.streams → SameRelations old.policy new.policy
     → new.sessions ≡ old.sessions →
     IsStateAfter roles history new
-stays_with_room roles history old new h i s same t =
+stays_with_room roles history {old = old} {new = new} h i s same t =
     record {
       issued = ap (λ items. items.items) i ∙ h.issued;
       sizes = ap (λ streams. streams.sizes) s ∙ h.sizes;
@@ -128,7 +126,7 @@ stays_with_room roles history old new h i s same t =
       policy =
           same_is_of_the_same (λ owner. stream roles.sizes owner (packets history)) old.policy new.policy same h.policy;
       sessions = ap (λ sessions. sessions.state) t ∙ h.sessions;
-      kept = rw t (kept_with_room old.policy new.policy old.sessions same h.kept);
+      kept = rw t (kept_with_room old.sessions same h.kept);
     }
 
 ok_is : {A E : Type 0} (b : Bool) (e : E) (x y : A) → ◌≡◌ {A = Result A E} (if b then Err e else Ok x) (Ok y) → x ≡ y
@@ -143,14 +141,15 @@ unfolding step_due
 step_is_due s taken p step e = ok_is (nat_le (reach s p.owner taken + 64) p.place) _ (step_of s taken p) step e
 
 -- the policy after the packet, where the new commands of its owner's stream were obeyed
-pub policy_grown : (s : Counts) (taken : List PacketValue) (p : PacketValue) (step : StreamStep) (sizes : Counts)
-    (owner : ℕ) (old room new : PolicyValue) →
-    sizes ≡ s → owner ≡ p.owner → step_of s taken p ≡ step →
+pub policy_grown : (s : Counts) (taken : List PacketValue) (p : PacketValue) {step : StreamStep} {sizes : Counts}
+    {owner : ℕ}
+    {old room new : PolicyValue} → sizes ≡ s → owner ≡ p.owner → step_of s taken p ≡ step →
     IsPolicyOf (λ o. stream s o taken) old → SameRelations old room →
-    (IsPolicyOf (obeyed sizes (taken ++ p ∷ []) owner step.from) room
-    → IsPolicyOf (obeyed sizes (taken ++ p ∷ []) owner step.to) new) →
+    (IsPolicyOf (obeyed sizes (taken ++ p ∷ []) owner step.from) room →
+    IsPolicyOf (obeyed sizes (taken ++ p ∷ []) owner step.to) new) →
     IsPolicyOf (λ o. stream s o (taken ++ p ∷ [])) new
-policy_grown s taken p step sizes owner old room new es eo e was same obeys =
+policy_grown s taken p {step = step} {sizes = sizes} {owner = owner} {old = old} {room = room} {new =
+    new} es eo e was same obeys =
     let from : step.from ≡ reach s p.owner taken = ap (λ x. x.from) (sym e) in
     let to : step.to ≡ reach s p.owner (taken ++ p ∷ []) = ap (λ x. x.to) (sym e) in
     let after : List PacketValue = taken ++ p ∷ [] in
@@ -168,12 +167,12 @@ policy_grown s taken p step sizes owner old room new es eo e was same obeys =
     stream s o after) new (obeyed_all s after p.owner (reach s p.owner after) (le_refl _)) then'
 
 -- .. and where the stream did not grow
-pub policy_stays : (s : Counts) (taken : List PacketValue) (p : PacketValue) (step : StreamStep)
-    (old room : PolicyValue) →
+pub policy_stays : (s : Counts) (taken : List PacketValue) (p : PacketValue) {step : StreamStep}
+    {old room : PolicyValue} →
     step_of s taken p ≡ step → step.to ≤ step.from →
     IsPolicyOf (λ o. stream s o taken) old → SameRelations old room →
     IsPolicyOf (λ o. stream s o (taken ++ p ∷ [])) room
-policy_stays s taken p step old room e no_more was same =
+policy_stays s taken p {step = step} {old = old} {room = room} e no_more was same =
     let from : step.from ≡ reach s p.owner taken = ap (λ x. x.from) (sym e) in
     let to : step.to ≡ reach s p.owner (taken ++ p ∷ []) = ap (λ x. x.to) (sym e) in
     let no_further : reach s p.owner (taken ++ p ∷ []) ≤ reach s p.owner taken = omega arith in
@@ -202,22 +201,22 @@ blank_policy roles streams p nothing blank =
     (blank_is_of_no_commands roles p blank)
 
 -- a refusal keeps the state, with what room was made
-pub stays_on_err : (r : Result Reply NodeFault) (old new : State) → new.issued ≡ old.issued
+pub stays_on_err : (r : Result Reply NodeFault) {old new : State} → new.issued ≡ old.issued
     → new.streams ≡ old.streams →
     SameRelations old.policy new.policy → new.sessions ≡ old.sessions → OnErr r (Stays old new)
-stays_on_err (Ok reply) old new i s same t = tt
-stays_on_err (Err f) old new i s same t = λ roles history h. stays_with_room roles history old new h i s same t
+stays_on_err (Ok reply) i s same t = tt
+stays_on_err (Err f) i s same t = λ roles history h. stays_with_room roles history h i s same t
 
 stream_of_nothing : (s : Counts) (owner : ℕ) → stream s owner [] ≡ []
 unfolding stream places_end answers_from
 stream_of_nothing s owner = refl
 
 -- the parts before the first event
-pub parts_of_nothing : (roles : Table) (a : State) → a.issued.items ≡ [] → a.streams.sizes ≡ roles.sizes
+pub parts_of_nothing : (roles : Table) {a : State} → a.issued.items ≡ [] → a.streams.sizes ≡ roles.sizes
     → IsStateOf a.streams [] →
     IsBlank roles a.policy → a.sessions.state ≡ state_of [] → a.sessions.kept ≡ [] → IsStateAfter roles [] a
-parts_of_nothing roles a i s streams blank t kept =
-    parts_same roles _ [] _ [] _ [] a issued-none packets-none client_events-none
+parts_of_nothing roles {a = a} i s streams blank t kept =
+    parts_same issued-none packets-none client_events-none
     (record {
       issued = i;
       sizes = s;

@@ -124,19 +124,19 @@ stream_same s taken p h node =
     sym (obeyed_none s taken p node) ∙ obeyed_all s (taken ++ p ∷ []) p.owner (reach s p.owner taken) h node
 
 -- the next command of the owner's stream is obeyed ..
-pub policy_more : (s : Counts) (taken : List PacketValue) (owner place : ℕ) (command : Command) (old new : PolicyValue)
+pub policy_more : (s : Counts) (taken : List PacketValue) (owner place : ℕ) {command : Command} {old new : PolicyValue}
     →
     Some command ≡ slice_get (stream s owner taken) place → IsApplied owner command old new →
     IsPolicyOf (obeyed s taken owner place) old → IsPolicyOf (obeyed s taken owner (place + 1)) new
-policy_more s taken owner place command old new e applied was =
+policy_more s taken owner place {command = command} {old = old} {new = new} e applied was =
     policy_same (with_command (obeyed s taken owner place) owner command) (obeyed s taken owner (place + 1)) new
     (obeyed_more s taken owner place command (sym e))
     (applied_is_of_one_more (obeyed s taken owner place) owner command old new was applied)
 
 -- .. or there is none
-pub policy_past : (s : Counts) (taken : List PacketValue) (owner place : ℕ) (p : PolicyValue)
+pub policy_past : (s : Counts) (taken : List PacketValue) (owner place : ℕ) {p : PolicyValue}
     → None ≡ slice_get (stream s owner taken) place →
     IsPolicyOf (obeyed s taken owner place) p → IsPolicyOf (obeyed s taken owner (place + 1)) p
-policy_past s taken owner place p e was =
+policy_past s taken owner place {p = p} e was =
     policy_same (obeyed s taken owner place) (obeyed s taken owner (place + 1)) p
     (obeyed_past s taken owner place (sym e)) was

@@ -27,9 +27,9 @@ use Rattle.role_node.proofs.Parts.{client_events-length}
 use Rattle.role_node.proofs.Entries.{entries_push, events-push, events-length, counted_is_due, counted_is_recorded, counted_with_room}
 
 -- room that was made changes nothing of this
-pub inside_stays : (a b : Inside) → IsNode a → b.config ≡ a.config → b.me ≡ a.me → b.entries.items ≡ a.entries.items
+pub inside_stays : {a b : Inside} → IsNode a → b.config ≡ a.config → b.me ≡ a.me → b.entries.items ≡ a.entries.items
     → Stays a.state b.state → IsNode b
-inside_stays a b is ec em ee stays =
+inside_stays {a = a} is ec em ee stays =
     record {
       me = rw (ec, em) is.me;
       limit = rw ec is.limit;
@@ -39,10 +39,10 @@ inside_stays a b is ec em ee stays =
     }
 
 -- an event that counts is recorded
-pub inside_grows : (a b : Inside) (event : Event) (r : Reply) → IsNode a → b.config ≡ a.config → b.me ≡ a.me →
+pub inside_grows : {a b : Inside} (event : Event) (r : Reply) → IsNode a → b.config ≡ a.config → b.me ≡ a.me →
     b.entries.items ≡ a.entries.items ++ record { event = event; reply = r } ∷ [] → Follows event a.state b.state →
     outlook a.config a.me (events a.entries.items) event ≡ Ok effect.Counted → RepliesTo a.me event a.state r → IsNode b
-inside_grows a b event r is ec em ee follows counts replies =
+inside_grows {a = a} event r is ec em ee follows counts replies =
     let history : List Event = events a.entries.items in
     let entry : Entry = record { event = event; reply = r } in
     let replied : r ≡ reply_to a.config.roles a.me history event = replies a.config.roles history is.state in

@@ -6,4 +6,4 @@ pub returns-clause-ok : goal.returns-clause-ok
 returns-clause-ok c roles history h =
     let pushed = c.push_within_capacity.ensures.items
     ∙ ap (λ items. items ++ c.args.command ∷ []) c.try_reserve.ensures.items in
-    after_issue roles history c.args.command c.args.self.now _ h pushed refl refl refl
+    after_issue roles history c.args.command h pushed refl refl refl
