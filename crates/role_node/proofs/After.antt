@@ -21,7 +21,7 @@ use Rattle.role_sessions.specs.Sessions.{state_of, Happened}
 use Rattle.role_sessions.specs.Decisions.{Relations, relations_of}
 use Rattle.role_sessions.specs.Kept.{SessionsValue, KeptAreRight, KeepsRight}
 use Rattle.role_sessions.specs.declared.event.ClientEvent.{ClientEvent}
-use Rattle.role_node.specs.Histories.{issued, packets, client_events}
+use Rattle.role_node.specs.Histories.{packets, client_events}
 use Rattle.role_node.specs.Faults.{of_stream_fault}
 use Rattle.role_node.specs.Answers.{of_effect_due}
 use Rattle.role_node.specs.Kept.{ArePartsOf, IsStateAfter, Stays, obeyed}
@@ -124,7 +124,7 @@ stays_with_room roles history {old = old} {new = new} h i s same t =
       sends = h.sends;
       table = same.table ∙ h.table;
       policy =
-          same_is_of_the_same (λ owner. stream roles.sizes owner (packets history)) old.policy new.policy same h.policy;
+          same_is_of_the_same (λ owner. stream roles.sizes owner (packets history)) old.policy new.policy h.policy same;
       sessions = ap (λ sessions. sessions.state) t ∙ h.sessions;
       kept = rw t (kept_with_room old.sessions same h.kept);
     }
@@ -156,7 +156,7 @@ policy_grown s taken p {step = step} {sizes = sizes} {owner = owner} {old = old}
     let before : IsPolicyOf (obeyed s after p.owner (reach s p.owner taken)) room =
     policy_same (λ o. stream s o taken) (obeyed s after p.owner (reach s p.owner taken)) room (λ node.
     sym (obeyed_none s taken p node))
-    (same_is_of_the_same (λ o. stream s o taken) old room same was) in
+    (same_is_of_the_same (λ o. stream s o taken) old room was same) in
     let now : IsPolicyOf (obeyed sizes after owner step.to) new = obeys (rw (es, eo, from) before) in
     let of_sizes : Counts → Type 0 = λ z. IsPolicyOf (obeyed z after owner step.to) new in
     let of_owner : ℕ → Type 0 = λ o. IsPolicyOf (obeyed s after o step.to) new in
@@ -177,7 +177,7 @@ policy_stays s taken p {step = step} {old = old} {room = room} e no_more was sam
     let to : step.to ≡ reach s p.owner (taken ++ p ∷ []) = ap (λ x. x.to) (sym e) in
     let no_further : reach s p.owner (taken ++ p ∷ []) ≤ reach s p.owner taken = omega arith in
     policy_same (λ o. stream s o taken) (λ o. stream s o (taken ++ p ∷ [])) room (stream_same s taken p no_further)
-    (same_is_of_the_same (λ o. stream s o taken) old room same was)
+    (same_is_of_the_same (λ o. stream s o taken) old room was same)
 
 pub none_kept : (relations : Relations) (sessions : SessionsValue) → sessions.kept ≡ []
     → KeptAreRight relations sessions

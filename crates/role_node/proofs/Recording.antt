@@ -8,7 +8,6 @@ use Rattle.bracha_instance.specs.declared.instance.Effect.TheVariants as effect
 use Rattle.owner_streams.specs.Places.{place_count}
 use Rattle.role_sessions.specs.Sessions.{state_of}
 use Rattle.role_sessions.proofs.Exported.{state_counts_the_opened}
-use Rattle.role_sessions.specs.declared.event.ClientEvent.{ClientEvent}
 use Rattle.role_node.specs.Configs.{most_events}
 use Rattle.role_node.specs.Histories.{issued, client_events}
 use Rattle.role_node.specs.Answers.{outlook, outlook_with_room, or_counted, is_routed, reply_to}
