@@ -16,7 +16,7 @@ use Rattle.bracha_instance.specs.States.{Votes, State, votes, state}
 use Rattle.bracha_instance.specs.Kept.{names_of, seen}
 use Rattle.bracha_instance.specs.Taking.{SendsAreFrom, effect_of, newly, sent_for, newly_sent, newly_delivered, has_voted}
 use Rattle.bracha_instance.specs.Next.{ready_now, deliver_now, only_if, after_echo, after_ready, after_kind, after}
-use Rattle.bracha_instance.proofs.KeptVotes.{contains-names_of, names_of-insert, names_of-empty}
+use Rattle.bracha_instance.proofs.VoteMaps.{contains-names_of, names_of-insert, names_of-empty}
 use Rattle.bracha_instance.proofs.Same.{same_kind-true}
 use Rattle.bracha_instance.proofs.Voting.{contains-voters}
 use Rattle.bracha_instance.proofs.StateSteps.{IsEchoStep, IsReadyStep, echo_step, ready_step}
