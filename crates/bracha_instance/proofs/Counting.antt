@@ -9,16 +9,17 @@ use Rattle.link_frames.specs.Kinds.{same_kind}
 use Rattle.link_frames.specs.declared.kind.Kind.{Kind}
 use Rattle.link_frames.specs.declared.kind.Kind.TheVariants.{Send, Echo, Ready}
 use Rattle.bracha_instance.specs.declared.instance.Effect.TheVariants.{Idle, Counted}
+use Rattle.bracha_instance.specs.declared.instance.Instance.TheInside.{Inside}
 use Rattle.bracha_instance.specs.Prefixes.{at_first_prefix}
 use Rattle.bracha_instance.specs.Broadcast.{Take, command_of, is_of_kind, is_vote_of, vote, voters, echoed, readied, delivered}
 use Rattle.bracha_instance.specs.States.{Votes, State, votes, state}
 use Rattle.bracha_instance.specs.Kept.{names_of, seen}
 use Rattle.bracha_instance.specs.Taking.{SendsAreFrom, effect_of, newly, sent_for, newly_sent, newly_delivered, has_voted}
 use Rattle.bracha_instance.specs.Next.{ready_now, deliver_now, only_if, after_echo, after_ready, after_kind, after}
-use Rattle.bracha_instance.proofs.KeptVotes.{contains-names_of, names_of-insert, names_of-empty}
+use Rattle.bracha_instance.proofs.VoteMaps.{contains-names_of, names_of-insert, names_of-empty}
 use Rattle.bracha_instance.proofs.Same.{same_kind-true}
 use Rattle.bracha_instance.proofs.Voting.{contains-voters}
-use Rattle.bracha_instance.proofs.StateSteps.{echo_step, ready_step}
+use Rattle.bracha_instance.proofs.StateSteps.{IsEchoStep, IsReadyStep, echo_step, ready_step}
 use Rattle.bracha_instance.proofs.StateOf.{state_push, none_of}
 
 -- nothing was taken
@@ -44,46 +45,97 @@ late_or_not : (o : Option Command) (P : Type 0) → o ≡ None → is_some o ≡
 late_or_not None P e f = absurd cc
 late_or_not (Some c) P e f = absurd cc
 
+-- what an instance with these fields keeps, with all votes
+abbrev all_of : Inside → State
+all_of a =
+    record {
+      echoed = a.echoed;
+      readied = a.readied;
+      delivered = a.delivered;
+      echoers = names_of a.echoes;
+      readiers = names_of a.readies;
+      echo_votes = a.echoes;
+      ready_votes = a.readies;
+    }
+
+abbrev pub seen_of : Inside → State
+seen_of a = seen a.echoed a.readied a.delivered a.echoes a.readies
+
 -- an ECHO after a delivery
-pub echo_late : (s : Counts) (p : ℕ) (c : Command) (e r d : Option Command) (echoes readies more : Votes) → is_some d ≡ true
-    → more ≡ maps.insert echoes p c →
-    seen e r d more readies ≡ after_echo s (seen e r d echoes readies) p c d
-echo_late s p c e r d echoes readies more late inserted =
-    echo_step s p c e r d (names_of echoes) (names_of readies) echoes readies e r d (names_of more) (names_of readies) more readies
-    refl refl (ap names_of inserted ∙ names_of-insert echoes p c) refl inserted refl
-    (λ before. late_or_not d _ before late) (λ _. refl)
+pub echo_late : (s : Counts) (p : ℕ) (c : Command) (a : Inside) (more : Votes) → is_some a.delivered ≡ true →
+    more ≡ maps.insert a.echoes p c → seen_of (record a { echoes = more }) ≡ after_echo s (seen_of a) p c a.delivered
+echo_late s p c a more late inserted =
+    let step : IsEchoStep s p c (all_of a) (all_of (record a { echoes = more })) = record {
+      echoed = refl;
+      early = λ before. late_or_not a.delivered _ before late;
+      late = λ _. refl;
+      delivered = refl;
+      echoers = ap names_of inserted ∙ names_of-insert a.echoes p c;
+      readiers = refl;
+      echo_votes = inserted;
+      ready_votes = refl;
+    } in
+    echo_step step
 
 -- an ECHO before it
-pub echo_early : (s : Counts) (p : ℕ) (c : Command) (e r d now : Option Command) (due : Bool) (echoes readies more : Votes)
-    → is_some d ≡ false → more ≡ maps.insert echoes p c →
-    due ≡ ready_now s c more readies → now ≡ option_or r (only_if due c) →
-    seen e now d more readies ≡ after_echo s (seen e r d echoes readies) p c d
-echo_early s p c e r d now due echoes readies more early inserted is_due is_now =
-    echo_step s p c e r d (names_of echoes) (names_of readies) echoes readies e now d (names_of more) (names_of readies) more readies
-    refl refl (ap names_of inserted ∙ names_of-insert echoes p c) refl inserted refl
-    (λ _. is_now ∙ ap (λ b. option_or r (only_if b c)) (is_due ∙ ap (λ v. ready_now s c v readies) inserted))
-    (λ late. late_or_not d _ (none_of d early) late)
+pub echo_early : (s : Counts) (p : ℕ) (c : Command) (a : Inside) (more : Votes) (due : Bool) (now : Option Command) →
+    is_some a.delivered ≡ false → more ≡ maps.insert a.echoes p c →
+    due ≡ ready_now s c more a.readies → now ≡ option_or a.readied (only_if due c) →
+    seen_of (record a { echoes = more; readied = now }) ≡ after_echo s (seen_of a) p c a.delivered
+echo_early s p c a more due now early inserted is_due is_now =
+    let step : IsEchoStep s p c (all_of a) (all_of (record a { echoes = more; readied = now })) = record {
+      echoed = refl;
+      early = λ _.
+          is_now
+          ∙ ap (λ b. option_or a.readied (only_if b c)) (is_due ∙ ap (λ v. ready_now s c v a.readies) inserted);
+      late = λ late. late_or_not a.delivered _ (none_of a.delivered early) late;
+      delivered = refl;
+      echoers = ap names_of inserted ∙ names_of-insert a.echoes p c;
+      readiers = refl;
+      echo_votes = inserted;
+      ready_votes = refl;
+    } in
+    echo_step step
 
 -- a READY after a delivery
-pub ready_late : (s : Counts) (p : ℕ) (c : Command) (e r d : Option Command) (echoes readies more : Votes) → is_some d ≡ true
-    → more ≡ maps.insert readies p c →
-    seen e r d echoes more ≡ after_ready s (seen e r d echoes readies) p c d
-ready_late s p c e r d echoes readies more late inserted =
-    ready_step s p c e r d (names_of echoes) (names_of readies) echoes readies e r d (names_of echoes) (names_of more) echoes more
-    refl refl (ap names_of inserted ∙ names_of-insert readies p c) refl inserted
-    (λ before. late_or_not d _ before late) (λ before. late_or_not d _ before late) (λ _. refl) (λ _. refl)
+pub ready_late : (s : Counts) (p : ℕ) (c : Command) (a : Inside) (more : Votes) → is_some a.delivered ≡ true →
+    more ≡ maps.insert a.readies p c → seen_of (record a { readies = more }) ≡ after_ready s (seen_of a) p c a.delivered
+ready_late s p c a more late inserted =
+    let step : IsReadyStep s p c (all_of a) (all_of (record a { readies = more })) = record {
+      echoed = refl;
+      early = λ before. late_or_not a.delivered _ before late;
+      late = λ _. refl;
+      delivered_early = λ before. late_or_not a.delivered _ before late;
+      delivered_late = λ _. refl;
+      echoers = refl;
+      readiers = ap names_of inserted ∙ names_of-insert a.readies p c;
+      echo_votes = refl;
+      ready_votes = inserted;
+    } in
+    ready_step step
 
 -- a READY before it
-pub ready_early : (s : Counts) (p : ℕ) (c : Command) (e r d now then : Option Command) (due deliver : Bool) (echoes readies more : Votes) → is_some d ≡ false → more ≡ maps.insert readies p c →
-    due ≡ ready_now s c echoes more → now ≡ option_or r (only_if due c) → deliver ≡ deliver_now s c more → then ≡ only_if deliver c →
-    seen e now then echoes more ≡ after_ready s (seen e r d echoes readies) p c d
-ready_early s p c e r d now then due deliver echoes readies more early inserted is_due is_now is_deliver is_then =
-    ready_step s p c e r d (names_of echoes) (names_of readies) echoes readies e now then (names_of echoes) (names_of more) echoes more
-    refl refl (ap names_of inserted ∙ names_of-insert readies p c) refl inserted
-    (λ _. is_now ∙ ap (λ b. option_or r (only_if b c)) (is_due ∙ ap (ready_now s c echoes) inserted))
-    (λ _. is_then ∙ ap (λ b. only_if b c) (is_deliver ∙ ap (deliver_now s c) inserted))
-    (λ late. late_or_not d _ (none_of d early) late)
-    (λ late. late_or_not d _ (none_of d early) late)
+pub ready_early : (s : Counts) (p : ℕ) (c : Command) (a : Inside) (more : Votes) (due deliver : Bool) (now
+    then : Option Command) →
+    is_some a.delivered ≡ false → more ≡ maps.insert a.readies p c →
+    due ≡ ready_now s c a.echoes more → now ≡ option_or a.readied (only_if due c) →
+    deliver ≡ deliver_now s c more → then ≡ only_if deliver c →
+    seen_of (record a { readies = more; readied = now; delivered = then }) ≡ after_ready s (seen_of a) p c a.delivered
+ready_early s p c a more due deliver now then early inserted is_due is_now is_deliver is_then =
+    let later : Inside = record a { readies = more; readied = now; delivered = then } in
+    let step : IsReadyStep s p c (all_of a) (all_of later) = record {
+      echoed = refl;
+      early = λ _.
+          is_now ∙ ap (λ b. option_or a.readied (only_if b c)) (is_due ∙ ap (ready_now s c a.echoes) inserted);
+      late = λ late. late_or_not a.delivered _ (none_of a.delivered early) late;
+      delivered_early = λ _. is_then ∙ ap (λ b. only_if b c) (is_deliver ∙ ap (deliver_now s c) inserted);
+      delivered_late = λ late. late_or_not a.delivered _ (none_of a.delivered early) late;
+      echoers = refl;
+      readiers = ap names_of inserted ∙ names_of-insert a.readies p c;
+      echo_votes = refl;
+      ready_votes = inserted;
+    } in
+    ready_step step
 
 -- The answers of `take`.
 
@@ -96,7 +148,8 @@ after-first : (s : Counts) (st : State) (t : Take) → has_voted st t.kind t.fro
 unfolding after
 after-first s st t is = ap (λ b. cond b st (after_kind s st t.kind t.from t.command)) is
 
-pub idle_state : (s : Counts) (ts : List Take) (t : Take) (st : State) → has_voted st t.kind t.from ≡ true → st ≡ state s ts
+pub idle_state : (s : Counts) (ts : List Take) (t : Take) (st : State) → has_voted st t.kind t.from ≡ true
+    → st ≡ state s ts
     → st ≡ state s (ts ++ t ∷ [])
 idle_state s ts t st voted is = sym (state_push s ts t ∙ ap (λ x. after s x t) (sym is) ∙ after-voted s st t voted)
 
@@ -121,7 +174,8 @@ pub delivered_of : (s : Counts) (ts us : List Take) (st now : State) → st ≡ 
 unfolding state
 delivered_of s ts us st now is is_now = λ i. newly ((is i).delivered) ((is_now i).delivered)
 
-pub nothing_sent : (s : Counts) (ts us : List Take) (st : State) → st ≡ state s ts → st ≡ state s us → None ≡ newly_sent s ts us
+pub nothing_sent : (s : Counts) (ts us : List Take) (st : State) → st ≡ state s ts → st ≡ state s us
+    → None ≡ newly_sent s ts us
 nothing_sent s ts us st is is_now =
     (λ i. sent_for (sym (newly_same st.echoed) i) (sym (newly_same st.readied) i)) ∙ sent_of s ts us st st is is_now
 
@@ -145,10 +199,12 @@ same_test true b t rest implies = ap (λ x. cond x (Some t) rest) (implies refl)
 same_test false b t rest implies = refl
 
 -- where all SENDs are the owner's, the owner's first is the first
-owner_first : (owner : ℕ) (ts : List Take) → SendsAreFrom owner ts → find (is_vote_of Send owner) ts ≡ find (is_of_kind Send) ts
+owner_first : (owner : ℕ) (ts : List Take) → SendsAreFrom owner ts
+    → find (is_vote_of Send owner) ts ≡ find (is_of_kind Send) ts
 owner_first owner [] all = refl
 owner_first owner (t ∷ ts) all =
-    ap (cond (is_vote_of Send owner t) (Some t)) (owner_first owner ts (λ k d within. all (suc k) d (suc-le-suc within)))
+    ap (cond (is_vote_of Send owner t) (Some t))
+    (owner_first owner ts (λ k d within. all (suc k) d (suc-le-suc within)))
     ∙ same_test (same_kind Send t.kind) (owner == t.from) t (find (is_of_kind Send) ts)
     (λ is. eq-eqb owner t.from (sym (all zero t (suc-le-suc zero-le) (sym (same_kind-true Send t.kind is)))))
 
@@ -157,16 +213,20 @@ vote_is : (s : Counts) (ts : List Take) (owner : ℕ) (kind : Kind) (p : ℕ) (c
     has_voted (state s ts) kind p ≡ is_some (vote kind p ts)
 unfolding state vote echoed
 vote_is s ts owner Send p c all =
-    sym (ap (λ n. is_some (option_map command_of (find (is_vote_of Send n) ts))) (last (λ (t : Take). t.kind ≡ Send → t.from ≡ owner) ts _ all refl)
-    ∙ ap (λ o. is_some (option_map command_of o)) (owner_first owner ts (front (λ (t : Take). t.kind ≡ Send → t.from ≡ owner) ts _ all)))
+    sym (ap (λ n. is_some (option_map command_of (find (is_vote_of Send n) ts))) (last (λ (t : Take). t.kind ≡ Send
+    → t.from ≡ owner) ts _ all refl)
+    ∙ ap (λ o. is_some (option_map command_of o))
+    (owner_first owner ts (front (λ (t : Take). t.kind ≡ Send → t.from ≡ owner) ts _ all)))
 vote_is s ts owner Echo p c all = contains-voters Echo ts p
 vote_is s ts owner Ready p c all = contains-voters Ready ts p
 
-pub effect_at : (s : Counts) (ts : List Take) (t : Take) (owner : ℕ) (st : State) (b : Bool) → has_voted st t.kind t.from ≡ b
+pub effect_at : (s : Counts) (ts : List Take) (t : Take) (owner : ℕ) (st : State) (b : Bool)
+    → has_voted st t.kind t.from ≡ b
     → st ≡ state s ts →
     SendsAreFrom owner (ts ++ t ∷ []) → cond b Idle Counted ≡ effect_of ts t
 effect_at s ts t owner st b is is_state all =
-    ap (λ x. cond x Idle Counted) (sym is ∙ ap (λ x. has_voted x t.kind t.from) is_state ∙ vote_is s ts owner t.kind t.from t.command all)
+    ap (λ x. cond x Idle Counted) (sym is ∙ ap (λ x. has_voted x t.kind t.from) is_state
+    ∙ vote_is s ts owner t.kind t.from t.command all)
 
 -- what the state says of a vote is what the messages say
 pub voted_at : (s : Counts) (ts : List Take) (owner : ℕ) (kind : Kind) (p : ℕ) (c : Command) (st : State) (b : Bool)

@@ -22,9 +22,11 @@ pub may_ready-votes : (s : Counts) (ts : List Take) (c : Command)
     → may_ready s ts c ≡ ready_now s c (votes Echo ts) (votes Ready ts)
 unfolding may_ready ready_now
 may_ready-votes s ts c = λ i.
-    nat_le (echo_quorum_of s) (sets.len (supporters_in-votes Echo c ts i)) || nat_le (amplify_of s) (sets.len (supporters_in-votes Ready c ts i))
+    nat_le (echo_quorum_of s) (sets.len (supporters_in-votes Echo c ts i))
+    || nat_le (amplify_of s) (sets.len (supporters_in-votes Ready c ts i))
 
-pub may_deliver-votes : (s : Counts) (ts : List Take) (c : Command) → may_deliver s ts c ≡ deliver_now s c (votes Ready ts)
+pub may_deliver-votes : (s : Counts) (ts : List Take) (c : Command)
+    → may_deliver s ts c ≡ deliver_now s c (votes Ready ts)
 unfolding may_deliver deliver_now
 may_deliver-votes s ts c = λ i. nat_le (deliver_of s) (sets.len (supporters_in-votes Ready c ts i))
 
@@ -44,7 +46,8 @@ may_deliver-alike s ts us c readies = λ i. nat_le (deliver_of s) (sets.len (rea
 ready_others : (s : Counts) (ts : List Take) (t : Take) (d : Command) → same_command d t.command ≡ false
     → may_ready s (ts ++ t ∷ []) d ≡ may_ready s ts d
 ready_others s ts t d other =
-    may_ready-alike s ts (ts ++ t ∷ []) d (supporters_push-other Echo d ts t other) (supporters_push-other Ready d ts t other)
+    may_ready-alike s ts (ts ++ t ∷ []) d (supporters_push-other Echo d ts t other)
+    (supporters_push-other Ready d ts t other)
 
 deliver_others : (s : Counts) (ts : List Take) (t : Take) (d : Command) → same_command d t.command ≡ false
     → may_deliver s (ts ++ t ∷ []) d ≡ may_deliver s ts d
@@ -57,8 +60,10 @@ ready_nobodys : (s : Counts) (ts : List Take) (d : Command) → find (same_comma
     → may_ready s ts d ≡ false
 unfolding may_ready
 ready_nobodys s ts d none =
-    let no_echoes : sets.len (supporters Echo d ts) ≡ 0 = ap sets.len (supporters-nobody Echo d ts none) ∙ sets.len-empty nat_cmp in
-    let no_readies : sets.len (supporters Ready d ts) ≡ 0 = ap sets.len (supporters-nobody Ready d ts none) ∙ sets.len-empty nat_cmp in
+    let no_echoes : sets.len (supporters Echo d ts) ≡ 0 = ap sets.len (supporters-nobody Echo d ts none)
+    ∙ sets.len-empty nat_cmp in
+    let no_readies : sets.len (supporters Ready d ts) ≡ 0 = ap sets.len (supporters-nobody Ready d ts none)
+    ∙ sets.len-empty nat_cmp in
     let echoes = too_few (echo_quorum_of s) (sets.len (supporters Echo d ts)) (omega arith) no_echoes in
     let readies = too_few (amplify_of s) (sets.len (supporters Ready d ts)) (omega arith) no_readies in
     λ i. echoes i || readies i
@@ -67,7 +72,8 @@ deliver_nobodys : (s : Counts) (ts : List Take) (d : Command) → find (same_com
     → may_deliver s ts d ≡ false
 unfolding may_deliver
 deliver_nobodys s ts d none =
-    too_few (deliver_of s) (sets.len (supporters Ready d ts)) (omega arith) (ap sets.len (supporters-nobody Ready d ts none) ∙ sets.len-empty nat_cmp)
+    too_few (deliver_of s) (sets.len (supporters Ready d ts)) (omega arith)
+    (ap sets.len (supporters-nobody Ready d ts none) ∙ sets.len-empty nat_cmp)
 
 -- The laws.
 
@@ -124,7 +130,8 @@ unfolding delivered
 not_deliverable s ts none c = not_due (may_deliver s) (deliver_others s) (deliver_nobodys s) ts none c
 
 -- what may be delivered may be readied
-pub deliverable_is_ready : (s : Counts) (ts : List Take) (c : Command) → may_deliver s ts c ≡ true → may_ready s ts c ≡ true
+pub deliverable_is_ready : (s : Counts) (ts : List Take) (c : Command) → may_deliver s ts c ≡ true
+    → may_ready s ts c ≡ true
 unfolding may_ready may_deliver
 deliverable_is_ready s ts c is =
     let enough = leb-true (deliver_of s) (sets.len (supporters Ready c ts)) is in

@@ -12,7 +12,8 @@ use Rattle.bracha_instance.specs.Laws.{or_else_if}
 use Rattle.bracha_instance.proofs.Same.{same_command-true}
 use Rattle.bracha_instance.proofs.FirstPrefix.{prefix_push, prefix_kept, prefix_none, prefix_last, prefix_found}
 
-passes_by : {X : Type 0} (p : X → Bool) (y x : X) (rest : Option X) → (rest ≡ Some x → p x ≡ true) → (b : Bool) → p y ≡ b
+passes_by : {X : Type 0} (p : X → Bool) (y x : X) (rest : Option X) → (rest ≡ Some x → p x ≡ true) → (b : Bool)
+    → p y ≡ b
     → cond b (Some y) rest ≡ Some x → p x ≡ true
 passes_by p y x rest later true is e = subst (λ z. p z ≡ true) (same_Some y x e) is
 passes_by p y x rest later false is e = later e
@@ -22,7 +23,8 @@ pub find_passes : {X : Type 0} (p : X → Bool) (xs : List X) (x : X) → find p
 find_passes p [] x e = absurd cc
 find_passes p (y ∷ ys) x e = passes_by p y x (find p ys) (find_passes p ys x) (p y) refl e
 
-refused_by : {X : Type 0} (p : X → Bool) (y x : X) (ps qs : Option X) → (ps ≡ None → qs ≡ Some x → p x ≡ false) → (a b : Bool)
+refused_by : {X : Type 0} (p : X → Bool) (y x : X) (ps qs : Option X) → (ps ≡ None → qs ≡ Some x → p x ≡ false)
+    → (a b : Bool)
     → p y ≡ a →
     cond a (Some y) ps ≡ None → cond b (Some y) qs ≡ Some x → p x ≡ false
 refused_by p y x ps qs later true b is none e = absurd cc
@@ -60,8 +62,10 @@ some_unless_none None not_none = absurd (not_none refl)
 some_unless_none (Some x) not_none = refl
 
 module _ (may : List Take → Command → Bool)
-    (others : (ts : List Take) (t : Take) (d : Command) → same_command d t.command ≡ false → may (ts ++ t ∷ []) d ≡ may ts d)
-    (nobodys : (ts : List Take) (d : Command) → find (same_command d) (map command_of ts) ≡ None → may ts d ≡ false) where
+    (others : (ts : List Take) (t : Take) (d : Command) → same_command d t.command ≡ false
+    → may (ts ++ t ∷ []) d ≡ may ts d)
+    (nobodys : (ts : List Take) (d : Command) → find (same_command d) (map command_of ts) ≡ None
+    → may ts d ≡ false) where
   -- what is due in these takes
   abbrev pub due : List Take → Option Command
   due past = command_that (may past) past
@@ -81,7 +85,8 @@ module _ (may : List Take → Command → Bool)
       → due (ts ++ t ∷ []) ≡ cond (may (ts ++ t ∷ []) t.command) (Some t.command) None
   due_own ts t none =
       ap (find (may (ts ++ t ∷ []))) (map-append command_of ts (t ∷ []))
-      ∙ find_own (may (ts ++ t ∷ [])) t.command (λ d other. others ts t d other ∙ nothing_due ts none d) (map command_of ts)
+      ∙ find_own (may (ts ++ t ∷ [])) t.command (λ d other. others ts t d other
+      ∙ nothing_due ts none d) (map command_of ts)
 
   push_by : (ts : List Take) (t : Take) (o : Option Command) → at_first_prefix due ts ≡ o →
       option_or o (due (ts ++ t ∷ [])) ≡ or_else_if o (may (ts ++ t ∷ []) t.command) t.command
@@ -98,10 +103,16 @@ module _ (may : List Take → Command → Bool)
   due_stays before later c e = prefix_kept due before later c e
 
   pub due_was_first : (ts : List Take) (c : Command) → at_first_prefix due ts ≡ Some c →
-      (m : ℕ) × (m ≤ length ts) × (may (take m ts) c ≡ true) × ((k : ℕ) (d : Command) → k < m → may (take k ts) d ≡ false)
+      (m : ℕ) × (m ≤ length ts) × (may (take m ts) c ≡ true)
+      × ((k : ℕ) (d : Command) → k < m → may (take k ts) d ≡ false)
   due_was_first ts c e =
-      let first = prefix_found due ts c e in
-      (first.0, first.1, find_passes (may (take first.0 ts)) (map command_of (take first.0 ts)) c first.2, λ k d before. nothing_due (take k ts) (first.3 k before) d)
+      let first = prefix_found due ts c e in (
+        first.0,
+        first.1,
+        find_passes (may (take first.0 ts)) (map command_of (take first.0 ts)) c first.2,
+        λ k d before.
+            nothing_due (take k ts) (first.3 k before) d,
+      )
 
   pub due_comes : (ts : List Take) (m : ℕ) (c : Command) → may (take m ts) c ≡ true → IsSome (at_first_prefix due ts)
   due_comes ts m c is = some_unless_none (at_first_prefix due ts) (λ none.

@@ -1,5 +1,6 @@
 pub mod Same
 pub mod FirstPrefix
+pub mod VoteMaps
 pub mod KeptVotes
 pub mod Voting
 pub mod FirstDue

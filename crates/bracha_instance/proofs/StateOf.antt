@@ -16,7 +16,20 @@ use Rattle.bracha_instance.specs.Next.{ready_now, deliver_now, only_if, after_se
 use Rattle.bracha_instance.specs.Taking.{has_voted}
 use Rattle.bracha_instance.proofs.Voting.{or_nothing, vote_push-other, vote_push-again, echoed_push, some_stays, contains-voters, supporters_alike, voters_alike, votes_alike, votes_push-first, voters_push}
 use Rattle.bracha_instance.proofs.Due.{may_ready-votes, may_deliver-votes, may_ready-alike, may_deliver-alike, readies_its_own, delivers_its_own, not_ready, not_deliverable, delivered_is_ready}
-use Rattle.bracha_instance.proofs.StateSteps.{echo_step, ready_step, send_again}
+use Rattle.bracha_instance.proofs.StateSteps.{IsEchoStep, IsReadyStep, echo_step, ready_step, send_again}
+
+-- what follows from the messages, with all votes
+abbrev all_of : Counts → List Take → State
+all_of s ts =
+    record {
+      echoed = echoed ts;
+      readied = readied s ts;
+      delivered = delivered s ts;
+      echoers = voters Echo ts;
+      readiers = voters Ready ts;
+      echo_votes = votes Echo ts;
+      ready_votes = votes Ready ts;
+    }
 
 -- The fields.
 
@@ -44,7 +57,8 @@ pub state-echo_votes : (s : Counts) (ts : List Take) → (state s ts).echo_votes
 unfolding state
 state-echo_votes s ts = refl
 
-pub state-ready_votes : (s : Counts) (ts : List Take) → (state s ts).ready_votes ≡ kept (delivered s ts) (votes Ready ts)
+pub state-ready_votes : (s : Counts) (ts : List Take)
+    → (state s ts).ready_votes ≡ kept (delivered s ts) (votes Ready ts)
 unfolding state
 state-ready_votes s ts = refl
 
@@ -56,7 +70,8 @@ idle_by (Some d) b c never = refl
 
 -- where no vote for the command is new, nothing is readied
 readied_same : (s : Counts) (ts : List Take) (t : Take) →
-    supporters Echo t.command (ts ++ t ∷ []) ≡ supporters Echo t.command ts → supporters Ready t.command (ts ++ t ∷ []) ≡ supporters Ready t.command ts →
+    supporters Echo t.command (ts ++ t ∷ []) ≡ supporters Echo t.command ts
+    → supporters Ready t.command (ts ++ t ∷ []) ≡ supporters Ready t.command ts →
     readied s (ts ++ t ∷ []) ≡ readied s ts
 readied_same s ts t echoes readies =
     readies_its_own s ts t
@@ -133,14 +148,16 @@ none_of None e = refl
 none_of (Some x) e = absurd cc
 
 -- a second vote, of whatever kind but SEND
-push_again : (s : Counts) (ts : List Take) (t : Take) → same_kind Send t.kind ≡ false → is_some (vote t.kind t.from ts) ≡ true →
+push_again : (s : Counts) (ts : List Take) (t : Take) → same_kind Send t.kind ≡ false
+    → is_some (vote t.kind t.from ts) ≡ true →
     state s (ts ++ t ∷ []) ≡ state s ts
 push_again s ts t no_send voted =
     let us = ts ++ t ∷ [] in
     let same : (kind : Kind) → SameVotes kind ts us = λ kind q. vote_push-again kind q ts t voted in
     state_by s ts us
     (echoed_push ts t ∙ ap (λ b. option_or (echoed ts) (cond b (Some t.command) None)) no_send ∙ or_nothing (echoed ts))
-    (readied_same s ts t (supporters_same Echo t.command ts us (same Echo)) (supporters_same Ready t.command ts us (same Ready)))
+    (readied_same s ts t (supporters_same Echo t.command ts us (same Echo))
+    (supporters_same Ready t.command ts us (same Ready)))
     (delivered_same s ts t (supporters_same Ready t.command ts us (same Ready)))
     (same Echo)
     (same Ready)
@@ -149,7 +166,8 @@ push_again s ts t no_send voted =
 readied_late : (s : Counts) (ts : List Take) (t : Take) (d : Option Command) → delivered s ts ≡ d → is_some d ≡ true →
     readied s (ts ++ t ∷ []) ≡ readied s ts
 readied_late s ts t None is some = absurd cc
-readied_late s ts t (Some c) is some = readies_its_own s ts t ∙ some_stays (readied s ts) _ (delivered_is_ready s ts c is)
+readied_late s ts t (Some c) is some = readies_its_own s ts t
+    ∙ some_stays (readied s ts) _ (delivered_is_ready s ts c is)
 
 -- what is delivered stays
 delivered_late : (s : Counts) (ts : List Take) (t : Take) → is_some (delivered s ts) ≡ true
@@ -157,7 +175,11 @@ delivered_late : (s : Counts) (ts : List Take) (t : Take) → is_some (delivered
 delivered_late s ts t some = delivers_its_own s ts t ∙ some_stays (delivered s ts) _ some
 
 first_echo : (s : Counts) (ts : List Take) (p : ℕ) (c : Command) → vote Echo p ts ≡ None →
-    state s (ts ++ (record { kind = Echo; from = p; command = c }) ∷ []) ≡ after_echo s (state s ts) p c (delivered s ts)
+    state s (ts ++ (record {
+      kind = Echo;
+      from = p;
+      command = c;
+    }) ∷ []) ≡ after_echo s (state s ts) p c (delivered s ts)
 unfolding state
 first_echo s ts p c none =
     let t : Take = record { kind = Echo; from = p; command = c } in
@@ -167,19 +189,24 @@ first_echo s ts p c none =
     let readies = votes_alike Ready ts us rv in
     let may : may_ready s us c ≡ ready_now s c (maps.insert (votes Echo ts) p c) (votes Ready ts) =
     may_ready-votes s us c ∙ (λ i. ready_now s c (echoes i) (readies i)) in
-    echo_step s p c (echoed ts) (readied s ts) (delivered s ts) (voters Echo ts) (voters Ready ts) (votes Echo ts) (votes Ready ts)
-    (echoed us) (readied s us) (delivered s us) (voters Echo us) (voters Ready us) (votes Echo us) (votes Ready us)
-    (echoed_push ts t ∙ or_nothing (echoed ts))
-    (delivered_same s ts t (supporters_same Ready c ts us rv))
-    (voters_push ts t)
-    (voters_alike Ready ts us rv)
-    echoes
-    readies
-    (λ _. readies_its_own s ts t ∙ ap (λ b. option_or (readied s ts) (only_if b c)) may)
-    (λ some. readied_late s ts t (delivered s ts) refl some)
+    let step : IsEchoStep s p c (all_of s ts) (all_of s us) = record {
+      echoed = echoed_push ts t ∙ or_nothing (echoed ts);
+      early = λ _. readies_its_own s ts t ∙ ap (λ b. option_or (readied s ts) (only_if b c)) may;
+      late = λ some. readied_late s ts t (delivered s ts) refl some;
+      delivered = delivered_same s ts t (supporters_same Ready c ts us rv);
+      echoers = voters_push ts t;
+      readiers = voters_alike Ready ts us rv;
+      echo_votes = echoes;
+      ready_votes = readies;
+    } in
+    echo_step step
 
 echo_by : (s : Counts) (ts : List Take) (p : ℕ) (c : Command) (b : Bool) → sets.contains (voters Echo ts) p ≡ b →
-    state s (ts ++ (record { kind = Echo; from = p; command = c }) ∷ []) ≡ cond b (state s ts) (after_echo s (state s ts) p c (delivered s ts))
+    state s (ts ++ (record {
+      kind = Echo;
+      from = p;
+      command = c;
+    }) ∷ []) ≡ cond b (state s ts) (after_echo s (state s ts) p c (delivered s ts))
 echo_by s ts p c true is =
     push_again s ts (record { kind = Echo; from = p; command = c }) refl (sym (contains-voters Echo ts p) ∙ is)
 echo_by s ts p c false is = first_echo s ts p c (none_of (vote Echo p ts) (sym (contains-voters Echo ts p) ∙ is))
@@ -187,7 +214,11 @@ echo_by s ts p c false is = first_echo s ts p c (none_of (vote Echo p ts) (sym (
 -- A READY.
 
 first_ready : (s : Counts) (ts : List Take) (p : ℕ) (c : Command) → vote Ready p ts ≡ None →
-    state s (ts ++ (record { kind = Ready; from = p; command = c }) ∷ []) ≡ after_ready s (state s ts) p c (delivered s ts)
+    state s (ts ++ (record {
+      kind = Ready;
+      from = p;
+      command = c;
+    }) ∷ []) ≡ after_ready s (state s ts) p c (delivered s ts)
 unfolding state
 first_ready s ts p c none =
     let t : Take = record { kind = Ready; from = p; command = c } in
@@ -199,20 +230,25 @@ first_ready s ts p c none =
     may_ready-votes s us c ∙ (λ i. ready_now s c (echoes i) (readies i)) in
     let may_now : may_deliver s us c ≡ deliver_now s c (maps.insert (votes Ready ts) p c) =
     may_deliver-votes s us c ∙ ap (deliver_now s c) readies in
-    ready_step s p c (echoed ts) (readied s ts) (delivered s ts) (voters Echo ts) (voters Ready ts) (votes Echo ts) (votes Ready ts)
-    (echoed us) (readied s us) (delivered s us) (voters Echo us) (voters Ready us) (votes Echo us) (votes Ready us)
-    (echoed_push ts t ∙ or_nothing (echoed ts))
-    (voters_alike Echo ts us ev)
-    (voters_push ts t)
-    echoes
-    readies
-    (λ _. readies_its_own s ts t ∙ ap (λ b. option_or (readied s ts) (only_if b c)) may)
-    (λ before. delivers_its_own s ts t ∙ (λ i. option_or (before i) (only_if (may_now i) c)))
-    (λ some. readied_late s ts t (delivered s ts) refl some)
-    (λ some. delivered_late s ts t some)
+    let step : IsReadyStep s p c (all_of s ts) (all_of s us) = record {
+      echoed = echoed_push ts t ∙ or_nothing (echoed ts);
+      early = λ _. readies_its_own s ts t ∙ ap (λ b. option_or (readied s ts) (only_if b c)) may;
+      late = λ some. readied_late s ts t (delivered s ts) refl some;
+      delivered_early = λ before. delivers_its_own s ts t ∙ (λ i. option_or (before i) (only_if (may_now i) c));
+      delivered_late = λ some. delivered_late s ts t some;
+      echoers = voters_alike Echo ts us ev;
+      readiers = voters_push ts t;
+      echo_votes = echoes;
+      ready_votes = readies;
+    } in
+    ready_step step
 
 ready_by : (s : Counts) (ts : List Take) (p : ℕ) (c : Command) (b : Bool) → sets.contains (voters Ready ts) p ≡ b →
-    state s (ts ++ (record { kind = Ready; from = p; command = c }) ∷ []) ≡ cond b (state s ts) (after_ready s (state s ts) p c (delivered s ts))
+    state s (ts ++ (record {
+      kind = Ready;
+      from = p;
+      command = c;
+    }) ∷ []) ≡ cond b (state s ts) (after_ready s (state s ts) p c (delivered s ts))
 ready_by s ts p c true is =
     push_again s ts (record { kind = Ready; from = p; command = c }) refl (sym (contains-voters Ready ts p) ∙ is)
 ready_by s ts p c false is = first_ready s ts p c (none_of (vote Ready p ts) (sym (contains-voters Ready ts p) ∙ is))
@@ -220,7 +256,11 @@ ready_by s ts p c false is = first_ready s ts p c (none_of (vote Ready p ts) (sy
 -- Any message.
 
 push_by : (s : Counts) (ts : List Take) (kind : Kind) (p : ℕ) (c : Command) →
-    state s (ts ++ (record { kind = kind; from = p; command = c }) ∷ []) ≡ cond (has_voted (state s ts) kind p) (state s ts) (after_kind s (state s ts) kind p c)
+    state s (ts ++ (record {
+      kind = kind;
+      from = p;
+      command = c;
+    }) ∷ []) ≡ cond (has_voted (state s ts) kind p) (state s ts) (after_kind s (state s ts) kind p c)
 unfolding state
 push_by s ts Send p c = push_send s ts p c ∙ send_by (state s ts) c (is_some (echoed ts)) refl
 push_by s ts Echo p c = echo_by s ts p c (sets.contains (voters Echo ts) p) refl
@@ -236,11 +276,13 @@ send_voted : (p : ℕ) (ts : List Take) → is_some (option_map command_of (find
     → is_some (option_map command_of (find (is_of_kind Send) ts)) ≡ true
 send_voted p [] is = is
 send_voted p (t ∷ ts) is =
-    send_voted_by (same_kind Send t.kind) (p == t.from) t (find (is_vote_of Send p) ts) (find (is_of_kind Send) ts) (send_voted p ts) is
+    send_voted_by (same_kind Send t.kind) (p == t.from) t (find (is_vote_of Send p) ts) (find (is_of_kind Send) ts)
+    (send_voted p ts) is
   where
     send_voted_by : (a b : Bool) (t : Take) (x y : Option Take)
         → (is_some (option_map command_of x) ≡ true → is_some (option_map command_of y) ≡ true) →
-        is_some (option_map command_of (cond (a && b) (Some t) x)) ≡ true → is_some (option_map command_of (cond a (Some t) y)) ≡ true
+        is_some (option_map command_of (cond (a && b) (Some t) x)) ≡ true
+        → is_some (option_map command_of (cond a (Some t) y)) ≡ true
     send_voted_by true b t x y later is = refl
     send_voted_by false b t x y later is = later is
 
@@ -259,5 +301,6 @@ repeat_changes_nothing s ts t again =
       same,
       λ kind c. supporters_same kind c ts us (same kind),
       state_push s ts t
-          ∙ ap (λ b. cond b (state s ts) (after_kind s (state s ts) t.kind t.from t.command)) (voted s ts t.kind t.from again),
+          ∙ ap (λ b. cond b (state s ts) (after_kind s (state s ts) t.kind t.from t.command))
+          (voted s ts t.kind t.from again),
     )

@@ -18,7 +18,7 @@ use Rattle.bracha_instance.specs.States.{votes}
 use Rattle.bracha_instance.specs.Kept.{names_of}
 use Rattle.bracha_instance.specs.Next.{supporters_in}
 use Rattle.bracha_instance.proofs.Same.{same_kind-true, same_kind-refl}
-use Rattle.bracha_instance.proofs.KeptVotes.{same_names, same_votes, get-insert, contains-insert, contains-names_of, contains-supporters_in}
+use Rattle.bracha_instance.proofs.VoteMaps.{same_names, same_votes, get-insert, contains-insert, contains-names_of, contains-supporters_in}
 
 -- Options.
 
@@ -36,7 +36,8 @@ map_cond true t = refl
 map_cond false t = refl
 
 find_push : (p : Take → Bool) (ts : List Take) (t : Take) →
-    option_map command_of (find p (ts ++ t ∷ [])) ≡ option_or (option_map command_of (find p ts)) (cond (p t) (Some t.command) None)
+    option_map command_of (find p (ts ++ t ∷ []))
+    ≡ option_or (option_map command_of (find p ts)) (cond (p t) (Some t.command) None)
 find_push p ts t =
     ap (option_map command_of) (find-append p ts (t ∷ []))
     ∙ map_or (find p ts) (cond (p t) (Some t) None)
@@ -73,12 +74,14 @@ again_by kind name ts t voted false is = or_nothing (vote kind name ts)
 again_by kind name ts t voted true is =
     let parts = and_parts _ _ is in
     some_stays (vote kind name ts) (Some t.command)
-    (ap (λ k. is_some (vote k name ts)) (same_kind-true kind t.kind parts.0) ∙ ap (λ n. is_some (vote t.kind n ts)) (eqb-true name t.from parts.1) ∙ voted)
+    (ap (λ k. is_some (vote k name ts)) (same_kind-true kind t.kind parts.0)
+    ∙ ap (λ n. is_some (vote t.kind n ts)) (eqb-true name t.from parts.1) ∙ voted)
 
 -- a second vote counts for nothing
 pub vote_push-again : (kind : Kind) (name : ℕ) (ts : List Take) (t : Take) → is_some (vote t.kind t.from ts) ≡ true →
     vote kind name (ts ++ t ∷ []) ≡ vote kind name ts
-vote_push-again kind name ts t voted = vote_push kind name ts t ∙ again_by kind name ts t voted (is_vote_of kind name t) refl
+vote_push-again kind name ts t voted = vote_push kind name ts t
+    ∙ again_by kind name ts t voted (is_vote_of kind name t) refl
 
 or_is : (o more : Option Command) (c : Command) → o ≡ Some c → option_or o more ≡ Some c
 or_is o more c e = ap (λ x. option_or x more) e
@@ -95,18 +98,24 @@ vote_stays kind name before later c e =
 -- The voters, the map of votes and the supporters, by the votes.
 
 voter_by : (kind : Kind) (q : ℕ) (ts : List Take) →
-    list_any (eq_by_cmp nat_cmp q) (map from_of (filter (is_of_kind kind) ts)) ≡ is_some (option_map command_of (find (is_vote_of kind q) ts))
+    list_any (eq_by_cmp nat_cmp q) (map from_of (filter (is_of_kind kind) ts))
+    ≡ is_some (option_map command_of (find (is_vote_of kind q) ts))
 voter_by kind q [] = refl
 voter_by kind q (t ∷ ts) =
     let all = map from_of (filter (is_of_kind kind) ts) in
     let first = find (is_vote_of kind q) ts in
-    elim (same_kind kind t.kind) as (λ b. list_any (eq_by_cmp nat_cmp q) (map from_of (cond b (t ∷ filter (is_of_kind kind) ts) (filter (is_of_kind kind) ts))) ≡ is_some (option_map command_of (cond (b && (q == t.from)) (Some t) first))) [
+    elim (same_kind kind t.kind) as (λ b.
+    list_any (eq_by_cmp nat_cmp q)
+    (map from_of (cond b (t ∷ filter (is_of_kind kind) ts) (filter (is_of_kind kind) ts)))
+    ≡ is_some (option_map command_of (cond (b && (q == t.from)) (Some t) first))) [
       | true ↦ ap (λ b. b || list_any (eq_by_cmp nat_cmp q) all) (unsigned_tied q t.from)
-          ∙ elim (q == t.from) as (λ b. (b || list_any (eq_by_cmp nat_cmp q) all) ≡ is_some (option_map command_of (cond b (Some t) first))) [ true ↦ refl | false ↦ voter_by kind q ts ]
+          ∙ elim (q == t.from) as (λ b. (b || list_any (eq_by_cmp nat_cmp q) all)
+          ≡ is_some (option_map command_of (cond b (Some t) first))) [ true ↦ refl | false ↦ voter_by kind q ts ]
       | false ↦ voter_by kind q ts
     ]
 
-pub contains-voters : (kind : Kind) (ts : List Take) (q : ℕ) → sets.contains (voters kind ts) q ≡ is_some (vote kind q ts)
+pub contains-voters : (kind : Kind) (ts : List Take) (q : ℕ)
+    → sets.contains (voters kind ts) q ≡ is_some (vote kind q ts)
 unfolding voters vote
 contains-voters kind ts q =
     sets.contains-from_list nat_cmp_total (map from_of (filter (is_of_kind kind) ts)) q ∙ voter_by kind q ts
@@ -115,20 +124,25 @@ abbrev pair_of : Take → ℕ × Command
 pair_of t = (t.from, t.command)
 
 vote_by : (kind : Kind) (q : ℕ) (ts : List Take) →
-    maps.find nat_cmp q (map pair_of (filter (is_of_kind kind) ts)) ≡ option_map command_of (find (is_vote_of kind q) ts)
+    maps.find nat_cmp q (map pair_of (filter (is_of_kind kind) ts))
+    ≡ option_map command_of (find (is_vote_of kind q) ts)
 vote_by kind q [] = refl
 vote_by kind q (t ∷ ts) =
     let all = map pair_of (filter (is_of_kind kind) ts) in
     let first = find (is_vote_of kind q) ts in
-    elim (same_kind kind t.kind) as (λ b. maps.find nat_cmp q (map pair_of (cond b (t ∷ filter (is_of_kind kind) ts) (filter (is_of_kind kind) ts))) ≡ option_map command_of (cond (b && (q == t.from)) (Some t) first)) [
+    elim (same_kind kind t.kind) as (λ b.
+    maps.find nat_cmp q (map pair_of (cond b (t ∷ filter (is_of_kind kind) ts) (filter (is_of_kind kind) ts)))
+    ≡ option_map command_of (cond (b && (q == t.from)) (Some t) first)) [
       | true ↦ ap (λ b. cond b (Some t.command) (maps.find nat_cmp q all)) (unsigned_tied q t.from)
-          ∙ elim (q == t.from) as (λ b. cond b (Some t.command) (maps.find nat_cmp q all) ≡ option_map command_of (cond b (Some t) first)) [ true ↦ refl | false ↦ vote_by kind q ts ]
+          ∙ elim (q == t.from) as (λ b. cond b (Some t.command) (maps.find nat_cmp q all)
+          ≡ option_map command_of (cond b (Some t) first)) [ true ↦ refl | false ↦ vote_by kind q ts ]
       | false ↦ vote_by kind q ts
     ]
 
 pub get-votes : (kind : Kind) (ts : List Take) (q : ℕ) → maps.get (votes kind ts) q ≡ vote kind q ts
 unfolding votes vote
-get-votes kind ts q = maps.get-from_entries nat_cmp_total (map pair_of (filter (is_of_kind kind) ts)) q ∙ vote_by kind q ts
+get-votes kind ts q = maps.get-from_entries nat_cmp_total (map pair_of (filter (is_of_kind kind) ts)) q
+    ∙ vote_by kind q ts
 
 some_and : (c : Command) (o : Option Command) → (is_some o && is_for c o) ≡ is_for c o
 some_and c None = refl
@@ -138,7 +152,8 @@ pub contains-supporters : (kind : Kind) (c : Command) (ts : List Take) (q : ℕ)
     → sets.contains (supporters kind c ts) q ≡ is_for c (vote kind q ts)
 unfolding supporters
 contains-supporters kind c ts q =
-    sets.contains-retain (voters kind ts) (λ name. is_for c (vote kind name ts)) q (λ x tie. ap (λ n. is_for c (vote kind n ts)) (sym (maps.nat_cmp-IsAntisymmetric q x tie)))
+    sets.contains-retain (voters kind ts) (λ name. is_for c (vote kind name ts)) q (λ x tie.
+    ap (λ n. is_for c (vote kind n ts)) (sym (maps.nat_cmp-IsAntisymmetric q x tie)))
     ∙ ap (λ b. b && is_for c (vote kind q ts)) (contains-voters kind ts q)
     ∙ some_and c (vote kind q ts)
 
@@ -153,12 +168,15 @@ pub voters_alike : (kind : Kind) (ts us : List Take) → ((q : ℕ) → vote kin
 voters_alike kind ts us alike =
     same_names _ _ (λ q. contains-voters kind us q ∙ ap is_some (alike q) ∙ sym (contains-voters kind ts q))
 
-pub votes_alike : (kind : Kind) (ts us : List Take) → ((q : ℕ) → vote kind q us ≡ vote kind q ts) → votes kind us ≡ votes kind ts
+pub votes_alike : (kind : Kind) (ts us : List Take) → ((q : ℕ) → vote kind q us ≡ vote kind q ts)
+    → votes kind us ≡ votes kind ts
 votes_alike kind ts us alike = same_votes _ _ (λ q. get-votes kind us q ∙ alike q ∙ sym (get-votes kind ts q))
 
-pub supporters_in-votes : (kind : Kind) (c : Command) (ts : List Take) → supporters kind c ts ≡ supporters_in c (votes kind ts)
+pub supporters_in-votes : (kind : Kind) (c : Command) (ts : List Take)
+    → supporters kind c ts ≡ supporters_in c (votes kind ts)
 supporters_in-votes kind c ts = same_names _ _ (λ q.
-    contains-supporters kind c ts q ∙ sym (contains-supporters_in c (votes kind ts) q ∙ ap (is_for c) (get-votes kind ts q)))
+    contains-supporters kind c ts q
+    ∙ sym (contains-supporters_in c (votes kind ts) q ∙ ap (is_for c) (get-votes kind ts q)))
 
 pub names_of-votes : (kind : Kind) (ts : List Take) → names_of (votes kind ts) ≡ voters kind ts
 names_of-votes kind ts = same_names _ _ (λ q.
@@ -183,7 +201,8 @@ supporters_push-other kind c ts t other = supporters_alike kind c ts (ts ++ t �
 own : (t : Take) (q : ℕ) → is_vote_of t.kind q t ≡ (q == t.from)
 own t q = ap (λ b. b && (q == t.from)) (same_kind-refl t.kind)
 
-first_by : (kind : Kind) (ts : List Take) (t : Take) (q : ℕ) → vote kind t.from ts ≡ None → (b : Bool) → (q == t.from) ≡ b →
+first_by : (kind : Kind) (ts : List Take) (t : Take) (q : ℕ) → vote kind t.from ts ≡ None → (b : Bool)
+    → (q == t.from) ≡ b →
     option_or (vote kind q ts) (cond b (Some t.command) None) ≡ cond b (Some t.command) (vote kind q ts)
 first_by kind ts t q none true is =
     ap (λ o. option_or o (Some t.command)) (ap (λ n. vote kind n ts) (eqb-true q t.from is) ∙ none)
@@ -196,9 +215,11 @@ votes_push-first ts t none = same_votes _ _ (λ q.
     ∙ vote_push t.kind q ts t
     ∙ ap (λ b. option_or (vote t.kind q ts) (cond b (Some t.command) None)) (own t q)
     ∙ first_by t.kind ts t q none (q == t.from) refl
-    ∙ sym (get-insert (votes t.kind ts) t.from t.command q ∙ ap (cond (q == t.from) (Some t.command)) (get-votes t.kind ts q)))
+    ∙ sym (get-insert (votes t.kind ts) t.from t.command q
+    ∙ ap (cond (q == t.from) (Some t.command)) (get-votes t.kind ts q)))
 
-some_either : (o : Option Command) (b : Bool) (c : Command) → is_some (option_or o (cond b (Some c) None)) ≡ (b || is_some o)
+some_either : (o : Option Command) (b : Bool) (c : Command)
+    → is_some (option_or o (cond b (Some c) None)) ≡ (b || is_some o)
 some_either None true c = refl
 some_either None false c = refl
 some_either (Some d) true c = refl
@@ -218,8 +239,10 @@ nobody_by : (kind : Kind) (c : Command) (q : ℕ) (ts : List Take) → find (sam
     is_for c (option_map command_of (find (is_vote_of kind q) ts)) ≡ false
 nobody_by kind c q [] none = refl
 nobody_by kind c q (t ∷ ts) none =
-    let parts = not_first c t.command (find (same_command c) (map command_of ts)) (same_command c t.command) refl none in
-    elim (is_vote_of kind q t) as (λ b. is_for c (option_map command_of (cond b (Some t) (find (is_vote_of kind q) ts))) ≡ false) [
+    let parts =
+    not_first c t.command (find (same_command c) (map command_of ts)) (same_command c t.command) refl none in
+    elim (is_vote_of kind q t) as (λ b. is_for c (option_map command_of (cond b (Some t) (find (is_vote_of kind q) ts)))
+    ≡ false) [
       | true ↦ parts.0
       | false ↦ nobody_by kind c q ts parts.1
     ]

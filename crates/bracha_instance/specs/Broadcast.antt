@@ -55,7 +55,8 @@ echoed takes = option_map command_of (find (is_of_kind Send) takes)
 -- an echo quorum echoed c, or so many nodes are ready for c that one of them is correct
 unfoldable pub may_ready : Counts → List Take → Command → Bool
 may_ready s takes c =
-    nat_le (echo_quorum_of s) (sets.len (supporters Echo c takes)) || nat_le (amplify_of s) (sets.len (supporters Ready c takes))
+    nat_le (echo_quorum_of s) (sets.len (supporters Echo c takes))
+    || nat_le (amplify_of s) (sets.len (supporters Ready c takes))
 
 -- so many nodes are ready for c that it may be delivered
 unfoldable pub may_deliver : Counts → List Take → Command → Bool

@@ -1,5 +1,5 @@
 -- The rules of the protocol, as laws about every list of messages that a node took.
-use Rattle.std.specs.Prelude.{◌≡◌, ℕ, ◌<◌, ◌≤◌, Bool, true, false, cond, List, [], ◌∷◌, ◌++◌, length, take, Option, Some, None, IsSome}
+use Rattle.std.specs.Prelude.{◌≡◌, ℕ, ◌<◌, ◌≤◌, Bool, true, false, if◌then◌else◌, List, [], ◌∷◌, ◌++◌, length, take, Option, Some, None, IsSome}
 use Rattle.std.specs.Option.{option_or}
 use Rattle.quorum_sizes.specs.Sizes.{Counts}
 use Rattle.role_commands.specs.declared.command.Command.{Command}
@@ -9,7 +9,7 @@ use Rattle.bracha_instance.specs.States.{state}
 
 -- what was due, or else this command where it is due now
 abbrev pub or_else_if : Option Command → Bool → Command → Option Command
-or_else_if before due c = option_or before (cond due (Some c) None)
+or_else_if before due c = option_or before (if due then Some c else None)
 
 -- one more message makes its own command ready, or none
 abbrev pub ReadiesItsOwn : Type 0
@@ -26,10 +26,14 @@ abbrev pub EchoStays : Type 0
 EchoStays = (before later : List Take) (c : Command) → echoed before ≡ Some c → echoed (before ++ later) ≡ Some c
 
 abbrev pub ReadyStays : Type 0
-ReadyStays = (s : Counts) (before later : List Take) (c : Command) → readied s before ≡ Some c → readied s (before ++ later) ≡ Some c
+ReadyStays =
+    (s : Counts) (before later : List Take) (c : Command) → readied s before ≡ Some c
+    → readied s (before ++ later) ≡ Some c
 
 abbrev pub DeliveryStays : Type 0
-DeliveryStays = (s : Counts) (before later : List Take) (c : Command) → delivered s before ≡ Some c → delivered s (before ++ later) ≡ Some c
+DeliveryStays =
+    (s : Counts) (before later : List Take) (c : Command) → delivered s before ≡ Some c
+    → delivered s (before ++ later) ≡ Some c
 
 -- what is readied could be at some moment, and before it nothing could
 abbrev pub ReadyWasFirst : Type 0
@@ -44,10 +48,14 @@ DeliveryWasFirst = (s : Counts) (takes : List Take) (c : Command) → delivered 
 
 -- where something could be readied or delivered at some moment, something was
 abbrev pub ReadyComes : Type 0
-ReadyComes = (s : Counts) (takes : List Take) (m : ℕ) (c : Command) → may_ready s (take m takes) c ≡ true → IsSome (readied s takes)
+ReadyComes =
+    (s : Counts) (takes : List Take) (m : ℕ) (c : Command) → may_ready s (take m takes) c ≡ true
+    → IsSome (readied s takes)
 
 abbrev pub DeliveryComes : Type 0
-DeliveryComes = (s : Counts) (takes : List Take) (m : ℕ) (c : Command) → may_deliver s (take m takes) c ≡ true → IsSome (delivered s takes)
+DeliveryComes =
+    (s : Counts) (takes : List Take) (m : ℕ) (c : Command) →
+    may_deliver s (take m takes) c ≡ true → IsSome (delivered s takes)
 
 -- a node's second message of a kind changes no vote, no supporter, and nothing of the state
 abbrev pub RepeatChangesNothing : Type 0

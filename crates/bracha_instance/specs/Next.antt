@@ -1,6 +1,6 @@
 -- One more message, as a step from state to state. Serves private functions and proofs, and no public contract:
 -- `state_push` in proofs/StateOf.antt says that this is the state of the longer list.
-use Rattle.std.specs.Prelude.{ℕ, Bool, cond, ◌||◌, nat_le, Option, Some, None}
+use Rattle.std.specs.Prelude.{ℕ, Bool, if◌then◌else◌, ◌||◌, nat_le, Option, Some, None}
 use Rattle.std.specs.Option.{option_or}
 use Rattle.std.specs.FinMap as maps
 use Rattle.std.specs.FinSet as sets
@@ -19,13 +19,14 @@ supporters_in c votes = sets.retain (names_of votes) (λ name. is_for c (maps.ge
 
 unfoldable pub ready_now : Counts → Command → Votes → Votes → Bool
 ready_now s c echoes readies =
-    nat_le (echo_quorum_of s) (sets.len (supporters_in c echoes)) || nat_le (amplify_of s) (sets.len (supporters_in c readies))
+    nat_le (echo_quorum_of s) (sets.len (supporters_in c echoes))
+    || nat_le (amplify_of s) (sets.len (supporters_in c readies))
 
 unfoldable pub deliver_now : Counts → Command → Votes → Bool
 deliver_now s c readies = nat_le (deliver_of s) (sets.len (supporters_in c readies))
 
 abbrev pub only_if : Bool → Command → Option Command
-only_if due c = cond due (Some c) None
+only_if due c = if due then Some c else None
 
 abbrev pub after_send : State → Command → State
 after_send st c = record st { echoed = option_or st.echoed (Some c) }
@@ -60,4 +61,4 @@ after_kind s st Echo p c = after_echo s st p c st.delivered
 after_kind s st Ready p c = after_ready s st p c st.delivered
 
 unfoldable pub after : Counts → State → Take → State
-after s st t = cond (has_voted st t.kind t.from) st (after_kind s st t.kind t.from t.command)
+after s st t = if has_voted st t.kind t.from then st else after_kind s st t.kind t.from t.command

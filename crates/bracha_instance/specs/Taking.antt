@@ -1,5 +1,5 @@
 -- What one more message causes: whether it counts, what the node sends to all, and what it delivers.
-use Rattle.std.specs.Prelude.{◌≡◌, ℕ, Bool, List, All, cond, is_some, Option, Some, None}
+use Rattle.std.specs.Prelude.{◌≡◌, ℕ, Bool, List, All, if◌then◌else◌, is_some, Option, Some, None}
 use Rattle.quorum_sizes.specs.Sizes.{Counts}
 use Rattle.role_commands.specs.declared.command.Command.{Command}
 use Rattle.link_frames.specs.declared.kind.Kind.{Kind}
@@ -16,7 +16,7 @@ SendsAreFrom owner takes = All (λ (t : Take). t.kind ≡ Send → t.from ≡ ow
 
 -- a message is idle where that node's vote of that kind was taken before
 abbrev pub effect_of : List Take → Take → Effect
-effect_of takes t = cond (is_some (vote t.kind t.from takes)) Idle Counted
+effect_of takes t = if is_some (vote t.kind t.from takes) then Idle else Counted
 
 -- what the state of the messages so far says of that, where all SENDs are from one node
 abbrev pub has_voted : State → Kind → ℕ → Bool

@@ -137,19 +137,24 @@ impl Instance {
         command: Command,
     ) -> Result<Taken, AllocError>
         requires { from < sizes.now.nodes }
-        ensures state { OnOk result ((takes : List Take) → self.old ≡ state sizes.now takes →
-            self.new ≡ state sizes.now (takes ++ (record { kind = kind; from = from; command = command }) ∷ [])) }
-        ensures effect { IfOk result (λ taken. (takes : List Take) (owner : ℕ) → self.old ≡ state sizes.now takes →
-            SendsAreFrom owner (takes ++ (record { kind = kind; from = from; command = command }) ∷ []) →
-            taken.effect ≡ effect_of takes (record { kind = kind; from = from; command = command })) }
-        ensures broadcast { IfOk result (λ taken. (takes : List Take) → self.old ≡ state sizes.now takes →
-            taken.broadcast ≡ newly_sent sizes.now takes (takes ++ (record { kind = kind; from = from; command = command }) ∷ [])) }
-        ensures delivered { IfOk result (λ taken. (takes : List Take) → self.old ≡ state sizes.now takes →
-            taken.delivered ≡ newly_delivered sizes.now takes (takes ++ (record { kind = kind; from = from; command = command }) ∷ [])) }
+        ensures state { let t : Take = record { kind = kind; from = from; command = command } in
+            OnOk result ((takes : List Take) →
+            self.old ≡ state sizes.now takes → self.new ≡ state sizes.now (takes ++ t ∷ [])) }
+        ensures effect { let t : Take = record { kind = kind; from = from; command = command } in
+            IfOk result (λ taken. (takes : List Take) (owner : ℕ) →
+            self.old ≡ state sizes.now takes → SendsAreFrom owner (takes ++ t ∷ []) →
+            taken.effect ≡ effect_of takes t) }
+        ensures broadcast { let t : Take = record { kind = kind; from = from; command = command } in
+            IfOk result (λ taken. (takes : List Take) →
+            self.old ≡ state sizes.now takes → taken.broadcast ≡ newly_sent sizes.now takes (takes ++ t ∷ [])) }
+        ensures delivered { let t : Take = record { kind = kind; from = from; command = command } in
+            IfOk result (λ taken. (takes : List Take) →
+            self.old ≡ state sizes.now takes → taken.delivered ≡ newly_delivered sizes.now takes (takes ++ t ∷ [])) }
         ensures idle { IfOk result (λ taken. taken.effect ≡ Effect.Idle → self.new ≡ self.old) }
-        ensures memory { OnErr result ((takes : List Take) (owner : ℕ) → self.old ≡ state sizes.now takes →
-            SendsAreFrom owner (takes ++ (record { kind = kind; from = from; command = command }) ∷ []) →
-            effect_of takes (record { kind = kind; from = from; command = command }) ≡ Effect.Counted) }
+        ensures memory { let t : Take = record { kind = kind; from = from; command = command } in
+            OnErr result ((takes : List Take) (owner : ℕ) →
+            self.old ≡ state sizes.now takes → SendsAreFrom owner (takes ++ t ∷ []) →
+            effect_of takes t ≡ Effect.Counted) }
         ensures err { OnErr result (self.new ≡ self.old) }
     {
         if self.voted(kind, from) {
@@ -247,9 +252,9 @@ impl Instance {
     /// Takes no memory.
     pub fn voted(&self, kind: Kind, from: NodeName) -> bool
         ensures seen { result ≡ has_voted self.now kind from }
-        ensures vote { (s : Counts) (takes : List Take) (owner : ℕ) (command : Command) → self.now ≡ state s takes →
-            SendsAreFrom owner (takes ++ (record { kind = kind; from = from; command = command }) ∷ []) →
-            result ≡ is_some (vote kind from takes) }
+        ensures vote { (s : Counts) (takes : List Take) (owner : ℕ) (command : Command) →
+            let t : Take = record { kind = kind; from = from; command = command } in
+            self.now ≡ state s takes → SendsAreFrom owner (takes ++ t ∷ []) → result ≡ is_some (vote kind from takes) }
     {
         match kind {
             Kind::Send => self.echoed.is_some(),

@@ -1,8 +1,11 @@
 pub mod Answers
 pub mod Taken
 pub mod StreamLaws
-pub mod OneTake
+pub mod Senders
+pub mod Reaching
 pub mod Keeping
+pub mod Stepping
+pub mod OneTake
 pub mod Slots
 pub mod Owners
 pub mod Exported

@@ -20,7 +20,8 @@ pub applied-Assign : (node u r : ℕ) (old new : PolicyValue) → owns old.table
     IsApplied node (Assign u r) old new
 applied-Assign node u r old new owned table grants assigned = record {
   table = table;
-  assigned = λ user role. assigned user role ∙ sym (rw owned (said_yes ((user == u) && (role == r)) (assigned_in old user role)));
+  assigned = λ user role. assigned user role
+      ∙ sym (rw owned (said_yes ((user == u) && (role == r)) (assigned_in old user role)));
   granted = λ operation object role. ap (λ g. set.contains g ((operation, object), role)) grants ∙ sym (rw owned);
 }
 
@@ -30,30 +31,35 @@ pub applied-Deassign : (node u r : ℕ) (old new : PolicyValue) → owns old.tab
     IsApplied node (Deassign u r) old new
 applied-Deassign node u r old new owned table grants assigned = record {
   table = table;
-  assigned = λ user role. assigned user role ∙ sym (rw owned (said_no ((user == u) && (role == r)) (assigned_in old user role)));
+  assigned = λ user role. assigned user role
+      ∙ sym (rw owned (said_no ((user == u) && (role == r)) (assigned_in old user role)));
   granted = λ operation object role. ap (λ g. set.contains g ((operation, object), role)) grants ∙ sym (rw owned);
 }
 
 pub applied-Grant : (node r p b : ℕ) (old new : PolicyValue) → owns old.table node r ≡ true → new.table ≡ old.table
     → new.assignments ≡ old.assignments →
-    ((operation object role : ℕ) → granted_in new operation object role ≡ (((operation == p) && (object == b) && (role == r)) || granted_in old operation object role)) →
+    ((operation object role : ℕ) → granted_in new operation object role
+    ≡ (((operation == p) && (object == b) && (role == r)) || granted_in old operation object role)) →
     IsApplied node (Grant r p b) old new
 applied-Grant node r p b old new owned table assignments granted = record {
   table = table;
   assigned = λ user role. ap (λ a. set.contains a (user, role)) assignments ∙ sym (rw owned);
   granted = λ operation object role.
       granted operation object role
-      ∙ sym (rw owned (said_yes ((operation == p) && (object == b) && (role == r)) (granted_in old operation object role)));
+      ∙ sym
+      (rw owned (said_yes ((operation == p) && (object == b) && (role == r)) (granted_in old operation object role)));
 }
 
 pub applied-Revoke : (node r p b : ℕ) (old new : PolicyValue) → owns old.table node r ≡ true → new.table ≡ old.table
     → new.assignments ≡ old.assignments →
-    ((operation object role : ℕ) → granted_in new operation object role ≡ (not ((operation == p) && (object == b) && (role == r)) && granted_in old operation object role)) →
+    ((operation object role : ℕ) → granted_in new operation object role
+    ≡ (not ((operation == p) && (object == b) && (role == r)) && granted_in old operation object role)) →
     IsApplied node (Revoke r p b) old new
 applied-Revoke node r p b old new owned table assignments granted = record {
   table = table;
   assigned = λ user role. ap (λ a. set.contains a (user, role)) assignments ∙ sym (rw owned);
   granted = λ operation object role.
       granted operation object role
-      ∙ sym (rw owned (said_no ((operation == p) && (object == b) && (role == r)) (granted_in old operation object role)));
+      ∙ sym
+      (rw owned (said_no ((operation == p) && (object == b) && (role == r)) (granted_in old operation object role)));
 }

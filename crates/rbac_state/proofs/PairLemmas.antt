@@ -42,7 +42,8 @@ assignment_ties a b = both_tied _ _ _ _ (unsigned_ties a.0 b.0) (unsigned_ties a
 
 pub grant_ties : (g h : (ℕ × ℕ) × ℕ) → is_same_grant g h ≡ eq_by_cmp grant_cmp g h
 grant_ties g h =
-    both_tied _ _ _ _ (both_tied _ _ _ _ (unsigned_ties g.0.0 h.0.0) (unsigned_ties g.0.1 h.0.1)) (unsigned_ties g.1 h.1)
+    both_tied _ _ _ _ (both_tied _ _ _ _ (unsigned_ties g.0.0 h.0.0) (unsigned_ties g.0.1 h.0.1))
+    (unsigned_ties g.1 h.1)
 
 or_swap : (a b : Bool) → (a || (b || false)) ≡ (b || a)
 or_swap true true = refl
@@ -72,7 +73,8 @@ module _ {K : Type 0} {R : K → K → Ordering} (o : IsTotalOrder R) (exact : C
     put_cases : (ks : List K) (k q : K) (b : Bool) → list_any (λ y. E y k) ks ≡ b →
         list_any (eq_by_cmp R q) (cond b ks (ks ++ k ∷ [])) ≡ (eq_by_cmp R q k || list_any (eq_by_cmp R q) ks)
     put_cases ks k q true e =
-        or_known _ _ (λ t. ap (λ x. list_any (eq_by_cmp R x) ks) (tells_apart exact q k t) ∙ sym (λ i. list_any (λ y. flipped y k i) ks) ∙ e)
+        or_known _ _ (λ t. ap (λ x. list_any (eq_by_cmp R x) ks) (tells_apart exact q k t)
+        ∙ sym (λ i. list_any (λ y. flipped y k i) ks) ∙ e)
     put_cases ks k q false e = list_any-append (eq_by_cmp R q) ks (k ∷ []) ∙ or_swap _ _
 
     -- after a key is put
@@ -103,14 +105,16 @@ granted-list_any = contains-list_any grants_total grants_exact is_same_grant gra
 
 pub assigned-put : (ks ls : List (ℕ × ℕ)) (k q : ℕ × ℕ)
     → ls ≡ cond (list_any (λ y. is_same_assignment y k) ks) ks (ks ++ k ∷ []) →
-    set.contains (set.from_list {R = assignment_cmp} ls) q ≡ (is_same_assignment q k || set.contains (set.from_list {R = assignment_cmp} ks) q)
+    set.contains (set.from_list {R = assignment_cmp} ls) q
+    ≡ (is_same_assignment q k || set.contains (set.from_list {R = assignment_cmp} ks) q)
 assigned-put ks ls k q e =
     ap (λ l. set.contains (set.from_list {R = assignment_cmp} l) q) e
     ∙ contains-put assignments_total assignments_exact is_same_assignment assignment_ties ks k q
     ∙ ap (λ b. b || set.contains (set.from_list {R = assignment_cmp} ks) q) (sym (assignment_ties q k))
 
 pub assigned-take_away : (ks ls : List (ℕ × ℕ)) (k q : ℕ × ℕ) → ls ≡ filter (λ y. not (is_same_assignment y k)) ks →
-    set.contains (set.from_list {R = assignment_cmp} ls) q ≡ (not (is_same_assignment q k) && set.contains (set.from_list {R = assignment_cmp} ks) q)
+    set.contains (set.from_list {R = assignment_cmp} ls) q
+    ≡ (not (is_same_assignment q k) && set.contains (set.from_list {R = assignment_cmp} ks) q)
 assigned-take_away ks ls k q e =
     ap (λ l. set.contains (set.from_list {R = assignment_cmp} l) q) e
     ∙ contains-take_away assignments_total assignments_exact is_same_assignment assignment_ties ks k q
@@ -118,14 +122,17 @@ assigned-take_away ks ls k q e =
 
 pub granted-put : (ks ls : List ((ℕ × ℕ) × ℕ)) (k q : (ℕ × ℕ) × ℕ)
     → ls ≡ cond (list_any (λ y. is_same_grant y k) ks) ks (ks ++ k ∷ []) →
-    set.contains (set.from_list {R = grant_cmp} ls) q ≡ (is_same_grant q k || set.contains (set.from_list {R = grant_cmp} ks) q)
+    set.contains (set.from_list {R = grant_cmp} ls) q
+    ≡ (is_same_grant q k || set.contains (set.from_list {R = grant_cmp} ks) q)
 granted-put ks ls k q e =
     ap (λ l. set.contains (set.from_list {R = grant_cmp} l) q) e
     ∙ contains-put grants_total grants_exact is_same_grant grant_ties ks k q
     ∙ ap (λ b. b || set.contains (set.from_list {R = grant_cmp} ks) q) (sym (grant_ties q k))
 
-pub granted-take_away : (ks ls : List ((ℕ × ℕ) × ℕ)) (k q : (ℕ × ℕ) × ℕ) → ls ≡ filter (λ y. not (is_same_grant y k)) ks →
-    set.contains (set.from_list {R = grant_cmp} ls) q ≡ (not (is_same_grant q k) && set.contains (set.from_list {R = grant_cmp} ks) q)
+pub granted-take_away : (ks ls : List ((ℕ × ℕ) × ℕ)) (k q : (ℕ × ℕ) × ℕ)
+    → ls ≡ filter (λ y. not (is_same_grant y k)) ks →
+    set.contains (set.from_list {R = grant_cmp} ls) q
+    ≡ (not (is_same_grant q k) && set.contains (set.from_list {R = grant_cmp} ks) q)
 granted-take_away ks ls k q e =
     ap (λ l. set.contains (set.from_list {R = grant_cmp} l) q) e
     ∙ contains-take_away grants_total grants_exact is_same_grant grant_ties ks k q

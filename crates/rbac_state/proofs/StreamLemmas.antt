@@ -1,5 +1,5 @@
 -- What one more command of a stream changes.
-use Rattle.std.proofs.Common.{◌≡◌, ℕ, Bool, true, false, ◌&&◌, ◌==◌, ◌⊎◌, inl, inr, List, [], ◌∷◌, ◌++◌, Option, None, Some, unwrap_or, refl, sym, ap, ◌∙◌}
+use Rattle.std.proofs.Common.{◌≡◌, ℕ, Bool, true, false, ◌&&◌, ◌==◌, ◌⊎◌, inl, inr, List, [], ◌∷◌, ◌++◌, Option, None, Some, unwrap_or, refl, sym, ap, ◌∙◌, append-nil}
 use Rattle.std.specs.Prelude.{if◌then◌else◌}
 use Rattle.std.specs.List.{filter_map, last_or, cons_option}
 use Rattle.std.specs.Option.{option_map_or}
@@ -37,20 +37,18 @@ says_of_user-concerns user role (Revoke r p b) = inl refl
 pub says_of_permission-concerns : (operation object role : ℕ) → Concerns role (says_of_permission operation object role)
 says_of_permission-concerns operation object role (Assign u r) = inl refl
 says_of_permission-concerns operation object role (Deassign u r) = inl refl
-says_of_permission-concerns operation object role (Grant r p b) = of_role ((operation == p) && (object == b)) role r true
-says_of_permission-concerns operation object role (Revoke r p b) = of_role ((operation == p) && (object == b)) role r false
+says_of_permission-concerns operation object role (Grant r p b) =
+    of_role ((operation == p) && (object == b)) role r true
+says_of_permission-concerns operation object role (Revoke r p b) =
+    of_role ((operation == p) && (object == b)) role r false
 
 last_or-push : {A : Type 0} (o : Option A) (xs : List A) (x : A) → last_or o (xs ++ x ∷ []) ≡ Some x
 last_or-push o [] x = refl
 last_or-push o (y ∷ xs) x = last_or-push (Some y) xs x
 
-append_nothing : {A : Type 0} (xs : List A) → xs ++ [] ≡ xs
-append_nothing [] = refl
-append_nothing (x ∷ xs) = ap (λ ys. x ∷ ys) (append_nothing xs)
-
 said_last : (said : List Bool) (o : Option Bool) →
     unwrap_or (last_or None (said ++ cons_option o [])) false ≡ unwrap_or o (unwrap_or (last_or None said) false)
-said_last said None = rw (append_nothing said)
+said_last said None = rw (append-nil said)
 said_last said (Some b) = rw (last_or-push None said b)
 
 -- one more command at the end
@@ -69,17 +67,20 @@ if_both : (b : Bool) (x : Bool) → (if b then x else x) ≡ x
 if_both true x = refl
 if_both false x = refl
 
-one_stream : (streams : ℕ → List Command) (node : ℕ) (command : Command) (says : Command → Option Bool) (owner : ℕ) (mine : Bool) →
+one_stream : (streams : ℕ → List Command) (node : ℕ) (command : Command) (says : Command
+    → Option Bool) (owner : ℕ) (mine : Bool) →
     last_said says (if mine then streams owner ++ command ∷ [] else streams owner)
     ≡ (if mine then unwrap_or (says command) (last_said says (streams owner)) else last_said says (streams owner))
 one_stream streams node command says owner true = last_said-push says (streams owner) command
 one_stream streams node command says owner false = refl
 
-unless_said : (mine : Bool) (o : Option Bool) (before : Bool) → o ≡ None → (if mine then unwrap_or o before else before) ≡ before
+unless_said : (mine : Bool) (o : Option Bool) (before : Bool) → o ≡ None
+    → (if mine then unwrap_or o before else before) ≡ before
 unless_said true o before e = rw e
 unless_said false o before e = refl
 
-by_owner : (table : Table) (streams : ℕ → List Command) (node : ℕ) (command : Command) (role : ℕ) (says : Command → Option Bool) (owner : Option ℕ) →
+by_owner : (table : Table) (streams : ℕ → List Command) (node : ℕ) (command : Command) (role : ℕ) (says : Command
+    → Option Bool) (owner : Option ℕ) →
     map.get table.owners role ≡ owner → (says command ≡ None) ⊎ (role_of command ≡ role) →
     option_map_or (λ o. last_said says (with_command streams node command o)) owner false
     ≡ said_by table node command says (option_map_or (λ o. last_said says (streams o)) owner false)
@@ -94,16 +95,20 @@ by_owner table streams node command role says (Some owner) e (inr p) =
     one_stream streams node command says owner (owner == node)
     ∙ sym (rw (p, e))
 
-nothing_said : (says : Command → Option Bool) (owner : Option ℕ) → option_map_or (λ o. last_said says []) owner false ≡ false
+nothing_said : (says : Command → Option Bool) (owner : Option ℕ)
+    → option_map_or (λ o. last_said says []) owner false ≡ false
 nothing_said says None = refl
 nothing_said says (Some owner) = last_said-none says
 
 -- the same of what the owner said
-pub owner_said-push : (table : Table) (streams : ℕ → List Command) (node : ℕ) (command : Command) (role : ℕ) (says : Command → Option Bool) →
+pub owner_said-push : (table : Table) (streams : ℕ
+    → List Command) (node : ℕ) (command : Command) (role : ℕ) (says : Command → Option Bool) →
     Concerns role says →
-    owner_said table (with_command streams node command) role says ≡ said_by table node command says (owner_said table streams role says)
+    owner_said table (with_command streams node command) role says
+    ≡ said_by table node command says (owner_said table streams role says)
 owner_said-push table streams node command role says concerns =
     by_owner table streams node command role says (map.get table.owners role) refl (concerns command)
 
-pub no_owner_said : (table : Table) (role : ℕ) (says : Command → Option Bool) → owner_said table (λ node. []) role says ≡ false
+pub no_owner_said : (table : Table) (role : ℕ) (says : Command → Option Bool)
+    → owner_said table (λ node. []) role says ≡ false
 no_owner_said table role says = nothing_said says (map.get table.owners role)

@@ -18,7 +18,8 @@ abbrev pub OneMorePermission : Type 0
 OneMorePermission =
     (table : Table) (streams : ℕ → List Command) (node : ℕ) (command : Command) (operation object role : ℕ) →
     is_permission_granted table (with_command streams node command) operation object role
-    ≡ said_by table node command (says_of_permission operation object role) (is_permission_granted table streams operation object role)
+    ≡ said_by table node command (says_of_permission operation object role)
+    (is_permission_granted table streams operation object role)
 
 -- a blank policy is that of the streams with no commands
 abbrev pub BlankIsOfNoCommands : Type 0
@@ -33,4 +34,5 @@ AppliedIsOfOneMore =
 -- room that is made changes nothing of this
 abbrev pub SameIsOfTheSame : Type 0
 SameIsOfTheSame =
-    (streams : ℕ → List Command) (old new : PolicyValue) → IsPolicyOf streams old → SameRelations old new → IsPolicyOf streams new
+    (streams : ℕ → List Command) (old new : PolicyValue) → IsPolicyOf streams old → SameRelations old new
+    → IsPolicyOf streams new

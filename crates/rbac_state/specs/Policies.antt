@@ -77,7 +77,8 @@ pub record IsApplied (node : ℕ) (command : Command) (old new : PolicyValue) : 
   pub assigned : (user role : ℕ) →
       assigned_in new user role ≡ said_by old.table node command (says_of_user user role) (assigned_in old user role)
   pub granted : (operation object role : ℕ) →
-      granted_in new operation object role ≡ said_by old.table node command (says_of_permission operation object role) (granted_in old operation object role)
+      granted_in new operation object role
+      ≡ said_by old.table node command (says_of_permission operation object role) (granted_in old operation object role)
 
 -- the relations are those of the nodes' streams
 pub record IsPolicyOf (streams : ℕ → List Command) (p : PolicyValue) : Type 0 where

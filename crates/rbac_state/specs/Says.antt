@@ -15,5 +15,7 @@ says_of_user user role (Revoke r p b) = None
 abbrev pub says_of_permission : ℕ → ℕ → ℕ → Command → Option Bool
 says_of_permission operation object role (Assign u r) = None
 says_of_permission operation object role (Deassign u r) = None
-says_of_permission operation object role (Grant r p b) = if (operation == p) && (object == b) && (role == r) then Some true else None
-says_of_permission operation object role (Revoke r p b) = if (operation == p) && (object == b) && (role == r) then Some false else None
+says_of_permission operation object role (Grant r p b) = if (operation == p) && (object == b) && (role == r)
+    then Some true else None
+says_of_permission operation object role (Revoke r p b) = if (operation == p) && (object == b) && (role == r)
+    then Some false else None

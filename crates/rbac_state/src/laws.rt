@@ -7,7 +7,7 @@ ghost use Rattle.rbac_state.specs.Laws.{OneMoreUser, OneMorePermission, BlankIsO
 
 /// One more command of a node's stream changes the two relations as that command says, and in
 /// nothing else.
-pub fn one_more()
+pub fn law_one_more()
     ensures user { OneMoreUser }
     ensures permission { OneMorePermission }
 {}

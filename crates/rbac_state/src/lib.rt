@@ -6,10 +6,13 @@ pub mod laws;
 mod listing;
 mod pairs;
 mod policy;
+mod room;
 mod select;
 
+pub use laws::law_one_more;
 pub use listing::ascending;
 pub use policy::{Permission, Policy};
+pub use room::push_within_capacity;
 
 #[cfg(test)]
 mod tests;

@@ -1,14 +1,9 @@
 //! Pairs in a `Vec`, each at most once.
 
-ghost use Rattle.std.specs.Prelude.{◌≡◌, ◌<◌, ◌≤◌, ◌+◌, ◌-◌, ◌++◌, ◌∷◌, [], not, filter, if◌then◌else◌, vec_len, vec_capacity};
+ghost use Rattle.std.specs.Prelude.{◌≡◌, ◌<◌, ◌≤◌, ◌+◌, ◌++◌, ◌∷◌, [], not, filter, if◌then◌else◌, vec_len, vec_capacity};
 ghost use Rattle.std.specs.List.{list_any};
 
-/// How many more items the `Vec` can take without memory.
-pub fn spare<T>(items: &Vec<T>) -> usize
-    ensures { result ≡ vec_capacity items.now - vec_len items.now }
-{
-    items.capacity() - items.len()
-}
+use crate::room::push_within_capacity;
 
 /// Puts the item at the end, unless it is there.
 pub fn put<T: PartialEq + Drop>(items: &mut Vec<T>, item: T)
@@ -19,7 +14,7 @@ pub fn put<T: PartialEq + Drop>(items: &mut Vec<T>, item: T)
     ensures capacity { vec_capacity items.old ≤ vec_capacity items.new }
 {
     if !items.contains(&item) {
-        let _ = items.push(item);
+        push_within_capacity(items, item);
     }
 }
 

@@ -1,11 +1,10 @@
-ghost use Rattle.std.specs.Prelude.{◌≡◌, ℕ, Contains, IsTrue, ◌+◌, ◌<◌, ◌≤◌, IfOk, OnOk};
+ghost use Rattle.std.specs.Prelude.{◌≡◌, ℕ, Contains, ◌+◌, ◌<◌, ◌≤◌, IfOk, OnOk, OnErr};
 ghost use Rattle.std.specs.Ordering.{nat_cmp};
-ghost use Rattle.role_commands.specs.Rules.{role_of};
 ghost use Rattle.rbac_state.specs.Policies.{permission_cmp, assigned_in, granted_in, HasRole, RoleMay, UserMay, least_room, IsBlank, SameRelations, IsApplied};
-ghost use Rattle.rbac_state.specs.Assignments.{owns};
 ghost use Rattle.rbac_state.specs.Listings.{IsListing};
 
 use crate::listing::ascending;
+use crate::room::spare;
 use crate::{pairs, select};
 use quorum_sizes::NodeName;
 use role_commands::{Command, RoleTable};
@@ -46,28 +45,6 @@ impl Model for Policy {
     } };
 }
 
-/// The role that a command is about.
-fn role(command: Command) -> u16
-    ensures { result ≡ role_of command }
-{
-    match command {
-        Command::Assign { role, .. } => role,
-        Command::Deassign { role, .. } => role,
-        Command::Grant { role, .. } => role,
-        Command::Revoke { role, .. } => role,
-    }
-}
-
-/// Whether the table has the role, with this node as its owner.
-fn is_owner(roles: &RoleTable, node: NodeName, role: u16) -> bool
-    ensures { result ≡ owns roles.now node role }
-{
-    match roles.owner(role) {
-        Some(owner) => owner.index() == node.index(),
-        None => false,
-    }
-}
-
 impl Policy {
     /// The policy of these roles, in which no user has a role and no role may do anything. It takes
     /// no memory.
@@ -85,9 +62,10 @@ impl Policy {
     ///
     /// # Errors
     ///
-    /// Only for want of memory. The relations stay as they were.
+    /// Only for want of memory, where there is less room than that. The relations stay as they were.
     pub fn make_room(&mut self) -> Result<(), AllocError>
         ensures ok { OnOk result (least_room ≤ self.new.room) }
+        ensures full { OnErr result (self.old.room < least_room) }
         ensures more { self.old.room ≤ self.new.room }
         ensures same { SameRelations self.old self.new }
     {
@@ -100,7 +78,7 @@ impl Policy {
     pub fn room(&self) -> usize
         ensures { result ≡ self.now.room }
     {
-        pairs::spare(&self.assigned).min(pairs::spare(&self.granted))
+        spare(&self.assigned).min(spare(&self.granted))
     }
 
     /// Applies the next command of a node's stream. It changes the one pair that it names, where the
@@ -110,7 +88,7 @@ impl Policy {
         ensures applied { IsApplied owner command self.old self.new }
         ensures room { self.old.room ≤ self.new.room + 1 }
     {
-        if !is_owner(&self.roles, owner, role(command)) {
+        if !self.roles.is_owned_by(command.role(), owner) {
             return;
         }
         match command {
@@ -209,7 +187,9 @@ impl Policy {
     ///
     /// Only for want of memory.
     pub fn permissions_of(&self, roles: &[u16]) -> Result<Vec<Permission>, AllocError>
-        ensures { IfOk result (λ permissions. IsListing permission_cmp (λ p. (role : ℕ) × Contains roles.now role × IsTrue (granted_in self.now p.0 p.1 role)) permissions.items) }
+        ensures { IfOk result (λ permissions.
+            IsListing permission_cmp
+            (λ p. (role : ℕ) × Contains roles.now role × RoleMay self.now role p.0 p.1) permissions.items) }
     {
         let permissions = select::permissions(self.alloc(), &self.granted, roles)?;
         Ok(ascending(permissions))

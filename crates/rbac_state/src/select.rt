@@ -54,7 +54,8 @@ pub fn operations(
     object: u32,
 ) -> Result<Vec<u16>, AllocError>
     ensures { IfOk result (λ operations.
-        operations.items ≡ map (λ g. g.0.0) (filter (λ g. (g.0.1 == object) && list_any (λ y. y == g.1) roles.now) granted.now)) }
+        operations.items
+        ≡ map (λ g. g.0.0) (filter (λ g. (g.0.1 == object) && list_any (λ y. y == g.1) roles.now) granted.now)) }
 {
     granted
         .iter()

@@ -11,14 +11,13 @@ insert-requires c =
 
 pub returns-then-is_some-clause-ok : goal.returns-then-is_some-clause-ok
 returns-then-is_some-clause-ok c =
-    echo_late c.args.sizes.now c.args.from c.args.command c.self.inside.echoed c.self.inside.readied c.self.inside.delivered
-    c.self.inside.echoes c.self.inside.readies c.insert.new.self
+    echo_late c.args.sizes.now c.args.from c.args.command c.self.inside c.insert.new.self
     (sym c.is_some.ensures ∙ c.if-is_some.true) c.in_ok-insert.ensures.ok
     ∙ ap (λ st. after_echo c.args.sizes.now st c.args.from c.args.command st.delivered) c.self.view_is
 
 pub returns-clause-ok : goal.returns-clause-ok
 returns-clause-ok c =
-    echo_early c.args.sizes.now c.args.from c.args.command c.self.inside.echoed c.self.inside.readied c.self.inside.delivered
-    c.first_of-self-inside.result c.may_ready-due.result c.self.inside.echoes c.self.inside.readies c.insert.new.self
-    (sym c.is_some.ensures ∙ c.if-is_some.false) c.in_ok-insert.ensures.ok c.may_ready-due.ensures c.first_of-self-inside.ensures
+    echo_early c.args.sizes.now c.args.from c.args.command c.self.inside c.insert.new.self
+    c.may_ready-due.result c.first_of-self-inside.result (sym c.is_some.ensures ∙ c.if-is_some.false)
+    c.in_ok-insert.ensures.ok c.may_ready-due.ensures c.first_of-self-inside.ensures
     ∙ ap (λ st. after_echo c.args.sizes.now st c.args.from c.args.command st.delivered) c.self.view_is

@@ -11,11 +11,13 @@ is_voted c = sym c.voted.ensures.seen ∙ c.if-voted.true
 
 pub returns-then-voted-clause-state : goal.returns-then-voted-clause-state
 returns-then-voted-clause-state c = λ takes is.
-    idle_state c.args.sizes.now takes (record { kind = c.args.kind; from = c.args.from; command = c.args.command }) c.args.self.now (is_voted c) is
+    idle_state c.args.sizes.now takes (record { kind = c.args.kind; from = c.args.from; command = c.args.command })
+    c.args.self.now (is_voted c) is
 
 pub returns-then-voted-clause-effect : goal.returns-then-voted-clause-effect
 returns-then-voted-clause-effect c = λ takes owner is all.
-    effect_at c.args.sizes.now takes (record { kind = c.args.kind; from = c.args.from; command = c.args.command }) owner c.args.self.now true (is_voted c) is all
+    effect_at c.args.sizes.now takes (record { kind = c.args.kind; from = c.args.from; command = c.args.command }) owner
+    c.args.self.now true (is_voted c) is all
 
 pub returns-then-voted-clause-broadcast : goal.returns-then-voted-clause-broadcast
 returns-then-voted-clause-broadcast c = λ takes is.
@@ -29,12 +31,14 @@ returns-then-voted-clause-delivered c = λ takes is.
 
 pub returns-clause-state : goal.returns-clause-state
 returns-clause-state c = λ takes is.
-    counted_state c.args.sizes.now takes (record { kind = c.args.kind; from = c.args.from; command = c.args.command }) c.args.self.now c.count.new.self
+    counted_state c.args.sizes.now takes (record { kind = c.args.kind; from = c.args.from; command = c.args.command })
+    c.args.self.now c.count.new.self
     (sym c.voted.ensures.seen ∙ c.if-voted.false) c.in_ok-count.ensures.ok is
 
 pub returns-clause-effect : goal.returns-clause-effect
 returns-clause-effect c = λ takes owner is all.
-    effect_at c.args.sizes.now takes (record { kind = c.args.kind; from = c.args.from; command = c.args.command }) owner c.args.self.now false
+    effect_at c.args.sizes.now takes (record { kind = c.args.kind; from = c.args.from; command = c.args.command }) owner
+    c.args.self.now false
     (sym c.voted.ensures.seen ∙ c.if-voted.false) is all
 
 pub returns-clause-broadcast : goal.returns-clause-broadcast
@@ -63,5 +67,6 @@ on_err (Err e) p = p
 
 pub returns-in_err-count-clause-memory : goal.returns-in_err-count-clause-memory
 returns-in_err-count-clause-memory c = on_err c.from_residual.result (λ takes owner is all.
-    sym (effect_at c.args.sizes.now takes (record { kind = c.args.kind; from = c.args.from; command = c.args.command }) owner c.args.self.now false
+    sym (effect_at c.args.sizes.now takes (record { kind = c.args.kind; from = c.args.from; command = c.args.command })
+    owner c.args.self.now false
     (sym c.voted.ensures.seen ∙ c.if-voted.false) is all))

@@ -2,7 +2,7 @@ use Rattle.std.proofs.Common.{ap, sym, ◌∙◌}
 use Rattle.link_frames.specs.declared.kind.Kind.TheVariants.{Send, Echo, Ready}
 use Rattle.bracha_instance.specs.Taking.{has_voted}
 use Rattle.bracha_instance.proofs.Counting.{voted_at}
-use Rattle.bracha_instance.proofs.KeptVotes.{contains-names_of}
+use Rattle.bracha_instance.proofs.VoteMaps.{contains-names_of}
 use Rattle.bracha_instance.proofs.instance.Instance.voted.Goals as goal
 
 pub returns-in-Send-clause-vote : goal.returns-in-Send-clause-vote

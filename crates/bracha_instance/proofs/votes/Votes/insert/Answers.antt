@@ -6,7 +6,8 @@ use Rattle.bracha_instance.proofs.votes.Votes.insert.Goals as goal
 
 pub invariant_of-self-2 : goal.invariant_of-self-2
 invariant_of-self-2 c =
-    rw c.in_ok-push.ensures.items (EachNameOnce_push c.self.inside.votes.items _ c.self.invariant (ap (λ v. maps.get v c.args.name) c.self.view_is ∙ c.requires))
+    rw c.in_ok-push.ensures.items (EachNameOnce_push c.self.inside.votes.items _ c.self.invariant
+    (ap (λ v. maps.get v c.args.name) c.self.view_is ∙ c.requires))
 
 pub returns-clause-ok : goal.returns-clause-ok
 returns-clause-ok c =

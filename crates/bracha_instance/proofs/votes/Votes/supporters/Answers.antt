@@ -8,7 +8,8 @@ use Rattle.bracha_instance.proofs.votes.Votes.supporters.Goals as goal
 
 pub returns : goal.returns
 returns c =
-    let counted : c.count.result ≡ count_by (λ (v : Vote). same_command c.args.command v.command) c.self.inside.votes.items = search rules in
+    let counted : c.count.result
+    ≡ count_by (λ (v : Vote). same_command c.args.command v.command) c.self.inside.votes.items = search rules in
     counted
     ∙ count-supporters_in c.args.command c.self.inside.votes.items c.self.invariant
     ∙ ap (λ v. sets.len (supporters_in c.args.command v)) c.self.view_is

@@ -6,7 +6,10 @@ pub returns : goal.returns
 returns c =
     let grants = c.self.inside.granted.items in
     let roles = c.in_ok-roles.roles.items in
-    listing_of _ _ _ _ c.ascending.ensures
+    listing_of c.ascending.ensures
     (λ operation. rw (c.in_ok-operations.ensures, c.deref.ensures.value, c.deref-2.ensures.value)
     (iff_trans (operations_members roles c.args.object grants operation)
-    (users_grants c.args.self.now c.args.user roles grants (operation, c.args.object) c.in_ok-roles.ensures (ap (λ v. v.grants) c.self.view_is))))
+    (users_grants c.args.self.now c.args.user roles grants (
+      operation,
+      c.args.object,
+    ) c.in_ok-roles.ensures (ap (λ v. v.grants) c.self.view_is))))
