@@ -1,0 +1,13 @@
+-- Sets of nodes.
+use Rattle.std.specs.Prelude.{nat_lt}
+use Rattle.std.specs.Ordering.{nat_cmp}
+use Rattle.std.specs.FinSet as sets
+use Rattle.quorum_sizes.specs.Sizes.{Counts}
+
+-- a finite set of names
+abbrev pub Nodes : Type 0
+Nodes = sets.FinSet nat_cmp
+
+-- those of the names that are nodes of these sizes
+abbrev pub nodes_among : Counts → Nodes → Nodes
+nodes_among s names = sets.retain names (λ name. nat_lt name s.nodes)
