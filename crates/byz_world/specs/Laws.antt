@@ -14,7 +14,8 @@ use Rattle.byz_world.specs.Agreement.{common_length}
 
 -- what a node is ready for, and what it has delivered, at a place of an owner's stream
 abbrev pub readied_by : ConfigValue → Run → ℕ → ℕ → ℕ → Option Command
-readied_by config run node owner place = readied config.roles.sizes (takes_at owner place (packets (history_of node run)))
+readied_by config run node owner place =
+    readied config.roles.sizes (takes_at owner place (packets (history_of node run)))
 
 abbrev pub delivered_by : ConfigValue → Run → ℕ → ℕ → ℕ → Option Command
 delivered_by config run node owner place = delivered_at config.roles.sizes owner place (packets (history_of node run))
@@ -26,8 +27,8 @@ stream_of config run node owner = stream_at config.roles.sizes (history_of node 
 abbrev pub reach_of : ConfigValue → Run → ℕ → ℕ → ℕ
 reach_of config run node owner = reach_at config.roles.sizes (history_of node run) owner
 
--- Two correct nodes are ready for one command at a place; what they deliver there is one command; and their streams of an
--- owner agree as far as both reach.
+-- Two correct nodes are ready for one command at a place; what they deliver there is one command; and their streams of
+-- an owner agree as far as both reach.
 pub record IsConsistent (config : ConfigValue) (liars : Nodes) (run : Run) : Type 0 where
   pub ready_for_one : (i j owner place : ℕ) (c d : Command) →
       IsTrue (is_correct config.roles.sizes liars i) → IsTrue (is_correct config.roles.sizes liars j) →
@@ -41,7 +42,9 @@ pub record IsConsistent (config : ConfigValue) (liars : Nodes) (run : Run) : Typ
       ≡ min (reach_of config run i owner) (reach_of config run j owner)
 
 abbrev pub Consistency : Type 0
-Consistency = (config : ConfigValue) (liars : Nodes) (run : Run) → IsClusterRun config liars run → IsConsistent config liars run
+Consistency =
+    (config : ConfigValue) (liars : Nodes) (run : Run) → IsClusterRun config liars run →
+    IsConsistent config liars run
 
 -- a correct owner's stream is, at each correct node, a front of what the owner issued
 abbrev pub Integrity : Type 0
@@ -66,8 +69,8 @@ SamePolicy =
     ((owner : ℕ) → owner < config.roles.sizes.nodes → reach_of config run i owner ≡ reach_of config run j owner) →
     HaveSameRelations config run i j
 
--- Of a cluster at rest: a correct owner's stream is, at each correct node, what the owner issued; and what one correct node
--- delivered, each did, whoever the owner is.
+-- Of a cluster at rest: a correct owner's stream is, at each correct node, what the owner issued; and what one correct
+-- node delivered, each did, whoever the owner is.
 pub record HasSettled (config : ConfigValue) (liars : Nodes) (run : Run) : Type 0 where
   pub issued_is_delivered : (i owner : ℕ) →
       IsTrue (is_correct config.roles.sizes liars i) → IsTrue (is_correct config.roles.sizes liars owner) →

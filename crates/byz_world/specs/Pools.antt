@@ -30,7 +30,8 @@ sent_by_answer (Err fault) = None
 -- what the node sends when this event is the next of the run: by the answer that is due to it
 abbrev pub sends_next : ConfigValue → Run → ℕ × Event → Option Sent
 sends_next config past pair =
-    option_map (λ message. (pair.0, message)) (sent_by_answer (answer_due config pair.0 (history_of pair.0 past) pair.1))
+    option_map (λ message. (pair.0, message))
+    (sent_by_answer (answer_due config pair.0 (history_of pair.0 past) pair.1))
 
 abbrev pub listed : {A : Type 0} → Option A → List A
 listed None = []
@@ -38,7 +39,8 @@ listed (Some x) = x ∷ []
 
 unfoldable pub messages_after : ConfigValue → Run → Run → List Sent
 messages_after config past [] = []
-messages_after config past (pair ∷ run) = listed (sends_next config past pair) ++ messages_after config (past ++ pair ∷ []) run
+messages_after config past (pair ∷ run) =
+    listed (sends_next config past pair) ++ messages_after config (past ++ pair ∷ []) run
 
 -- the messages that were sent
 abbrev pub messages : ConfigValue → Run → List Sent

@@ -43,7 +43,8 @@ of_kind Ready sent = sent.ready
 unfoldable pub has_sent : Counts → Run → ℕ → Message → Bool
 has_sent s run node m = is_for m.command (of_kind m.kind (sent_at s node (history_of node run) m.owner m.place))
 
--- Links tell the truth of correct nodes: what is taken in the name of one, it had sent by then. Packets of liars are free.
+-- Links tell the truth of correct nodes: what is taken in the name of one, it had sent by then. Packets of liars are
+-- free.
 abbrev pub LinksAreTrue : Counts → Nodes → Run → Type 0
 LinksAreTrue s liars run =
     (t node : ℕ) (p : PacketValue) → slice_get run t ≡ Some (node, Take p) → IsTrue (is_correct s liars p.from) →
@@ -54,6 +55,7 @@ LinksAreTrue s liars run =
 pub record IsClusterRun (config : ConfigValue) (liars : Nodes) (run : Run) : Type 0 where
   pub sizes : AreSizes config.roles.sizes
   pub few : sets.len (nodes_among config.roles.sizes liars) ≤ config.roles.sizes.liars
-  pub correct : (t node : ℕ) (event : Event) → slice_get run t ≡ Some (node, event) → IsTrue (is_correct config.roles.sizes liars node)
+  pub correct : (t node : ℕ) (event : Event) → slice_get run t ≡ Some (node, event) →
+      IsTrue (is_correct config.roles.sizes liars node)
   pub legal : (node : ℕ) → IsLegal config node (history_of node run)
   pub links : LinksAreTrue config.roles.sizes liars run

@@ -47,7 +47,8 @@ arrival w (Issue node command) =
     if is_correct_in w node then unless_pool_full w (node, event.Issue command) else Err fault.NotCorrect
 arrival w (Give packet) = given w (slice_get (pool w.config w.run) packet)
 arrival w (Lie p) =
-    if not (nat_lt p.from w.config.roles.sizes.nodes && nat_lt p.to w.config.roles.sizes.nodes) then Err fault.NotCorrect
+    if not (nat_lt p.from w.config.roles.sizes.nodes && nat_lt p.to w.config.roles.sizes.nodes)
+    then Err fault.NotCorrect
     else (if is_forged w p then Err fault.NotSent
     else arrives w p)
 arrival w (Client node act) = if is_correct_in w node then Ok (Some (node, event.Client act)) else Err fault.NotCorrect

@@ -16,7 +16,8 @@ pub record WorldValue : Type 0 where
 -- it is stored as its parts
 abbrev pub world_code : Coded WorldValue
 world_code =
-    code_by (ConfigValue × (Nodes × Run)) (coded× config_code (coded× (sets.code coded_ℕ) (coded_list (coded× coded_ℕ event_code))))
+    code_by (ConfigValue × (Nodes × Run))
+    (coded× config_code (coded× (sets.code coded_ℕ) (coded_list (coded× coded_ℕ event_code))))
     (λ w. (w.config, (w.liars, w.run)))
     (λ p. record { config = p.0; liars = p.1.0; run = p.1.1 }) (λ _. refl)
 
