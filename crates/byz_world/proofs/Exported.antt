@@ -1,0 +1,6 @@
+-- What layers above may cite of the proofs. Declares nothing.
+--     sent_is_pooled, pooled_is_sent      the pool of a cluster run is what its correct nodes have sent
+--     has_sent_is, is_has_sent, has_sent_stays      a message was sent where its command was, and stays so
+--     history_of-..      a node's history in a run that is put together
+pub use Rattle.byz_world.proofs.Pooled.{sent_is_pooled, pooled_is_sent, IsPooled, has_sent_is, is_has_sent, has_sent_stays, recorded_after}
+pub use Rattle.byz_world.proofs.Pushing.{history_of-append, history_of-none, history_of-own, history_of-other, history_of-push, history_of-push_other, messages-push, messages-none}

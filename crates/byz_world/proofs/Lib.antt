@@ -1,0 +1,5 @@
+pub mod Elements
+pub mod Sending
+pub mod Pushing
+pub mod Pooled
+pub mod Exported
