@@ -3,4 +3,8 @@ pub mod Sending
 pub mod Pushing
 pub mod Pooled
 pub mod Growing
+pub mod Ordered
+pub mod Making
+pub mod Numbering
+pub mod Recording
 pub mod Exported

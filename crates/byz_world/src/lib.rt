@@ -5,7 +5,11 @@
 #![tactic(auto)]
 
 mod faults;
+mod members;
+mod notes;
 mod step;
+mod world;
 
 pub use faults::WorldFault;
 pub use step::{Step, StepReply};
+pub use world::World;
