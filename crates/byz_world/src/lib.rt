@@ -5,7 +5,9 @@
 #![tactic(auto)]
 
 mod faults;
+pub mod laws;
 mod step;
 
 pub use faults::WorldFault;
+pub use laws::{law_consistency, law_integrity};
 pub use step::{Step, StepReply};

@@ -1,0 +1,108 @@
+-- Lists: what stands in one, and how it goes on.
+use Rattle.std.proofs.Common.{◌≡◌, ℕ, zero, suc, ◌<◌, ◌≤◌, min, Bool, true, false, cond, List, [], ◌∷◌, ◌++◌, length, take, drop, slice_get, find, Contains, get_or, option_map, Option, Some, None, refl, sym, ap, ◌∙◌, arith, append_assoc, append-nil, take-append-drop}
+use Rattle.std.specs.List.{filter_map, cons_option}
+use Rattle.std.proofs.lemmas.List.Elements.{filter_map-append}
+use Rattle.std.proofs.lemmas.Option.{slice_get-get_or, get_or_from_slice_get, slice_get_within}
+
+-- x stands in the list
+abbrev pub IsIn : {A : Type 0} → List A → A → Type 0
+IsIn xs x = (k : ℕ) × (slice_get xs k ≡ Some x)
+
+pub in_tail : {A : Type 0} (x : A) (xs : List A) (y : A) → IsIn xs y → IsIn (x ∷ xs) y
+in_tail x xs y found = (suc found.0, found.1)
+
+pub in_contained : {A : Type 0} (xs : List A) (x : A) → Contains xs x → IsIn xs x
+in_contained xs x found = (found.0, slice_get-get_or xs found.0 x found.1 ∙ ap Some found.2)
+
+-- What is found is there, and passes the test.
+
+found_by : {A : Type 0} (p : A → Bool) (y : A) (ys : List A) (x : A) (b : Bool) → p y ≡ b
+    → (find p ys ≡ Some x → IsIn ys x × (p x ≡ true)) → cond b (Some y) (find p ys) ≡ Some x → IsIn (y ∷ ys) x × (p x ≡ true)
+found_by p y ys x true is rest e = let same : y ≡ x = cc in ((zero, e), ap p (sym same) ∙ is)
+found_by p y ys x false is rest e = let later = rest e in (in_tail y ys x later.0, later.1)
+
+pub found_in : {A : Type 0} (p : A → Bool) (xs : List A) (x : A) → find p xs ≡ Some x → IsIn xs x × (p x ≡ true)
+found_in p [] x e = absurd cc
+found_in p (y ∷ ys) x e = found_by p y ys x (p y) refl (found_in p ys x) e
+
+-- What is picked comes from an element.
+
+abbrev pub IsPicked : {A B : Type 0} → (A → Option B) → List A → B → Type 0
+IsPicked {A} {B} h xs y = (x : A) × IsIn xs x × (h x ≡ Some y)
+
+picked_later : {A B : Type 0} (h : A → Option B) (x : A) (xs : List A) (y : B) → IsPicked h xs y → IsPicked h (x ∷ xs) y
+picked_later h x xs y found = (found.0, in_tail x xs found.0 found.1, found.2)
+
+picked_by : {A B : Type 0} (h : A → Option B) (x : A) (xs : List A) (y : B)
+    → ((k : ℕ) → slice_get (filter_map h xs) k ≡ Some y → IsPicked h xs y) → (o : Option B) → h x ≡ o →
+    (k : ℕ) → slice_get (cons_option o (filter_map h xs)) k ≡ Some y → IsPicked h (x ∷ xs) y
+picked_by h x xs y rest None is k e = picked_later h x xs y (rest k e)
+picked_by h x xs y rest (Some z) is zero e = (x, (zero, refl), is ∙ e)
+picked_by h x xs y rest (Some z) is (suc k) e = picked_later h x xs y (rest k e)
+
+pub picked_from : {A B : Type 0} (h : A → Option B) (xs : List A) (y : B) (k : ℕ) → slice_get (filter_map h xs) k ≡ Some y
+    → IsPicked h xs y
+picked_from h [] y k e = absurd cc
+picked_from h (x ∷ xs) y k e = picked_by h x xs y (picked_from h xs y) (h x) refl k e
+
+-- .. and each element that gives one is picked.
+
+there_by : {A B : Type 0} (h : A → Option B) (xs : List A) (y : B) (o : Option B) → IsIn (filter_map h xs) y
+    → IsIn (cons_option o (filter_map h xs)) y
+there_by h xs y None found = found
+there_by h xs y (Some z) found = in_tail z (filter_map h xs) y found
+
+pub is_picked : {A B : Type 0} (h : A → Option B) (xs : List A) (x : A) (y : B) (k : ℕ) → slice_get xs k ≡ Some x → h x ≡ Some y
+    → IsIn (filter_map h xs) y
+is_picked h [] x y k e gives = absurd cc
+is_picked h (z ∷ xs) x y zero e gives =
+    let same : z ≡ x = cc in
+    (zero, ap (λ o. slice_get (cons_option o (filter_map h xs)) zero) (ap h same ∙ gives))
+is_picked h (z ∷ xs) x y (suc k) e gives = there_by h xs y (h z) (is_picked h xs x y k e gives)
+
+-- Fronts.
+
+-- the second list begins with the first
+abbrev pub IsFront : {A : Type 0} → List A → List A → Type 0
+IsFront {A} xs ys = (later : List A) × (ys ≡ xs ++ later)
+
+pub front_taken : {A : Type 0} (n : ℕ) (xs : List A) → IsFront (take n xs) xs
+front_taken n xs = (drop n xs, sym (take-append-drop n xs))
+
+pub front_itself : {A : Type 0} (xs : List A) → IsFront xs xs
+front_itself xs = ([], sym (append-nil xs))
+
+pub front_of_front : {A : Type 0} (xs ys zs : List A) → IsFront xs ys → IsFront ys zs → IsFront xs zs
+front_of_front xs ys zs a b =
+    (a.0 ++ b.0, b.1 ∙ ap (λ list. list ++ b.0) a.1 ∙ append_assoc xs a.0 b.0)
+
+pub front_picked : {A B : Type 0} (h : A → Option B) (xs ys : List A) → IsFront xs ys → IsFront (filter_map h xs) (filter_map h ys)
+front_picked h xs ys a = (filter_map h a.0, ap (filter_map h) a.1 ∙ filter_map-append h xs a.0)
+
+pub slice_get-front : {A : Type 0} (xs later : List A) (k : ℕ) (x : A) → slice_get xs k ≡ Some x
+    → slice_get (xs ++ later) k ≡ Some x
+slice_get-front [] later k x e = absurd cc
+slice_get-front (y ∷ ys) later zero x e = e
+slice_get-front (y ∷ ys) later (suc k) x e = slice_get-front ys later k x e
+
+pub in_front : {A : Type 0} (xs ys : List A) (x : A) → IsFront xs ys → IsIn xs x → IsIn ys x
+in_front xs ys x front found =
+    (found.0, ap (λ list. slice_get list found.0) front.1 ∙ slice_get-front xs front.0 found.0 x found.1)
+
+-- what stands before place n stands there in the whole list
+pub slice_get-taken : {A : Type 0} (n : ℕ) (xs : List A) (k : ℕ) (x : A) → slice_get (take n xs) k ≡ Some x
+    → (k < n) × (slice_get xs k ≡ Some x)
+slice_get-taken zero xs k x e = absurd cc
+slice_get-taken (suc n) [] k x e = absurd cc
+slice_get-taken (suc n) (y ∷ ys) zero x e = (omega arith, e)
+slice_get-taken (suc n) (y ∷ ys) (suc k) x e = let rest = slice_get-taken n ys k x e in (omega arith, rest.1)
+
+-- a list whose elements are those of another at the same places is a front of it
+pub front_by_places : {A : Type 0} (xs ys : List A) → ((k : ℕ) (x : A) → slice_get xs k ≡ Some x → slice_get ys k ≡ Some x)
+    → (rest : List A) × (xs ++ rest ≡ ys)
+front_by_places [] ys same = (ys, refl)
+front_by_places (x ∷ xs) [] same = absurd (let clash : None ≡ Some x = same zero x refl in cc)
+front_by_places (x ∷ xs) (y ∷ ys) same =
+    let later = front_by_places xs ys (λ k z e. same (suc k) z e) in
+    let first : y ≡ x = let e : Some y ≡ Some x = same zero x refl in cc in
+    (later.0, λ i. sym first i ∷ later.1 i)
