@@ -1,18 +1,15 @@
 -- The history of a node in a run: how it goes on, and where what the node took comes from.
-use Rattle.std.proofs.Common.{◌≡◌, ℕ, ◌<◌, ◌≤◌, Bool, true, false, cond, ◌==◌, ◌&&◌, if◌then◌else◌, List, [], ◌∷◌, ◌++◌, length, take, slice_get, option_map, Option, Some, None, Result, Ok, Err, IsTrue, nat_le, nat_lt, refl, sym, ap, ◌∙◌, arith, eqb-true, ltb-true}
+use Rattle.std.proofs.Common.{◌≡◌, ℕ, ◌<◌, Bool, true, false, ◌==◌, ◌&&◌, if◌then◌else◌, List, take, slice_get, Some, Result, Err, refl, ap, ◌∙◌, eqb-true, ltb-true}
 use Rattle.std.specs.List.{filter_map}
 use Rattle.std.proofs.lemmas.Bool.{and_parts}
 use Rattle.std.proofs.lemmas.Option.{cond_some}
-use Rattle.quorum_sizes.specs.Sizes.{Counts}
-use Rattle.quorum_sizes.specs.NodeSets.{Nodes}
-use Rattle.role_commands.specs.declared.command.Command.{Command}
 use Rattle.link_frames.specs.Packets.{PacketValue}
 use Rattle.bracha_instance.specs.Broadcast.{Take}
 use Rattle.bracha_instance.specs.declared.instance.Effect.{Effect}
 use Rattle.owner_streams.specs.Places.{take_of, take_at, takes_at}
 use Rattle.role_node.specs.Configs.{ConfigValue}
 use Rattle.role_node.specs.Histories.{command_in, packet_in, issued, packets}
-use Rattle.role_node.specs.Answers.{outlook, reply_to, take_outlook, is_routed, of_effect_due, unless_full, answered, is_recorded, answer_due, IsLegal}
+use Rattle.role_node.specs.Answers.{is_routed, unless_full, answered, is_recorded, IsLegal}
 use Rattle.role_node.specs.declared.event.Event.{Event}
 use Rattle.role_node.specs.declared.event.Event.TheVariants as event
 use Rattle.role_node.specs.declared.event.Reply.{Reply}
@@ -77,7 +74,7 @@ pub taken_in : (m : ℕ) (run : Run) (node owner place : ℕ) (t : Take) → IsI
 unfolding takes_at packets
 taken_in m run node owner place t found =
     let from_packet : IsPicked (take_at owner place) (filter_map packet_in (history_of node (take m run))) t =
-        picked_from (take_at owner place) _ t found.0 found.1 in
+    picked_from (take_at owner place) _ t found.0 found.1 in
     let p = from_packet.0 in
     let from_event : IsPicked packet_in (history_of node (take m run)) p = picked_from packet_in _ p from_packet.1.0 from_packet.1.1 in
     let e : from_event.0 ≡ event.Take p = packet_of_event from_event.0 p from_event.2 in

@@ -1,5 +1,5 @@
-pub mod Assumed
 pub mod Lists
 pub mod Histories
 pub mod Votes
 pub mod Safety
+pub mod Exported

@@ -1,30 +1,28 @@
 -- What correct nodes are ready for and deliver: one command at a place of an owner's stream, and of a correct owner
 -- only what it issued there.
-use Rattle.std.proofs.Common.{◌≡◌, ℕ, zero, suc, ◌+◌, ◌*◌, ◌/◌, ◌<◌, ◌≤◌, min, Bool, true, false, ◌&&◌, ◌||◌, if◌then◌else◌, IsTrue, List, [], ◌∷◌, ◌++◌, length, take, slice_get, Option, Some, None, refl, sym, ap, ◌∙◌, subst, arith, take_all, le_refl, ⊎_elim, nat_le, nat_lt, not}
+use Rattle.std.proofs.Common.{◌≡◌, ℕ, zero, suc, ◌+◌, ◌/◌, ◌<◌, ◌≤◌, min, true, false, ◌&&◌, if◌then◌else◌, List, [], ◌∷◌, length, take, slice_get, Some, refl, sym, ap, ◌∙◌, arith, take_all, le_refl, ⊎_elim, nat_le}
 use Rattle.std.specs.FinSet as sets
 use Rattle.std.specs.Cmp.{nat_cmp_total}
 use Rattle.std.proofs.lemmas.Bool.{and_parts, and_from, or_cases, leb-true, lt-ltb, not_from_false}
 use Rattle.std.proofs.lemmas.Option.{same_Some, slice_get_within}
-use Rattle.quorum_sizes.specs.Sizes.{Counts, AreSizes, echo_quorum_of, amplify_of, deliver_of}
-use Rattle.quorum_sizes.specs.NodeSets.{Nodes, nodes_among}
+use Rattle.quorum_sizes.specs.Sizes.{Counts, echo_quorum_of, amplify_of, deliver_of}
+use Rattle.quorum_sizes.specs.NodeSets.{Nodes, AreNodes}
+use Rattle.quorum_sizes.proofs.Exported.{quorums_share, one_is_correct}
 use Rattle.role_commands.specs.Same.{same_command}
 use Rattle.role_commands.specs.declared.command.Command.{Command}
 use Rattle.link_frames.specs.declared.kind.Kind.{Kind}
-use Rattle.link_frames.specs.declared.kind.Kind.TheVariants.{Send, Echo, Ready}
+use Rattle.link_frames.specs.declared.kind.Kind.TheVariants.{Echo, Ready}
 use Rattle.bracha_instance.specs.Broadcast.{Take, Names, supporters, readied, delivered, may_ready, may_deliver}
 use Rattle.bracha_instance.proofs.Exported.{same_command-refl, ready_was_first, delivery_was_first}
-use Rattle.owner_streams.specs.Places.{delivered_at, stream}
-use Rattle.owner_streams.specs.Laws.{IsPrefixOf}
 use Rattle.owner_streams.proofs.Exported.{stream_is_exact_lem}
 use Rattle.role_node.specs.Configs.{ConfigValue}
 use Rattle.role_node.specs.Histories.{issued, packets}
 use Rattle.byz_world.specs.Agreement.{common_length}
-use Rattle.byz_world.specs.Laws.{IsConsistent, Consistency, Integrity, readied_by, delivered_by, stream_of}
+use Rattle.byz_world.specs.Laws.{Consistency, Integrity, stream_of}
 use Rattle.byz_world.specs.Runs.{Run, history_of, is_correct, IsClusterRun}
-use Rattle.byz_world.proofs.Assumed.{AreNodes, quorums_share, one_is_correct}
-use Rattle.byz_world.proofs.Lists.{IsFront, front_itself, front_taken, front_of_front, front_by_places}
+use Rattle.byz_world.proofs.Lists.{IsFront, front_taken, front_of_front, front_by_places}
 use Rattle.byz_world.proofs.Histories.{taken_by, taken_front}
-use Rattle.byz_world.proofs.Votes.{said_by, said_stays, IsVoteBefore, vote_before, supporter_voted, echo_was_issued}
+use Rattle.byz_world.proofs.Votes.{said_by, said_stays, vote_before, supporter_voted, echo_was_issued}
 
 -- at some moment a node had taken a quorum of echoes for the command
 pub record HadEchoes (s : Counts) (run : Run) (owner place : ℕ) (c : Command) : Type 0 where
@@ -114,10 +112,10 @@ module _ (config : ConfigValue) (liars : Nodes) (run : Run) (cluster : IsCluster
       let are_a : AreNodes s for_c = supporters_are (length run) a.node owner place a.takes front_a Echo c in
       let are_b : AreNodes s for_d = supporters_are (length run) b.node owner place b.takes front_b Echo d in
       let both : (name : ℕ) → sets.contains (sets.intersection for_c for_d) name ≡ (sets.contains for_c name && sets.contains for_d name) =
-          sets.contains-intersection nat_cmp_total for_c for_d in
+      sets.contains-intersection nat_cmp_total for_c for_d in
       let one = correct_among (sets.intersection for_c for_d)
-          (λ name is. are_a name (and_parts _ _ (sym (both name) ∙ is)).0)
-          (quorums_share s cluster.sizes for_c for_d are_a are_b a.enough b.enough) in
+      (λ name is. are_a name (and_parts _ _ (sym (both name) ∙ is)).0)
+      (quorums_share s cluster.sizes for_c for_d are_a are_b a.enough b.enough) in
       let parts = and_parts _ _ (sym (both one.0) ∙ one.2) in
       same_Some c d
       (sym (supporter_said (length run) a.node owner place a.takes front_a Echo c one.0 one.1 parts.0)

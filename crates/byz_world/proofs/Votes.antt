@@ -1,21 +1,17 @@
 -- Votes and what was sent: a correct node's vote, wherever it was counted, is for what that node had sent.
-use Rattle.std.proofs.Common.{◌≡◌, ℕ, ◌<◌, ◌≤◌, Bool, true, false, cond, ◌==◌, ◌&&◌, if◌then◌else◌, List, [], ◌∷◌, ◌++◌, length, take, find, slice_get, option_map, Option, Some, None, IsTrue, refl, sym, ap, ◌∙◌, arith, eqb-true, eq-eqb, take_all, le_refl}
+use Rattle.std.proofs.Common.{◌≡◌, ℕ, ◌<◌, Bool, true, false, ◌==◌, if◌then◌else◌, List, length, take, find, slice_get, option_map, Option, Some, None, refl, sym, ap, ◌∙◌, eqb-true, eq-eqb, take_all, le_refl}
 use Rattle.std.specs.FinSet as sets
 use Rattle.std.proofs.lemmas.Bool.{and_parts}
-use Rattle.std.proofs.lemmas.Option.{cond_some}
 use Rattle.quorum_sizes.specs.Sizes.{Counts}
 use Rattle.quorum_sizes.specs.NodeSets.{Nodes}
-use Rattle.role_commands.specs.Same.{same_command}
 use Rattle.role_commands.specs.declared.command.Command.{Command}
-use Rattle.link_frames.specs.Kinds.{same_kind}
 use Rattle.link_frames.specs.Packets.{PacketValue, message_of}
 use Rattle.link_frames.specs.declared.kind.Kind.{Kind}
 use Rattle.link_frames.specs.declared.kind.Kind.TheVariants.{Send, Echo, Ready}
-use Rattle.link_frames.specs.declared.packet.Message.{Message}
 use Rattle.bracha_instance.specs.Broadcast.{Take, command_of, is_of_kind, is_vote_of, is_for, vote, supporters, echoed, readied}
-use Rattle.bracha_instance.proofs.Exported.{same_command-true, same_command-refl, same_kind-true, vote_stays, echo_stays, ready_stays, contains-supporters}
+use Rattle.bracha_instance.proofs.Exported.{same_command-true, same_command-refl, same_kind-true, echo_stays, ready_stays, contains-supporters}
 use Rattle.role_node.specs.Configs.{ConfigValue}
-use Rattle.role_node.specs.Histories.{issued, packets}
+use Rattle.role_node.specs.Histories.{issued}
 use Rattle.role_node.specs.Access.{sent_at}
 use Rattle.byz_world.specs.Runs.{Run, history_of, is_correct, of_kind, has_sent, IsClusterRun}
 use Rattle.byz_world.proofs.Lists.{IsIn, IsFront, found_in, in_front, slice_get-front}
@@ -68,7 +64,7 @@ sent_before config liars run m node owner place t cluster from correct =
     let kind : p.kind ≡ t.kind = ap (λ x. x.kind) from.message_is in
     let command : p.command ≡ t.command = ap (λ x. x.command) from.message_is in
     let then' : said_by s (take from.at run) p.from p.kind p.owner p.place ≡ Some p.command =
-        said_then s (take from.at run) p (cluster.links from.at node p from.in_run (ap (is_correct s liars) name ∙ correct)) in
+    said_then s (take from.at run) p (cluster.links from.at node p from.in_run (ap (is_correct s liars) name ∙ correct)) in
     sym (λ i. said_by s (take from.at run) (name i) (kind i) (from.owner_is i) (from.place_is i)) ∙ then' ∙ ap Some command
 
 -- First votes.
@@ -141,15 +137,15 @@ echo_was_issued config liars run node owner place c cluster correct e =
     let found = send_found (taken_by run node owner place) c e in
     let t : Take = found.0 in
     let from : IsTakenIn run (length run) node owner place t =
-        taken_in (length run) run node owner place t (found.1.0, ap (λ x. slice_get (taken_by x node owner place) found.1.0) whole ∙ found.1.1) in
+    taken_in (length run) run node owner place t (found.1.0, ap (λ x. slice_get (taken_by x node owner place) found.1.0) whole ∙ found.1.1) in
     let sender : t.from ≡ owner =
-        sym (ap (λ x. x.from) from.message_is)
-        ∙ cluster.sends from.at node from.packet from.in_run (ap (λ x. x.kind) from.message_is ∙ found.2)
-        ∙ from.owner_is in
+    sym (ap (λ x. x.from) from.message_is)
+    ∙ cluster.sends from.at node from.packet from.in_run (ap (λ x. x.kind) from.message_is ∙ found.2)
+    ∙ from.owner_is in
     let sent : said_by s (take from.at run) owner Send owner place ≡ Some c =
-        sym (λ i. said_by s (take from.at run) (sender i) (found.2 i) owner place)
-        ∙ sent_before config liars run (length run) node owner place t cluster from (ap (is_correct s liars) sender ∙ correct)
-        ∙ ap Some found.3 in
+    sym (λ i. said_by s (take from.at run) (sender i) (found.2 i) owner place)
+    ∙ sent_before config liars run (length run) node owner place t cluster from (ap (is_correct s liars) sender ∙ correct)
+    ∙ ap Some found.3 in
     own_is (owner == owner) _ place c (eq-eqb owner owner refl) (said_stays s from.at run owner Send owner place c sent)
 
 -- Supporters.
