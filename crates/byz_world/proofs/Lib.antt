@@ -1,5 +1,13 @@
+pub mod Elements
+pub mod Sending
+pub mod Pushing
+pub mod Pooled
+pub mod Growing
 pub mod Lists
 pub mod Histories
 pub mod Votes
 pub mod Safety
+pub mod Policy
+pub mod Counts
+pub mod Rest
 pub mod Exported

@@ -6,3 +6,4 @@ pub mod Faults
 pub mod Resting
 pub mod Agreement
 pub mod Laws
+pub mod Inside
