@@ -1,5 +1,5 @@
 -- The history of a node in a run: how it goes on, and where what the node took comes from.
-use Rattle.std.proofs.Common.{◌≡◌, ℕ, ◌<◌, Bool, true, false, ◌==◌, ◌&&◌, if◌then◌else◌, List, take, slice_get, Some, Result, Err, refl, ap, ◌∙◌, eqb-true, ltb-true}
+use Rattle.std.proofs.Common.{◌≡◌, ℕ, ◌<◌, Bool, true, false, ◌==◌, ◌&&◌, if◌then◌else◌, List, take, slice_get, Some, Result, Err, refl, ap, ◌∙◌, eqb-true, ltb-true, take_all, le_refl, length}
 use Rattle.std.specs.List.{filter_map}
 use Rattle.std.proofs.lemmas.Bool.{and_parts}
 use Rattle.std.proofs.lemmas.Option.{cond_some}
@@ -8,7 +8,7 @@ use Rattle.bracha_instance.specs.Broadcast.{Take}
 use Rattle.bracha_instance.specs.declared.instance.Effect.{Effect}
 use Rattle.owner_streams.specs.Places.{take_of, take_at, takes_at}
 use Rattle.role_node.specs.Configs.{ConfigValue}
-use Rattle.role_node.specs.Histories.{command_in, packet_in, issued, packets}
+use Rattle.role_node.specs.Histories.{packet_in, packets}
 use Rattle.role_node.specs.Answers.{is_routed, unless_full, answered, is_recorded, IsLegal}
 use Rattle.role_node.specs.declared.event.Event.{Event}
 use Rattle.role_node.specs.declared.event.Event.TheVariants as event
@@ -28,15 +28,16 @@ pub history_front : (t : ℕ) (run : Run) (node : ℕ) → IsFront (history_of n
 unfolding history_of
 history_front t run node = front_picked (event_at node) (take t run) run (front_taken t run)
 
-pub issued_front : (t : ℕ) (run : Run) (node : ℕ)
-    → IsFront (issued (history_of node (take t run))) (issued (history_of node run))
-unfolding issued
-issued_front t run node = front_picked command_in _ _ (history_front t run node)
-
-pub taken_front : (t : ℕ) (run : Run) (node owner place : ℕ) → IsFront (taken_by (take t run) node owner place) (taken_by run node owner place)
+pub taken_front : (t : ℕ) (run : Run) (node owner place : ℕ)
+    → IsFront (taken_by (take t run) node owner place) (taken_by run node owner place)
 unfolding packets takes_at
 taken_front t run node owner place =
     front_picked (take_at owner place) _ _ (front_picked packet_in _ _ (history_front t run node))
+
+-- the whole run is its first events, as many as it has
+pub taken_whole : (run : Run) (node owner place : ℕ)
+    → taken_by (take (length run) run) node owner place ≡ taken_by run node owner place
+taken_whole run node owner place = ap (λ x. taken_by x node owner place) (take_all (length run) run (le_refl _))
 
 -- where a message comes from that the node took in the first m events of the run: the packet, and where the run and the
 -- node's history have it
@@ -76,10 +77,15 @@ taken_in m run node owner place t found =
     let from_packet : IsPicked (take_at owner place) (filter_map packet_in (history_of node (take m run))) t =
     picked_from (take_at owner place) _ t found.0 found.1 in
     let p = from_packet.0 in
-    let from_event : IsPicked packet_in (history_of node (take m run)) p = picked_from packet_in _ p from_packet.1.0 from_packet.1.1 in
+    let from_event : IsPicked packet_in (history_of node (take m run)) p =
+    picked_from packet_in _ p from_packet.1.0 from_packet.1.1 in
     let e : from_event.0 ≡ event.Take p = packet_of_event from_event.0 p from_event.2 in
     let from_run = pair_in m run node from_event.0 from_event.1 in
-    let in_history = in_front _ _ (event.Take p) (history_front m run node) (from_event.1.0, from_event.1.1 ∙ ap Some e) in
+    let in_history = in_front _ _ (event.Take p) (history_front m run node) (
+      from_event.1.0,
+      from_event.1.1
+          ∙ ap Some e,
+    ) in
     let at_place = cond_some (p.owner == owner && p.place == place) (take_of p) t from_packet.2 in
     let both = and_parts _ _ at_place.0 in
     record {
@@ -101,10 +107,16 @@ recorded_if : (routed full : Bool) (x : Result Effect NodeFault) (r : Reply) →
 recorded_if true full x r is = refl
 recorded_if false full x r is = absurd cc
 
-pub routed : (config : ConfigValue) (node : ℕ) (history : List Event) (k : ℕ) (p : PacketValue) → IsLegal config node history
-    → slice_get history k ≡ Some (event.Take p) → (p.to ≡ node) × (p.from < config.roles.sizes.nodes) × (p.owner < config.roles.sizes.nodes)
+pub routed : (config : ConfigValue) (node : ℕ) (history : List Event) (k : ℕ) (p : PacketValue)
+    → IsLegal config node history
+    → slice_get history k ≡ Some (event.Take p) → (p.to ≡ node) × (p.from < config.roles.sizes.nodes)
+    × (p.owner < config.roles.sizes.nodes)
 routed config node history k p legal there =
-    let is : is_routed config.roles.sizes node p ≡ true = recorded_if (is_routed config.roles.sizes node p) _ _ _ (legal k (event.Take p) there) in
+    let is : is_routed config.roles.sizes node p ≡ true =
+    recorded_if (is_routed config.roles.sizes node p) _ _ _ (legal k (event.Take p) there) in
     let parts = and_parts _ _ is in
-    let ends = and_parts _ _ parts.0 in
-    (eqb-true p.to node ends.0, ltb-true p.from config.roles.sizes.nodes ends.1, ltb-true p.owner config.roles.sizes.nodes parts.1)
+    let ends = and_parts _ _ parts.0 in (
+      eqb-true p.to node ends.0,
+      ltb-true p.from config.roles.sizes.nodes ends.1,
+      ltb-true p.owner config.roles.sizes.nodes parts.1,
+    )
