@@ -7,4 +7,11 @@ pub mod Ordered
 pub mod Making
 pub mod Numbering
 pub mod Recording
+pub mod Lists
+pub mod Histories
+pub mod Votes
+pub mod Safety
+pub mod Policy
+pub mod Counts
+pub mod Rest
 pub mod Exported

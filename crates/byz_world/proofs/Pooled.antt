@@ -31,11 +31,11 @@ use Rattle.byz_world.proofs.Pushing.{history_of-append, history_of-none, history
 
 -- A message was sent where its command is the one that was sent there.
 
-is_for_some : (c : Command) (o : Option Command) → is_for c o ≡ true → o ≡ Some c
+pub is_for_some : (c : Command) (o : Option Command) → is_for c o ≡ true → o ≡ Some c
 is_for_some c None e = absurd cc
 is_for_some c (Some d) e = ap Some (sym (bracha.same_command-true c d e))
 
-some_is_for : (c : Command) (o : Option Command) → o ≡ Some c → is_for c o ≡ true
+pub some_is_for : (c : Command) (o : Option Command) → o ≡ Some c → is_for c o ≡ true
 some_is_for c o e = ap (is_for c) e ∙ bracha.same_command-refl c
 
 pub has_sent_is : (s : Counts) (run : Run) (node : ℕ) (m : Message) → IsTrue (has_sent s run node m) →
