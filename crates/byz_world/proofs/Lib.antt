@@ -14,4 +14,8 @@ pub mod Safety
 pub mod Policy
 pub mod Counts
 pub mod Rest
+pub mod Idle
+pub mod Telling
+pub mod Stepping
+pub mod Settling
 pub mod Exported
