@@ -3,10 +3,13 @@
 //! `specs/Sizes.antt` has the limit on nodes and the three quorums.
 #![tactic(auto)]
 
+pub mod laws;
 mod name;
+mod node_set;
 mod sizes;
 
 pub use name::NodeName;
+pub use node_set::{NodeSet, quorums_meet};
 pub use sizes::{MOST_NODES, SizeFault, Sizes};
 
 #[cfg(test)]

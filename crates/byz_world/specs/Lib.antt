@@ -1,0 +1,11 @@
+pub mod Runs
+pub mod Pools
+pub mod Worlds
+pub mod Steps
+pub mod Faults
+pub mod Resting
+pub mod Agreement
+pub mod Laws
+pub mod Inside
+pub mod Fields
+pub mod Asking

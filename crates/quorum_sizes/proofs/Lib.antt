@@ -1,0 +1,4 @@
+pub mod NodeCounts
+pub mod NodeMasks
+pub mod SizeLaws
+pub mod Exported
