@@ -1,0 +1,18 @@
+//! A node that threads share: each call under its lock gives a receipt, and the receipts can be audited afterwards.
+//!
+//! `specs/Receipts.antt` says which outcome is due to a call, `specs/Seats.antt` what a caller's seat has seen and
+//! recorded, `specs/Holds.antt` what a call under the lock does, and `specs/Audits.antt` which receipts are true.
+#![tactic(auto)]
+
+mod asked;
+mod audits;
+mod locked;
+mod receipt;
+mod seat;
+mod shared;
+
+pub use audits::{AuditFault, audit};
+pub use locked::{Locked, StepFault};
+pub use receipt::{Call, Outcome, Receipt};
+pub use seat::{MOST_SEATS, Seat};
+pub use shared::{CloseFault, SharedNode, close};
