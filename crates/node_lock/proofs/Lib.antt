@@ -1,1 +1,4 @@
 pub mod Histories
+pub mod Dues
+pub mod Places
+pub mod Audited

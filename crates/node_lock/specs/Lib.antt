@@ -5,3 +5,6 @@ pub mod Texts
 pub mod Closes
 pub mod Audits
 pub mod Walks
+pub mod Hands
+pub mod Inboxes
+pub mod InboxFaults

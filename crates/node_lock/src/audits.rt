@@ -1,7 +1,8 @@
-ghost use Rattle.std.specs.Prelude.{◌≡◌, ◌<◌, ◌≤◌, ◌++◌, IsTrue, ◌↔◌, All, Some, IfOk, IfErr, OnOk};
+ghost use Rattle.std.specs.Prelude.{◌≡◌, ◌<◌, ◌≤◌, ◌++◌, length, slice_get, IsTrue, ◌↔◌, All, Some, IfOk, IfErr, OnOk};
 ghost use Rattle.std.specs.List.Sorted.{IsNonDecreasingBy};
-ghost use Rattle.role_node.specs.Nodes.{with_event};
-ghost use Rattle.node_lock.specs.Audits.{AreTrue, IsAuditFault};
+ghost use Rattle.role_node.specs.Answers.{is_recorded};
+ghost use Rattle.role_node.specs.Nodes.{new_node, due_at, with_event};
+ghost use Rattle.node_lock.specs.Audits.{node_at, AreTrue, IsAuditFault};
 ghost use Rattle.node_lock.specs.Walks.{receipts_of, IsRest, event_in, IsNext, IsEntryOf, IsTrueHere, recorded_in, AreRightHere, IsFaultHere};
 ghost use Rattle.node_lock.specs.declared.receipt.Receipt.{Receipt as ReceiptValue};
 
@@ -65,24 +66,58 @@ pub fn audit(alloc: Global, node: &Node, receipts: &[Receipt]) -> Result<(), Aud
     ensures ok { OnOk result (AreTrue node.now receipts.now) }
     ensures err { IfErr result (IsAuditFault node.now receipts.now) }
 {
-    let sorted = by_place(alloc, receipts)?;
     let mut replay = Node::new(alloc, node.config().copy(alloc)?, node.me())?;
-    let entries = node.history();
-    let mut rest = sorted.as_slice();
-    for place in 0..entries.len() {
-        let entry = entries[place];
-        let (here, later) = split_at_place(rest, place as u32);
-        check_place(&mut replay, &Some(entry), here, place as u32)?;
-        advance(&mut replay, &entry)?;
-        rest = later;
+    replayed(alloc, node, receipts, &mut replay)
+}
+
+/// Applies the node's events to a new node, and checks the receipts for each place on the way.
+fn replayed(
+    alloc: Global,
+    node: &Node,
+    receipts: &[Receipt],
+    replay: &mut Node,
+) -> Result<(), AuditFault>
+    requires { replay.old ≡ new_node node.now.config node.now.me }
+    ensures ok { OnOk result (AreTrue node.now receipts.now) }
+    ensures err { IfErr result (IsAuditFault node.now receipts.now) }
+{
+    let sorted = by_place(alloc, receipts)?;
+    let sorted = sorted.as_slice();
+    let end = end_of(node);
+    let mut done = 0;
+    for place in 0..end {
+        let (here, _) = split_at_place(&sorted[done..], place);
+        if let Err(fault) = check_place(replay, &Some(entry_at(node, place)), here, place) {
+            return Err(fault);
+        }
+        advance(replay, entry_at(node, place).event)?;
+        done += here.len();
     }
-    let end = entries.len() as u32;
-    let (here, later) = split_at_place(rest, end);
-    check_place(&mut replay, &None, here, end)?;
-    match later.first() {
-        Some(past) => Err(AuditFault::Differs(past.place)),
+    let (here, past) = split_at_place(&sorted[done..], end);
+    if let Err(fault) = check_place(replay, &None, here, end) {
+        return Err(fault);
+    }
+    match past.first() {
+        Some(receipt) => Err(AuditFault::Differs(receipt.place)),
         None => Ok(()),
     }
+}
+
+/// The length of the history.
+fn end_of(node: &Node) -> u32
+    ensures { result ≡ length node.now.history }
+{
+    let _most = node.config().roles();
+    node.history().len() as u32
+}
+
+/// The entry at a place of the history.
+fn entry_at(node: &Node, place: u32) -> Entry
+    requires { place < length node.now.history }
+    ensures event { slice_get node.now.history place ≡ Some result.event }
+    ensures next { IsNext (node_at node.now place) (Some result) }
+{
+    node.history()[place as usize]
 }
 
 /// The receipts in the order of their places.
@@ -196,12 +231,12 @@ fn is_recorded_here(entry: &Option<Entry>, event: &Event, outcome: &Outcome) -> 
     }
 }
 
-/// Applies the next entry's event.
-fn advance(replay: &mut Node, entry: &Entry) -> Result<(), AllocError>
-    requires { IsNext replay.old (Some entry.now) }
-    ensures { OnOk result (replay.new ≡ with_event replay.old entry.now.event) }
+/// Applies an event that is recorded.
+fn advance(replay: &mut Node, event: Event) -> Result<(), AllocError>
+    requires { IsTrue (is_recorded (due_at replay.old event)) }
+    ensures { OnOk result (replay.new ≡ with_event replay.old event) }
 {
-    match replay.apply(entry.event) {
+    match replay.apply(event) {
         Ok(_) => Ok(()),
         Err(_) => Err(AllocError),
     }

@@ -6,12 +6,14 @@
 
 mod asked;
 mod audits;
+mod inbox;
 mod locked;
 mod receipt;
 mod seat;
 mod shared;
 
 pub use audits::{AuditFault, audit};
+pub use inbox::{INBOX_CAPACITY, Inbox, InboxFault, InboxPass, Job, MOST_PASSES};
 pub use locked::{Locked, StepFault};
 pub use receipt::{Call, Outcome, Receipt};
 pub use seat::{MOST_SEATS, Seat};
