@@ -2,3 +2,4 @@ pub mod Histories
 pub mod Dues
 pub mod Places
 pub mod Audited
+pub mod Hauls

@@ -2,7 +2,7 @@
 -- contract.
 use Rattle.std.specs.Prelude.{◌≡◌, ℕ, ◌+◌, ◌-◌, Bool, List, [], ◌∷◌, ◌++◌, All, sum_by, count_by}
 use Rattle.node_lock.specs.declared.inbox.Hand.{Hand}
-use Rattle.node_lock.specs.declared.inbox.Job.{Job}
+use Rattle.node_lock.specs.declared.job.Job.{Job}
 
 -- the parts that all passes of an inbox hold together
 abbrev pub all_parts : ℕ

@@ -1,7 +1,7 @@
 -- What contracts see of the passes of an inbox.
 use Rattle.std.specs.Prelude.{◌≡◌, ℕ, ◌+◌, Bool, List, [], ◌∷◌, ◌++◌, sum_by, count_by}
 use Rattle.atomic_table.specs.Seated.{TableId}
-use Rattle.node_lock.specs.declared.inbox.Job.{Job}
+use Rattle.node_lock.specs.declared.job.Job.{Job}
 
 -- the inbox that it is of, how many of the inbox's parts it holds, and the jobs that it put and took, oldest first
 pub record Passing : Type 0 where

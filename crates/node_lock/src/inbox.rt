@@ -1,11 +1,12 @@
-ghost use Rattle.std.specs.Prelude.{◌≡◌, ◌≢◌, ◌+◌, ◌<◌, ◌≤◌, ◌==◌, [], All, sum_by, count_by, length, IfOk, IfErr, OnOk, MatchOption, vec_len};
+ghost use Rattle.std.specs.Prelude.{◌≡◌, ◌≢◌, ◌+◌, ◌<◌, ◌≤◌, ◌==◌, [], ◌∷◌, ◌++◌, Bool, All, sum_by, count_by, IfOk, IfErr, OnOk, MatchOption, vec_len};
 ghost use Rattle.std.specs.Vec.{vec_capacity};
 ghost use Rattle.crossbeam_queue.specs.Passes.{view, IsPassOf, ruled_capacity};
 ghost use Rattle.node_lock.specs.Hands.{all_parts, put_in, taken_in, IsEven};
 ghost use Rattle.node_lock.specs.Inboxes.{Passing, inbox_capacity, inbox_parts, most_passes, parts_of, after_put, after_take, IsPassTo, IsNewPassTo, AreAllPasses, AreSettled};
 ghost use Rattle.node_lock.specs.InboxFaults.{inbox_in, passes_in, IsInboxFault};
+ghost use Rattle.node_lock.specs.declared.job.Job.{Job as JobValue};
 
-use crate::receipt::Call;
+use crate::job::Job;
 use crossbeam_queue::protocol::{Join, Lesson, Outcome, Protocol, Split};
 use crossbeam_queue::{Pass, RuledArrayQueue};
 use std::alloc::{AllocError, Global};
@@ -21,13 +22,6 @@ pub const MOST_PASSES: u8 = 96;
 
 /// The parts of an inbox. One pass has those that no other has.
 const INBOX_PARTS: u16 = 256;
-
-/// A call that waits for a worker, with a number by which its giver knows it.
-#[derive(Clone, Copy, Debug, PartialEq, Eq, Hash)]
-pub struct Job {
-    pub number: u32,
-    pub call: Call,
-}
 
 /// What a pass holds, put and took. No value of it is made.
 pub struct Hand {
@@ -186,7 +180,7 @@ impl Inbox {
     {
         let (queue, mut first) = Queue::ruled(alloc, INBOX_CAPACITY)?;
         let mut made = Vec::new(alloc);
-        for _ in 1..passes {
+        for _number in 1..passes {
             let pass = queue.another::<Cut>(&mut first);
             made.push(InboxPass { pass, parts: 1 })?;
         }
@@ -215,4 +209,93 @@ impl Inbox {
     {
         self.queue.pop_as::<Takes, R>(rt, &mut pass.pass)
     }
+
+    /// The jobs that are left, oldest first. Every pass must be of this inbox.
+    ///
+    /// # Errors
+    ///
+    /// A pass is absent; then want of memory. Inbox and passes are handed back.
+    pub fn finish<R: Wait>(
+        self,
+        rt: &R,
+        alloc: Global,
+        mut passes: Vec<InboxPass>,
+    ) -> Result<Vec<Job>, InboxFault>
+        requires { All (IsPassTo self) passes.items }
+        ensures all { IfOk result (λ _. AreAllPasses passes.items) }
+        ensures ok { IfOk result (λ left. AreSettled passes.items left.items) }
+        ensures err { IfErr result (IsInboxFault passes.items) }
+        ensures inbox { IfErr result (λ fault. inbox_in fault ≡ self) }
+        ensures passes { IfErr result (λ fault. passes_in fault ≡ passes.items) }
+    {
+        if !are_all(&passes) {
+            return Err(InboxFault::PassMissing {
+                inbox: self,
+                passes,
+            });
+        }
+        let Ok(left) = Vec::with_capacity(alloc, INBOX_CAPACITY) else {
+            return Err(InboxFault::Memory {
+                inbox: self,
+                passes,
+            });
+        };
+        let Inbox { queue } = self;
+        let Some(last) = passes.pop() else {
+            unreachable!()
+        };
+        let InboxPass { pass, parts: _ } = last;
+        let all = merged(&queue, passes, pass);
+        Ok(drained(rt, &queue, all, left))
+    }
+}
+
+/// Whether no pass is absent.
+fn are_all(passes: &[InboxPass]) -> bool
+    ensures { result ≡ (sum_by parts_of passes.now == inbox_parts) }
+{
+    let mut sum = 0u32;
+    for pass in passes {
+        sum += pass.parts as u32;
+        if sum > INBOX_PARTS as u32 {
+            return false;
+        }
+    }
+    sum == INBOX_PARTS as u32
+}
+
+/// All these passes as one.
+fn merged(queue: &Queue, mut passes: Vec<InboxPass>, mut all: Pass<Job, Hand>) -> Pass<Job, Hand>
+    requires all { IsPassOf queue.now all }
+    requires some { 0 < (view all).parts }
+    requires passes { All (IsPassTo queue.now.table.shared.table_id) passes.items }
+    ensures pass { IsPassOf queue.now result }
+    ensures parts { (view result).parts ≡ (view all).parts + sum_by parts_of passes.items }
+    ensures put { (test : JobValue → Bool) → put_in test (view result) ≡ put_in test (view all) + sum_by (λ (p : Passing). count_by test p.put) passes.items }
+    ensures taken { (test : JobValue → Bool) → taken_in test (view result) ≡ taken_in test (view all) + sum_by (λ (p : Passing). count_by test p.taken) passes.items }
+{
+    while let Some(next) = passes.pop() {
+        let InboxPass { pass, parts: _ } = next;
+        queue.absorb::<Cut>(&mut all, pass);
+    }
+    all
+}
+
+/// The jobs left in the queue, for the pass that holds all parts.
+fn drained<R: Wait>(rt: &R, queue: &Queue, mut all: Pass<Job, Hand>, mut left: Vec<Job>) -> Vec<Job>
+    requires pass { IsPassOf queue.now all }
+    requires parts { (view all).parts ≡ all_parts }
+    requires empty { left.items ≡ [] }
+    requires room { (inbox_capacity ≤ vec_capacity left) × (ruled_capacity queue.now ≡ inbox_capacity) }
+    ensures { IsEven (view all) result.items }
+{
+    let count = queue.len_as::<Drains, R>(rt, &mut all);
+    for _i in 0..count {
+        let Some(job) = queue.pop_as::<Drains, R>(rt, &mut all) else {
+            return left;
+        };
+        left.push_reserved(job);
+    }
+    queue.learn_as::<Drains>(&mut all);
+    left
 }

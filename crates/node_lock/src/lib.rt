@@ -7,13 +7,15 @@
 mod asked;
 mod audits;
 mod inbox;
+mod job;
 mod locked;
 mod receipt;
 mod seat;
 mod shared;
 
 pub use audits::{AuditFault, audit};
-pub use inbox::{INBOX_CAPACITY, Inbox, InboxFault, InboxPass, Job, MOST_PASSES};
+pub use inbox::{INBOX_CAPACITY, Inbox, InboxFault, InboxPass, MOST_PASSES};
+pub use job::Job;
 pub use locked::{Locked, StepFault};
 pub use receipt::{Call, Outcome, Receipt};
 pub use seat::{MOST_SEATS, Seat};

@@ -1,6 +1,5 @@
-ghost use Rattle.std.specs.Prelude.{◌≡◌, ◌<◌, ◌≤◌, [], ◌∷◌, ◌++◌, length, IsTrue, IfOk, IfErr, OnOk, OnErr, MatchResult, vec_len};
+ghost use Rattle.std.specs.Prelude.{◌≡◌, ◌<◌, ◌≤◌, [], length, IsTrue, IfOk, IfErr, OnOk, OnErr, MatchResult};
 ghost use Rattle.role_node.specs.Configs.{most_events};
-ghost use Rattle.std.specs.Vec.{vec_capacity};
 ghost use Rattle.role_node.specs.Answers.{is_recorded};
 ghost use Rattle.role_node.specs.Nodes.{IsLegalNode, due_at};
 ghost use Rattle.node_lock.specs.Receipts.{outcome_due};
@@ -174,7 +173,7 @@ impl<L: Ledger> Locked<L> {
         let Ok(reply) = self.node.apply(event) else {
             return Err(StepFault::Memory);
         };
-        push_reserved(&mut self.by, number);
+        self.by.push_reserved(number);
         self.counts[number as usize] += 1;
         seat.record(&mut self.book, place + 1);
         Ok(Receipt {
@@ -245,12 +244,4 @@ impl<L: Ledger> Locked<L> {
             outcome,
         })
     }
-}
-
-/// Puts a number at the end, where there is room for it.
-fn push_reserved(numbers: &mut Vec<u8>, number: u8)
-    requires { vec_len numbers.old < vec_capacity numbers.old }
-    ensures { numbers.new.items ≡ numbers.old.items ++ number ∷ [] }
-{
-    let _ = numbers.push(number);
 }
