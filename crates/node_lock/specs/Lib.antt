@@ -8,3 +8,5 @@ pub mod Walks
 pub mod Hands
 pub mod Inboxes
 pub mod InboxFaults
+pub mod Pools
+pub mod PoolTexts

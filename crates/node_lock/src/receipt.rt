@@ -45,6 +45,17 @@ impl Call {
     {
         Call::Step(*event)
     }
+
+    /// Whether two calls are equal.
+    pub(crate) fn equals(&self, other: &Call) -> bool
+        ensures { IsTrue result ↔ (self.now ≡ other.now) }
+    {
+        match (self, other) {
+            (Call::Step(a), Call::Step(b)) => *a == *b,
+            (Call::Ask(a), Call::Ask(b)) => *a == *b,
+            _ => false,
+        }
+    }
 }
 
 impl Outcome {

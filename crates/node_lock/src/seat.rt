@@ -81,7 +81,7 @@ impl<L: Ledger> Seat<L> {
     {
         book.add(&mut self.share, 1);
         self.recorded += 1;
-        self.seen = end;
+        self.see(end);
     }
 
     /// Its share, which is one part, with what it recorded as the amount.

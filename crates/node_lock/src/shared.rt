@@ -42,7 +42,8 @@ impl<L: Ledger> SharedNode<L> {
         requires parts { (blank.parts ≡ L.parts) × (seats ≡ L.parts) }
         requires seats { (0 < seats) × (seats ≤ most_seats) }
         requires empty { node.history ≡ [] }
-        ensures { IfOk result (λ made. made.1.items ≡ new_seats seats) }
+        ensures seats { IfOk result (λ made. made.1.items ≡ new_seats seats) }
+        ensures count { IfOk result (λ made. vec_len made.1 ≡ seats) }
     {
         let (book, mut all) = blank.open::<L>();
         let mut made = Vec::new(alloc);
