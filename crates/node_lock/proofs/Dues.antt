@@ -1,0 +1,76 @@
+-- What is due at a place of a legal history, and which receipts are true there.
+use Rattle.std.proofs.Common.{◌≡◌, ℕ, ◌+◌, ◌<◌, ◌≤◌, Bool, true, false, List, [], ◌∷◌, ◌++◌, length, take, map, Option, Some, None, Result, Ok, Err, refl, sym, ap, ◌∙◌, subst, arith}
+use Rattle.std.specs.Prelude.{slice_get, option_map, IsTrue}
+use Rattle.std.proofs.lemmas.List.{take_more}
+use Rattle.std.proofs.lemmas.Option.{slice_get-map, slice_get_within, get_or_from_slice_get}
+use Rattle.role_node.specs.Answers.{is_recorded}
+use Rattle.role_node.specs.Nodes.{NodeValue, due_at, with_event, IsLegalNode, AreRepliesOf}
+use Rattle.role_node.specs.Kept.{event_of}
+use Rattle.role_node.specs.declared.event.Entry.{Entry}
+use Rattle.role_node.specs.declared.event.Event.{Event}
+use Rattle.role_node.specs.declared.event.Reply.{Reply}
+use Rattle.role_node.specs.declared.faults.NodeFault.{NodeFault}
+use Rattle.node_lock.specs.Receipts.{outcome_from, outcome_due, is_recorded_outcome}
+use Rattle.node_lock.specs.Audits.{node_at, IsEventOf}
+use Rattle.node_lock.specs.Walks.{event_in, IsNext, IsEntryOf, IsTrueHere}
+use Rattle.node_lock.specs.declared.receipt.Call.{Call}
+use Rattle.node_lock.specs.declared.receipt.Call.TheVariants.{Step, Ask}
+use Rattle.node_lock.specs.declared.receipt.Outcome.{Outcome}
+use Rattle.node_lock.specs.declared.receipt.Outcome.TheVariants.{Reply as Replied}
+use Rattle.node_lock.specs.declared.receipt.Receipt.{Receipt}
+
+pub recorded_outcome : (due : Result Reply NodeFault) → is_recorded_outcome (outcome_from due) ≡ is_recorded due
+recorded_outcome (Ok reply) = refl
+recorded_outcome (Err fault) = refl
+
+-- a true receipt of a call that records the event says so
+says_recorded : (node : NodeValue) (r : Receipt) (event : Event) → r.call ≡ Step event →
+    is_recorded (due_at node event) ≡ true → r.outcome ≡ outcome_due node r.call → IsTrue (is_recorded_outcome r.outcome)
+says_recorded node r event call recorded outcome =
+    ap is_recorded_outcome (outcome ∙ ap (outcome_due node) call) ∙ recorded_outcome (due_at node event) ∙ recorded
+
+-- where the call's event is recorded, its receipt is true exactly where it tells the entry
+pub recorded_here : (node : NodeValue) (entry : Option Entry) (r : Receipt) (event : Event) → r.call ≡ Step event →
+    IsNext node entry → is_recorded (due_at node event) ≡ true →
+    (IsEntryOf entry event r.outcome → IsTrueHere node (event_in entry) r)
+    × (IsTrueHere node (event_in entry) r → IsEntryOf entry event r.outcome)
+recorded_here node None r event call next recorded =
+    let P : Call → Type 0 = λ call'. IsEventOf None call' in (
+      (λ h. absurd h),
+      (λ h. let e = subst P call (h.event (says_recorded node r event call recorded h.outcome)) in absurd cc),
+    )
+recorded_here node (Some entry) r event call next recorded =
+    let P : Call → Type 0 = λ call'. IsEventOf (Some entry.event) call' in (
+      (λ h.
+          let due : due_at node event ≡ Ok entry.reply = ap (due_at node) (sym h.0) ∙ next.0 in
+          let told : outcome_due node r.call ≡ Replied entry.reply = ap (outcome_due node) call ∙ ap outcome_from due in
+          record {
+            outcome = sym h.1 ∙ sym told;
+            event = λ _. subst P (sym call) (ap Some h.0);
+          }),
+      (λ h.
+          let same : Some entry.event ≡ Some event = subst P call (h.event (says_recorded node r event call recorded h.outcome)) in
+          let is : entry.event ≡ event = cc in
+          let due : due_at node event ≡ Ok entry.reply = ap (due_at node) (sym is) ∙ next.0 in
+          let told : outcome_due node r.call ≡ Replied entry.reply = ap (outcome_due node) call ∙ ap outcome_from due in
+          (is, sym told ∙ sym h.outcome)),
+    )
+
+-- the entry at a place is the one that was due there
+pub next_entry : (node : NodeValue) (entries : List Entry) (place : ℕ) (entry : Entry) → map event_of entries ≡ node.history →
+    AreRepliesOf node entries → IsLegalNode node → slice_get entries place ≡ Some entry → IsNext (node_at node place) (Some entry)
+next_entry node entries place entry same replies legal at =
+    let event : slice_get node.history place ≡ Some entry.event =
+    ap (λ es. slice_get es place) (sym same) ∙ slice_get-map event_of entries place ∙ ap (option_map event_of) at in
+    let due = replies place entry at in
+    (due, ap is_recorded (sym due) ∙ legal place entry.event event)
+
+-- the history as far as the next place
+pub one_further : (node : NodeValue) (place : ℕ) (event : Event) → slice_get node.history place ≡ Some event →
+    with_event (node_at node place) event ≡ node_at node (place + 1)
+one_further node place event at =
+    let inside : place < length node.history = slice_get_within node.history place event at in
+    let more : take (place + 1) node.history ≡ take place node.history ++ event ∷ [] =
+    take_more node.history place event inside
+    ∙ ap (λ (e : Event). take place node.history ++ e ∷ []) (get_or_from_slice_get node.history place event event at) in
+    ap (λ (h : List Event). let n : NodeValue = record { config = node.config; me = node.me; history = h } in n) (sym more)

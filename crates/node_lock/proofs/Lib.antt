@@ -1,0 +1,5 @@
+pub mod Histories
+pub mod Dues
+pub mod Places
+pub mod Audited
+pub mod Hauls

@@ -1,0 +1,16 @@
+use Rattle.std.proofs.Common.{◌≡◌, ◌<◌, length, sym, ap, ◌∙◌, subst, arith, refl, Some, Ok}
+use Rattle.std.specs.Prelude.{slice_get, IsTrue}
+use Rattle.std.proofs.lemmas.Option.{slice_get_read, slice_get-map}
+use Rattle.role_node.specs.Answers.{is_recorded, answer_due}
+use Rattle.role_node.specs.Kept.{event_of}
+use Rattle.role_node.proofs.Entries.{events-length}
+use Rattle.node_lock.proofs.Dues.{next_entry}
+use Rattle.node_lock.proofs.audits.entry_at.Goals as goal
+
+pub returns-clause-next : goal.returns-clause-next
+returns-clause-next c =
+    let entries = c.history.result.now in
+    let len : length entries ≡ length c.args.node.now.history = sym (events-length entries) ∙ ap length c.history.ensures.events in
+    next_entry c.args.node.now entries c.args.place c.index-history-place.result c.history.ensures.events
+    c.history.ensures.replies c.history.ensures.legal
+    (slice_get_read entries (length entries) c.args.place c.index-history-place.result refl (omega arith) c.index-history-place.is)

@@ -1,0 +1,12 @@
+pub mod Receipts
+pub mod Seats
+pub mod Holds
+pub mod Texts
+pub mod Closes
+pub mod Audits
+pub mod Walks
+pub mod Hands
+pub mod Inboxes
+pub mod InboxFaults
+pub mod Pools
+pub mod PoolTexts

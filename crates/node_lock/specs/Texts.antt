@@ -1,0 +1,18 @@
+-- How a fault is written.
+use Rattle.std.specs.Prelude.{ℕ, List, ◌++◌, codes}
+use Rattle.std.specs.Fmt.{decimal}
+use Rattle.node_lock.specs.declared.audits.AuditFault.{AuditFault}
+use Rattle.node_lock.specs.declared.audits.AuditFault.TheVariants as audit
+use Rattle.node_lock.specs.declared.locked.StepFault.{StepFault}
+use Rattle.node_lock.specs.declared.locked.StepFault.TheVariants.{Behind, Strange, Memory}
+
+abbrev pub step_fault_text : StepFault → List ℕ
+step_fault_text (Behind seen found) = codes "Y1 Behind " ++ decimal seen ++ codes " " ++ decimal found
+step_fault_text (Strange recorded found) = codes "Y2 Strange " ++ decimal recorded ++ codes " " ++ decimal found
+step_fault_text Memory = codes "out of memory"
+
+abbrev pub audit_fault_text : AuditFault → List ℕ
+audit_fault_text (audit.Missing place) = codes "Z2 Missing " ++ decimal place
+audit_fault_text (audit.Doubled place) = codes "Z4 Doubled " ++ decimal place
+audit_fault_text (audit.Differs place) = codes "Z3 Differs " ++ decimal place
+audit_fault_text audit.Memory = codes "out of memory"

@@ -1,0 +1,243 @@
+ghost use Rattle.std.specs.Prelude.{◌≡◌, ◌<◌, ◌≤◌, ◌++◌, length, slice_get, IsTrue, ◌↔◌, All, Some, IfOk, IfErr, OnOk};
+ghost use Rattle.std.specs.List.Sorted.{IsNonDecreasingBy};
+ghost use Rattle.role_node.specs.Answers.{is_recorded};
+ghost use Rattle.role_node.specs.Nodes.{new_node, due_at, with_event};
+ghost use Rattle.node_lock.specs.Audits.{node_at, AreTrue, IsAuditFault};
+ghost use Rattle.node_lock.specs.Walks.{receipts_of, IsRest, event_in, IsNext, IsEntryOf, IsTrueHere, recorded_in, AreRightHere, IsFaultHere};
+ghost use Rattle.node_lock.specs.declared.receipt.Receipt.{Receipt as ReceiptValue};
+
+use crate::asked::asked;
+use crate::receipt::{Call, Outcome, Receipt};
+use role_node::{Entry, Event, Node};
+use std::alloc::{AllocError, Global};
+use std::error::Error;
+use std::fmt;
+
+/// What an audit found wrong, at the least wrong place of the history.
+#[derive(Clone, Copy, Debug, PartialEq, Eq, Hash)]
+pub enum AuditFault {
+    /// No receipt is of the event that was recorded at this place.
+    Missing(u32),
+    /// More than one receipt is.
+    Doubled(u32),
+    /// A receipt for this place is not true of the history.
+    Differs(u32),
+    /// Memory is wanting.
+    Memory,
+}
+
+impl fmt::Display for AuditFault {
+    ghost use Rattle.std.specs.Prelude.{Some};
+    ghost use Rattle.node_lock.specs.Texts.{audit_fault_text};
+
+    ghost output = { λ fault. Some (audit_fault_text fault) };
+
+    fn fmt<W: fmt::Write>(&self, f: &mut fmt::Formatter<W>) -> fmt::Result {
+        match self {
+            AuditFault::Missing(place) => write!(f, "Z2 Missing {place}"),
+            AuditFault::Doubled(place) => write!(f, "Z4 Doubled {place}"),
+            AuditFault::Differs(place) => write!(f, "Z3 Differs {place}"),
+            AuditFault::Memory => write!(f, "out of memory"),
+        }
+    }
+}
+
+impl Error for AuditFault {}
+
+impl From<AllocError> for AuditFault {
+    ghost use Rattle.std.specs.Prelude.{◌≡◌};
+    ghost use Rattle.node_lock.specs.declared.audits.AuditFault.TheVariants.{Memory};
+
+    ghost from_gives = { λ _ fault. fault ≡ Memory };
+
+    fn from(_: AllocError) -> Self {
+        AuditFault::Memory
+    }
+}
+
+/// Whether every receipt is true of the node's history, and each of its places has exactly one receipt of a recorded
+/// event. It replays the history once, and goes once over the receipts, which it sorts by place.
+///
+/// # Errors
+///
+/// At the least wrong place: no receipt is of its event; then more than one is; then a receipt is not true, as is one
+/// past the history, or of a recorded event at its end. Want of memory may come before a fault that is not yet met.
+pub fn audit(alloc: Global, node: &Node, receipts: &[Receipt]) -> Result<(), AuditFault>
+    ensures ok { OnOk result (AreTrue node.now receipts.now) }
+    ensures err { IfErr result (IsAuditFault node.now receipts.now) }
+{
+    let mut replay = Node::new(alloc, node.config().copy(alloc)?, node.me())?;
+    replayed(alloc, node, receipts, &mut replay)
+}
+
+/// Applies the node's events to a new node, and checks the receipts for each place on the way.
+fn replayed(
+    alloc: Global,
+    node: &Node,
+    receipts: &[Receipt],
+    replay: &mut Node,
+) -> Result<(), AuditFault>
+    requires { replay.old ≡ new_node node.now.config node.now.me }
+    ensures ok { OnOk result (AreTrue node.now receipts.now) }
+    ensures err { IfErr result (IsAuditFault node.now receipts.now) }
+{
+    let sorted = by_place(alloc, receipts)?;
+    let sorted = sorted.as_slice();
+    let end = end_of(node);
+    let mut done = 0;
+    for place in 0..end {
+        let (here, _) = split_at_place(&sorted[done..], place);
+        if let Err(fault) = check_place(replay, &Some(entry_at(node, place)), here, place) {
+            return Err(fault);
+        }
+        advance(replay, entry_at(node, place).event)?;
+        done += here.len();
+    }
+    let (here, past) = split_at_place(&sorted[done..], end);
+    if let Err(fault) = check_place(replay, &None, here, end) {
+        return Err(fault);
+    }
+    match past.first() {
+        Some(receipt) => Err(AuditFault::Differs(receipt.place)),
+        None => Ok(()),
+    }
+}
+
+/// The length of the history.
+fn end_of(node: &Node) -> u32
+    ensures { result ≡ length node.now.history }
+{
+    let _most = node.config().roles();
+    node.history().len() as u32
+}
+
+/// The entry at a place of the history.
+fn entry_at(node: &Node, place: u32) -> Entry
+    requires { place < length node.now.history }
+    ensures event { slice_get node.now.history place ≡ Some result.event }
+    ensures next { IsNext (node_at node.now place) (Some result) }
+{
+    node.history()[place as usize]
+}
+
+/// The receipts in the order of their places.
+fn by_place<'a>(alloc: Global, receipts: &'a [Receipt]) -> Result<Vec<&'a Receipt>, AllocError>
+    ensures { IfOk result (λ sorted. IsRest receipts.now 0 (receipts_of sorted.items)) }
+{
+    let mut sorted = Vec::new(alloc);
+    for receipt in receipts {
+        sorted.push(receipt)?;
+    }
+    sorted.sort_unstable_by_key(|receipt| receipt.place);
+    Ok(sorted)
+}
+
+/// The receipts for a place, and those for later ones, where none is for an earlier one.
+fn split_at_place<'a, 'b>(
+    rest: &'b [&'a Receipt],
+    place: u32,
+) -> (&'b [&'a Receipt], &'b [&'a Receipt])
+    requires ordered { IsNonDecreasingBy (λ (r : ReceiptValue). r.place) (receipts_of rest.now) }
+    requires low { All (λ (r : ReceiptValue). place ≤ r.place) (receipts_of rest.now) }
+    ensures whole { receipts_of rest.now ≡ receipts_of result.0.now ++ receipts_of result.1.now }
+    ensures here { All (λ (r : ReceiptValue). r.place ≡ place) (receipts_of result.0.now) }
+    ensures later { All (λ (r : ReceiptValue). place < r.place) (receipts_of result.1.now) }
+{
+    let mut count = 0;
+    for receipt in rest {
+        if receipt.place != place {
+            break;
+        }
+        count += 1;
+    }
+    rest.split_at(count)
+}
+
+/// Whether one receipt is of the place's event, and all receipts here are true. The node has the history before it.
+fn check_place(
+    replay: &mut Node,
+    entry: &Option<Entry>,
+    here: &[&Receipt],
+    place: u32,
+) -> Result<(), AuditFault>
+    requires { IsNext replay.old entry.now }
+    ensures ok { OnOk result (AreRightHere replay.old (event_in entry.now) (receipts_of here.now)) }
+    ensures err { IfErr result (IsFaultHere replay.old (event_in entry.now) (receipts_of here.now) place) }
+    ensures same { replay.new ≡ replay.old }
+{
+    if entry.is_some() {
+        let recorded = count_recorded(here);
+        if recorded == 0 {
+            return Err(AuditFault::Missing(place));
+        }
+        if recorded > 1 {
+            return Err(AuditFault::Doubled(place));
+        }
+    }
+    if are_true(replay, entry, here)? {
+        Ok(())
+    } else {
+        Err(AuditFault::Differs(place))
+    }
+}
+
+fn count_recorded(receipts: &[&Receipt]) -> usize
+    ensures { result ≡ recorded_in (receipts_of receipts.now) }
+{
+    receipts
+        .iter()
+        .filter(|receipt| receipt.outcome.is_recorded())
+        .count()
+}
+
+/// Whether all receipts here are true.
+fn are_true(replay: &mut Node, entry: &Option<Entry>, here: &[&Receipt]) -> Result<bool, AllocError>
+    requires { IsNext replay.old entry.now }
+    ensures all { IfOk result (λ yes. IsTrue yes ↔ All (IsTrueHere replay.old (event_in entry.now)) (receipts_of here.now)) }
+    ensures same { replay.new ≡ replay.old }
+{
+    for receipt in here {
+        if !is_true(replay, entry, receipt)? {
+            return Ok(false);
+        }
+    }
+    Ok(true)
+}
+
+/// Whether a receipt is true here.
+fn is_true(replay: &mut Node, entry: &Option<Entry>, receipt: &Receipt) -> Result<bool, AllocError>
+    requires { IsNext replay.old entry.now }
+    ensures is { IfOk result (λ yes. IsTrue yes ↔ IsTrueHere replay.old (event_in entry.now) receipt.now) }
+    ensures same { replay.new ≡ replay.old }
+{
+    match receipt.call {
+        Call::Ask(question) => Ok(asked(replay, question)?.equals(&receipt.outcome)),
+        Call::Step(event) => {
+            if replay.records(&event) {
+                return Ok(is_recorded_here(entry, &event, &receipt.outcome));
+            }
+            Ok(Outcome::from_reply(replay.apply(event)).equals(&receipt.outcome))
+        }
+    }
+}
+
+/// Whether the entry is of this event, and its reply is the outcome.
+fn is_recorded_here(entry: &Option<Entry>, event: &Event, outcome: &Outcome) -> bool
+    ensures { IsTrue result ↔ IsEntryOf entry.now event.now outcome.now }
+{
+    match entry {
+        Some(entry) => entry.event == *event && Outcome::Reply(entry.reply).equals(outcome),
+        None => false,
+    }
+}
+
+/// Applies an event that is recorded.
+fn advance(replay: &mut Node, event: Event) -> Result<(), AllocError>
+    requires { IsTrue (is_recorded (due_at replay.old event)) }
+    ensures { OnOk result (replay.new ≡ with_event replay.old event) }
+{
+    match replay.apply(event) {
+        Ok(_) => Ok(()),
+        Err(_) => Err(AllocError),
+    }
+}

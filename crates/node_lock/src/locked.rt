@@ -1,0 +1,247 @@
+ghost use Rattle.std.specs.Prelude.{◌≡◌, ◌<◌, ◌≤◌, [], length, IsTrue, IfOk, IfErr, OnOk, OnErr, MatchResult};
+ghost use Rattle.role_node.specs.Configs.{most_events};
+ghost use Rattle.role_node.specs.Answers.{is_recorded};
+ghost use Rattle.role_node.specs.Nodes.{IsLegalNode, due_at};
+ghost use Rattle.node_lock.specs.Receipts.{outcome_due};
+ghost use Rattle.node_lock.specs.Holds.{end_of, Fits, receipt_of, held_after, seat_after, seat_after_question, IsStepFault, IsMisfit};
+ghost use Rattle.node_lock.specs.declared.receipt.Call.TheVariants.{Step, Ask};
+ghost use Rattle.node_lock.specs.declared.locked.StepFault.TheVariants.{Memory};
+
+use crate::asked::asked;
+use crate::receipt::{Call, Outcome, Receipt};
+use crate::seat::{MOST_SEATS, Seat};
+use role_node::{Event, Node, Question};
+use std::alloc::{AllocError, Global};
+use std::error::Error;
+use std::fmt;
+use std::marker::Model;
+use std::sync::ledger::{Book, Ledger, Share};
+
+/// Why a call under the lock has no receipt. The seat stays as it was.
+#[derive(Clone, Copy, Debug, PartialEq, Eq, Hash)]
+pub enum StepFault {
+    /// The history has `found` events, and the seat has seen `seen`.
+    Behind { seen: u32, found: u32 },
+    /// The history has `found` events of the seat, which recorded `recorded`.
+    Strange { recorded: u32, found: u32 },
+    /// Memory is wanting.
+    Memory,
+}
+
+impl fmt::Display for StepFault {
+    ghost use Rattle.std.specs.Prelude.{Some};
+    ghost use Rattle.node_lock.specs.Texts.{step_fault_text};
+
+    ghost output = { λ fault. Some (step_fault_text fault) };
+
+    fn fmt<W: fmt::Write>(&self, f: &mut fmt::Formatter<W>) -> fmt::Result {
+        match self {
+            StepFault::Behind { seen, found } => write!(f, "Y1 Behind {seen} {found}"),
+            StepFault::Strange { recorded, found } => write!(f, "Y2 Strange {recorded} {found}"),
+            StepFault::Memory => write!(f, "out of memory"),
+        }
+    }
+}
+
+impl Error for StepFault {}
+
+impl From<AllocError> for StepFault {
+    ghost use Rattle.std.specs.Prelude.{◌≡◌};
+    ghost use Rattle.node_lock.specs.declared.locked.StepFault.TheVariants.{Memory};
+
+    ghost from_gives = { λ _ fault. fault ≡ Memory };
+
+    fn from(_: AllocError) -> Self {
+        StepFault::Memory
+    }
+}
+
+/// What is behind a shared node's lock: the node, and beside each event of its history the number of the seat that
+/// recorded it.
+#[derive(Drop)]
+pub struct Locked<L: Ledger> {
+    node: Node,
+    by: Vec<u8>,
+    counts: [u32; MOST_SEATS],
+    book: Book<L>,
+    seats: u8,
+}
+
+impl<L: Ledger> Model for Locked<L> {
+    ghost use Rattle.std.specs.Prelude.{length};
+    ghost use Rattle.node_lock.specs.Holds.{Held, held_code, IsKept};
+
+    ghost Value = { Held };
+
+    ghost coded = { held_code };
+
+    ghost view = { λ a. record { node = a.node; seats = a.by.items } };
+
+    ghost invariant = { λ a. IsKept (length a.node.history) a.by.items a.counts a.book.total a.seats L.parts };
+}
+
+impl<L: Ledger> Locked<L> {
+    /// A node that has recorded nothing, for so many seats.
+    pub(crate) fn new(alloc: Global, node: Node, book: Book<L>, seats: u8) -> Locked<L>
+        requires empty { node.history ≡ [] }
+        requires total { book.total ≡ 0 }
+        requires seats { (seats ≡ L.parts) × (0 < seats) }
+        ensures { result ≡ record { node = node; seats = [] } }
+    {
+        Locked {
+            node,
+            by: Vec::new(alloc),
+            counts: [0; MOST_SEATS],
+            book,
+            seats,
+        }
+    }
+
+    /// How many seats there are.
+    pub(crate) fn seats(&self) -> u8
+        ensures parts { result ≡ L.parts }
+        ensures some { 0 < result }
+    {
+        self.seats
+    }
+
+    /// The node, for a share of all parts, whose amount is the length of the history.
+    pub(crate) fn into_node(self, mut all: Share<L>) -> Node
+        requires { all.parts ≡ L.parts }
+        ensures { length result.history ≡ all.amount }
+    {
+        let Locked {
+            node,
+            by: _,
+            counts: _,
+            mut book,
+            seats: _,
+        } = self;
+        book.audit(&mut all);
+        node
+    }
+
+    /// The length of the history.
+    fn end(&self) -> u32
+        ensures value { result ≡ end_of self.now }
+        ensures most { end_of self.now ≤ most_events }
+        ensures legal { IsLegalNode self.now.node }
+        ensures beside { length self.now.seats ≡ end_of self.now }
+    {
+        let _most = self.node.config().roles();
+        self.node.history().len() as u32
+    }
+
+    /// Whether the seat has seen no more than the history has, and recorded as many events as it has there.
+    fn admit(&self, seat: &Seat<L>) -> Result<(), StepFault>
+        ensures { MatchResult result (λ _. Fits self.now seat.now) (IsMisfit self.now seat.now) }
+    {
+        let end = self.end();
+        if end < seat.seen() {
+            return Err(StepFault::Behind {
+                seen: seat.seen(),
+                found: end,
+            });
+        }
+        let recorded = self.counts[seat.number() as usize];
+        if recorded != seat.recorded() {
+            return Err(StepFault::Strange {
+                recorded: seat.recorded(),
+                found: recorded,
+            });
+        }
+        Ok(())
+    }
+
+    /// Records an event that counts, with the seat's number beside it.
+    fn record(&mut self, seat: &mut Seat<L>, event: Event) -> Result<Receipt, StepFault>
+        requires recorded { IsTrue (is_recorded (due_at self.old.node event)) }
+        requires fits { Fits self.old seat.old }
+        ensures receipt { IfOk result (λ receipt. receipt ≡ receipt_of self.old seat.old (Step event)) }
+        ensures held { OnOk result (self.new ≡ held_after self.old seat.old event) }
+        ensures seat { OnOk result (seat.new ≡ seat_after self.old seat.old event) }
+        ensures err { IfErr result (λ fault. fault ≡ Memory) }
+        ensures same { OnErr result (self.new ≡ self.old) }
+        ensures same_seat { OnErr result (seat.new ≡ seat.old) }
+        ensures legal { IsLegalNode self.new.node }
+        ensures beside { length self.new.seats ≡ end_of self.new }
+    {
+        let place = self.end();
+        let number = seat.number();
+        let call = Call::of_event(&event);
+        self.by.try_reserve(1)?;
+        let Ok(reply) = self.node.apply(event) else {
+            return Err(StepFault::Memory);
+        };
+        self.by.push_reserved(number);
+        self.counts[number as usize] += 1;
+        seat.record(&mut self.book, place + 1);
+        Ok(Receipt {
+            seat: number,
+            place,
+            call,
+            outcome: Outcome::Reply(reply),
+        })
+    }
+
+    /// Applies an event to the node, for the seat. The receipt's outcome is the answer that is due to the event after
+    /// the history; an event that is recorded gets the seat's number beside it.
+    ///
+    /// # Errors
+    ///
+    /// The history is shorter than the seat has seen; then it has not as many events of the seat as it recorded; last,
+    /// for an event that would be recorded, memory is wanting. Node and seat stay as they were.
+    pub fn step(&mut self, seat: &mut Seat<L>, event: Event) -> Result<Receipt, StepFault>
+        ensures fits { OnOk result (Fits self.old seat.old) }
+        ensures receipt { IfOk result (λ receipt. receipt ≡ receipt_of self.old seat.old (Step event)) }
+        ensures held { OnOk result (self.new ≡ held_after self.old seat.old event) }
+        ensures seat { OnOk result (seat.new ≡ seat_after self.old seat.old event) }
+        ensures err { IfErr result (IsStepFault self.old seat.old (Step event)) }
+        ensures same { OnErr result (self.new ≡ self.old) }
+        ensures same_seat { OnErr result (seat.new ≡ seat.old) }
+        ensures legal { IsLegalNode self.new.node }
+        ensures beside { length self.new.seats ≡ end_of self.new }
+    {
+        let place = self.end();
+        self.admit(seat)?;
+        if self.node.records(&event) {
+            return self.record(seat, event);
+        }
+        seat.see(place);
+        let call = Call::of_event(&event);
+        Ok(Receipt {
+            seat: seat.number(),
+            place,
+            call,
+            outcome: Outcome::from_reply(self.node.apply(event)),
+        })
+    }
+
+    /// Answers a question, for the seat. Nothing is recorded.
+    ///
+    /// # Errors
+    ///
+    /// The history is shorter than the seat has seen; then it has not as many events of the seat as it recorded; last,
+    /// for a listing, memory is wanting. Node and seat stay as they were.
+    pub fn ask(&mut self, seat: &mut Seat<L>, question: Question) -> Result<Receipt, StepFault>
+        ensures fits { OnOk result (Fits self.old seat.old) }
+        ensures receipt { IfOk result (λ receipt. receipt ≡ receipt_of self.old seat.old (Ask question)) }
+        ensures seat { OnOk result (seat.new ≡ seat_after_question self.old seat.old) }
+        ensures err { IfErr result (IsStepFault self.old seat.old (Ask question)) }
+        ensures same_seat { OnErr result (seat.new ≡ seat.old) }
+        ensures same { self.new ≡ self.old }
+        ensures legal { IsLegalNode self.new.node }
+        ensures beside { length self.new.seats ≡ end_of self.new }
+    {
+        let place = self.end();
+        self.admit(seat)?;
+        let outcome = asked(&mut self.node, question)?;
+        seat.see(place);
+        Ok(Receipt {
+            seat: seat.number(),
+            place,
+            call: Call::Ask(question),
+            outcome,
+        })
+    }
+}

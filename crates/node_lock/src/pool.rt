@@ -1,0 +1,227 @@
+ghost use Rattle.std.specs.Prelude.{◌≡◌, ◌<◌, ◌≤◌, ◌+◌, All, length, IfOk, vec_len};
+ghost use Rattle.node_lock.specs.Inboxes.{IsPassTo, IsNewPassTo};
+ghost use Rattle.node_lock.specs.Pools.{IsReport};
+ghost use Rattle.node_lock.specs.Seats.{most_seats};
+
+use crate::gate::Gate;
+use crate::inbox::{INBOX_CAPACITY, Inbox, InboxPass};
+use crate::job::Job;
+use crate::receipt::Call;
+use crate::report::{PoolFault, PoolReport, Slot, report};
+use crate::seat::Seat;
+use crate::shared::{SharedNode, close};
+use crate::worker::{Desk, Done, Told, work};
+use quorum_sizes::NodeName;
+use role_node::{Config, Node};
+use std::alloc::{AllocError, Global};
+use std::marker::Brand;
+use std::sync::Wait;
+use std::sync::ledger::{Blank, Ledger};
+use std::thread::Threads;
+use std::{mem, thread};
+
+/// Makes the calls at a new node of this configuration and name, by so many workers at once, each with a seat of its
+/// own. `me` must be a node of its sizes; there are 1 to 8 workers, and at most 65,536 calls.
+///
+/// # Errors
+///
+/// A worker failed, or a call has not exactly one receipt; then what an audit of the receipts finds. Want of memory may
+/// come before a fault that is not yet met.
+pub fn run_pool<G: Gate, R: Threads + Wait + Sync>(
+    rt: &R,
+    alloc: Global,
+    config: Config,
+    me: NodeName,
+    calls: Vec<Call>,
+    workers: u8,
+    gate: &G,
+) -> Result<PoolReport, PoolFault>
+    requires me { me < config.roles.sizes.nodes }
+    requires workers { (1 ≤ workers) × (workers ≤ most_seats) }
+    requires calls { vec_len calls ≤ 65536 }
+    ensures { IfOk result (IsReport config me calls.items workers) }
+{
+    let blank = Blank::new(workers as u64);
+    run_at::<Brand, G, R>(
+        rt,
+        alloc,
+        blank,
+        config,
+        me,
+        calls.as_slice(),
+        workers,
+        gate,
+    )
+}
+
+/// The same at a ledger with one part for each worker.
+fn run_at<L: Ledger + Send + Sync, G: Gate, R: Threads + Wait + Sync>(
+    rt: &R,
+    alloc: Global,
+    blank: Blank,
+    config: Config,
+    me: NodeName,
+    calls: &[Call],
+    workers: u8,
+    gate: &G,
+) -> Result<PoolReport, PoolFault>
+    requires name { blank.name ≡ L.name }
+    requires parts { (blank.parts ≡ L.parts) × (workers ≡ L.parts) }
+    requires me { me < config.roles.sizes.nodes }
+    requires workers { (1 ≤ workers) × (workers ≤ most_seats) }
+    requires calls { length calls.now ≤ 65536 }
+    ensures { IfOk result (IsReport config me calls.now workers) }
+{
+    let node = Node::new(alloc, config.copy(alloc)?, me)?;
+    let (shared, seats) = SharedNode::<L>::new(alloc, blank, node, workers)?;
+    let mut slots = vacant(alloc, calls.len())?;
+    let seats = run_rounds(rt, alloc, &shared, seats, calls, gate, &mut slots)?;
+    let Ok(closed) = close(shared, seats) else {
+        unreachable!()
+    };
+    report(alloc, config, me, closed.history(), slots, calls, workers)
+}
+
+/// So many slots without a receipt.
+fn vacant(alloc: Global, count: usize) -> Result<Vec<Slot>, AllocError> {
+    let mut slots = Vec::new(alloc);
+    for _ in 0..count {
+        slots.push(Slot::Vacant)?;
+    }
+    Ok(slots)
+}
+
+/// Runs the calls, as many at a time as an inbox takes.
+fn run_rounds<L: Ledger + Send + Sync, G: Gate, R: Threads + Wait + Sync>(
+    rt: &R,
+    alloc: Global,
+    shared: &SharedNode<L>,
+    mut seats: Vec<Seat<L>>,
+    calls: &[Call],
+    gate: &G,
+    slots: &mut Vec<Slot>,
+) -> Result<Vec<Seat<L>>, PoolFault>
+    requires seats { (1 ≤ vec_len seats) × (vec_len seats ≤ most_seats) }
+    requires calls { length calls.now ≤ 65536 }
+    ensures { IfOk result (λ back. vec_len back ≡ vec_len seats) }
+{
+    let mut start = 0;
+    while start < calls.len() {
+        let end = calls.len().min(start + INBOX_CAPACITY);
+        let (inbox, passes) = Inbox::new(alloc, seats.len() as u8)?;
+        let passes = filled(rt, &inbox, passes, calls, start, end)?;
+        let desks = paired(alloc, &inbox, seats, passes)?;
+        let done = at_desks(rt, alloc, shared, &inbox, gate, desks)?;
+        seats = collected(alloc, done, slots)?;
+        start = end;
+    }
+    Ok(seats)
+}
+
+/// Puts the calls from `start` to `end` into an inbox, each with its index as the job's number.
+fn filled<R: Wait>(
+    rt: &R,
+    inbox: &Inbox,
+    mut passes: Vec<InboxPass>,
+    calls: &[Call],
+    start: usize,
+    end: usize,
+) -> Result<Vec<InboxPass>, AllocError>
+    requires some { 0 < vec_len passes }
+    requires passes { All (IsNewPassTo inbox.now) passes.items }
+    requires within { (end ≤ length calls.now) × (length calls.now ≤ 65536) }
+    ensures passes { IfOk result (λ back. All (IsPassTo inbox.now) back.items) }
+    ensures count { IfOk result (λ back. vec_len back ≡ vec_len passes) }
+{
+    let Some(mut pass) = passes.pop() else {
+        unreachable!()
+    };
+    for number in start..end {
+        let job = Job {
+            number: number as u32,
+            call: calls[number],
+        };
+        let _ = inbox.put(rt, &mut pass, job);
+    }
+    passes.push(pass)?;
+    Ok(passes)
+}
+
+/// A desk for each seat.
+fn paired<L: Ledger>(
+    alloc: Global,
+    inbox: &Inbox,
+    mut seats: Vec<Seat<L>>,
+    mut passes: Vec<InboxPass>,
+) -> Result<Vec<Desk<L>>, AllocError>
+    requires passes { All (IsPassTo inbox.now) passes.items }
+    requires count { vec_len passes ≡ vec_len seats }
+    ensures passes { IfOk result (λ desks. All (λ desk. IsPassTo inbox.now desk.pass) desks.items) }
+    ensures count { IfOk result (λ desks. vec_len desks ≡ vec_len seats) }
+{
+    let mut desks = Vec::new(alloc);
+    while let Some(seat) = seats.pop() {
+        let Some(pass) = passes.pop() else {
+            unreachable!()
+        };
+        desks.push(Desk { seat, pass })?;
+    }
+    Ok(desks)
+}
+
+/// Each desk's worker, all at once.
+fn at_desks<L: Ledger + Send + Sync, G: Gate, R: Threads + Wait + Sync>(
+    rt: &R,
+    alloc: Global,
+    shared: &SharedNode<L>,
+    inbox: &Inbox,
+    gate: &G,
+    desks: Vec<Desk<L>>,
+) -> Result<Vec<Done<L>>, AllocError>
+    requires { All (λ desk. IsPassTo inbox.now desk.pass) desks.items }
+    ensures { IfOk result (λ done. vec_len done ≡ vec_len desks) }
+{
+    let worker = |desk: Desk<L>| -> Done<L>
+        requires { IsPassTo inbox.now desk.pass }
+    { work(rt, alloc, shared, inbox, gate, desk) };
+    thread::map_vec(rt, desks, &worker)
+}
+
+/// The seats that the workers leave. Their receipts go into the slots of their calls.
+fn collected<L: Ledger>(
+    alloc: Global,
+    mut done: Vec<Done<L>>,
+    slots: &mut Vec<Slot>,
+) -> Result<Vec<Seat<L>>, PoolFault>
+    ensures { IfOk result (λ seats. vec_len seats ≡ vec_len done) }
+{
+    let mut seats = Vec::with_capacity(alloc, done.len())?;
+    let mut failed = None;
+    while let Some(one) = done.pop() {
+        let Done { seat, told, cause } = one;
+        seats.push_reserved(seat);
+        place(slots, told);
+        if cause.is_some() {
+            failed = cause;
+        }
+    }
+    match failed {
+        Some(cause) => Err(PoolFault::WorkerFailed(cause)),
+        None => Ok(seats),
+    }
+}
+
+/// Puts each receipt into its call's slot.
+fn place(slots: &mut Vec<Slot>, mut told: Vec<Told>) {
+    while let Some(one) = told.pop() {
+        let Told { number, receipt } = one;
+        let index = number as usize;
+        if index < slots.len() {
+            let slot = &mut slots[index];
+            *slot = match mem::replace(slot, Slot::Repeated) {
+                Slot::Vacant => Slot::Told(receipt),
+                _ => Slot::Repeated,
+            };
+        }
+    }
+}

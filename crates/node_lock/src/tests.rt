@@ -1,0 +1,248 @@
+ghost use Rattle.std.specs.Prelude.{◌≡◌, ◌<◌, [], IfOk};
+
+use super::*;
+use quorum_sizes::{NodeName, Sizes};
+use role_commands::RoleTable;
+use role_node::{Answer, ClientEvent, Config, Event, Node, Question, Reply, Rule, Verdict};
+use std::alloc::Global;
+use std::marker::Brand;
+use std::process::Abort;
+use std::sync::Wait;
+use std::sync::atomic::{AtomicU32, Ordering};
+use std::sync::ledger::{Blank, Ledger};
+use std::test::Fail;
+
+const OPEN: Event = Event::Client(ClientEvent::Open { user: 7 });
+
+const OPEN_OTHER: Event = Event::Client(ClientEvent::Open { user: 8 });
+
+const CHECK: Question = Question::Check {
+    session: 1,
+    user: 7,
+    operation: 5,
+    object: 9,
+};
+
+/// The most turns that a gate waits.
+const PATIENCE: u32 = 200_000_000;
+
+/// The configuration of a cluster of one node with role 2, and its node's name.
+fn config(alloc: Global) -> Result<(Config, NodeName), Fail>
+    ensures { IfOk result (λ made. made.1 < made.0.roles.sizes.nodes) }
+{
+    let sizes = Sizes::new(1, 0)?;
+    let mut table = RoleTable::new(alloc, sizes);
+    table.add(2, 0)?;
+    let me = sizes.name(0).ok_or("no node")?;
+    if !table.sizes().has(me) {
+        return Err("no node".into());
+    }
+    Ok((Config::new(1, table, 10).ok_or("no configuration")?, me))
+}
+
+/// A node of this cluster that has recorded nothing.
+fn new_node(alloc: Global) -> Result<Node, Fail>
+    ensures { IfOk result (λ node. node.history ≡ []) }
+{
+    let (config, me) = config(alloc)?;
+    Ok(Node::new(alloc, config, me)?)
+}
+
+/// The receipt of the first event, which opened this session.
+fn opened(session: u64) -> Receipt {
+    Receipt {
+        seat: 1,
+        place: 0,
+        call: Call::Step(OPEN),
+        outcome: Outcome::Reply(Reply::Session(session)),
+    }
+}
+
+/// The session that a receipt says was opened.
+fn session_of(receipt: &Receipt) -> Option<u64> {
+    match receipt.outcome {
+        Outcome::Reply(Reply::Session(session)) => Some(session),
+        _ => None,
+    }
+}
+
+/// Whether a receipt says that a user has no roles.
+fn has_no_roles(receipt: &Receipt) -> bool {
+    match &receipt.outcome {
+        Outcome::Answer(Answer::Roles(roles)) => roles.as_slice().is_empty(),
+        _ => false,
+    }
+}
+
+/// Whether a receipt says that a session has no active role.
+fn has_no_active_role(receipt: &Receipt) -> bool {
+    match &receipt.outcome {
+        Outcome::Answer(Answer::Verdict(verdict)) => *verdict == Verdict::Deny(Rule::NoActiveRole),
+        _ => false,
+    }
+}
+
+/// One of two seats makes three calls; then the node is closed, and audited with other receipts too.
+fn use_a_seat<L: Ledger, R: Wait + Abort>(rt: &R, alloc: Global, blank: Blank) -> Result<(), Fail>
+    requires name { blank.name ≡ L.name }
+    requires parts { (blank.parts ≡ L.parts) × (2 ≡ L.parts) }
+{
+    let (shared, mut seats) = SharedNode::<L>::new(alloc, blank, new_node(alloc)?, 2)?;
+    let Some(mut seat) = seats.pop() else {
+        return Err("no seat".into());
+    };
+    let open = shared.node.lock(rt).step(&mut seat, OPEN)?;
+    assert_eq!(rt; (open.seat, open.place), (1, 0));
+    assert_eq!(rt; session_of(&open), Some(1));
+    let check = shared.node.lock(rt).ask(&mut seat, CHECK)?;
+    assert_eq!(rt; check.place, 1);
+    assert!(rt; has_no_active_role(&check));
+    let roles = shared
+        .node
+        .lock(rt)
+        .ask(&mut seat, Question::AssignedRoles(7))?;
+    assert_eq!(rt; roles.place, 1);
+    assert!(rt; has_no_roles(&roles));
+    let Err(CloseFault::SeatMissing { node, mut seats }) = close(shared, seats) else {
+        return Err("closed without a seat".into());
+    };
+    seats.push(seat)?;
+    let Ok(node) = close(node, seats) else {
+        return Err("not closed".into());
+    };
+    audit_three(rt, alloc, &node, open, check, roles)
+}
+
+/// The three receipts are true; with the first one altered, left out or doubled they are not.
+fn audit_three(
+    rt: &impl Abort,
+    alloc: Global,
+    node: &Node,
+    open: Receipt,
+    check: Receipt,
+    roles: Receipt,
+) -> Result<(), Fail> {
+    let mut receipts = Vec::new(alloc);
+    receipts.push(roles)?;
+    receipts.push(check)?;
+    assert_eq!(rt; audit(alloc, node, &receipts), Err(AuditFault::Missing(0)));
+    receipts.push(opened(2))?;
+    assert_eq!(rt; audit(alloc, node, &receipts), Err(AuditFault::Differs(0)));
+    let _altered = receipts.pop();
+    receipts.push(open)?;
+    assert_eq!(rt; audit(alloc, node, &receipts), Ok(()));
+    receipts.push(opened(1))?;
+    assert_eq!(rt; audit(alloc, node, &receipts), Err(AuditFault::Doubled(0)));
+    Ok(())
+}
+
+#[test]
+fn a_seats_receipts_are_audited(rt: HostRuntime) -> Result<(), Fail> {
+    use_a_seat::<Brand, HostRuntime>(&rt, rt.alloc(), Blank::new(2))
+}
+
+/// A job of this number.
+fn job(number: u32) -> Job {
+    Job {
+        number,
+        call: Call::Step(OPEN),
+    }
+}
+
+#[test]
+fn an_inbox_gives_back_what_is_left(rt: HostRuntime) -> Result<(), Fail> {
+    let alloc = rt.alloc();
+    let (inbox, mut passes) = Inbox::new(alloc, 2)?;
+    let Some(mut pass) = passes.pop() else {
+        return Err("no pass".into());
+    };
+    assert!(rt; inbox.put(&rt, &mut pass, job(0)).is_ok());
+    assert!(rt; inbox.put(&rt, &mut pass, job(1)).is_ok());
+    assert_eq!(rt; inbox.take(&rt, &mut pass), Some(job(0)));
+    let Err(InboxFault::PassMissing { inbox, mut passes }) = inbox.finish(&rt, alloc, passes) else {
+        return Err("finished without a pass".into());
+    };
+    passes.push(pass)?;
+    let Ok(left) = inbox.finish(&rt, alloc, passes) else {
+        return Err("not finished".into());
+    };
+    assert_eq!(rt; left.as_slice(), [job(1)].as_slice());
+    Ok(())
+}
+
+#[test]
+fn a_full_inbox_hands_the_job_back(rt: HostRuntime) -> Result<(), Fail> {
+    let (inbox, mut passes) = Inbox::new(rt.alloc(), 1)?;
+    let Some(mut pass) = passes.pop() else {
+        return Err("no pass".into());
+    };
+    for number in 0..1_024u32 {
+        assert!(rt; inbox.put(&rt, &mut pass, job(number)).is_ok());
+    }
+    assert_eq!(rt; inbox.put(&rt, &mut pass, job(1_024)), Err(job(1_024)));
+    Ok(())
+}
+
+/// A gate in which each call waits until both have entered, and call 0 then until call 1 has left.
+#[derive(Drop)]
+struct Meeting {
+    entered: AtomicU32,
+    left: AtomicU32,
+    late: AtomicU32,
+}
+
+impl Meeting {
+    /// Waits until the word is this high, for so many turns at most.
+    fn wait_for(&self, word: &AtomicU32, count: u32) {
+        for _ in 0..PATIENCE {
+            if word.load(Ordering::SeqCst) >= count {
+                return;
+            }
+        }
+        self.late.store(1, Ordering::SeqCst);
+    }
+}
+
+impl Gate for Meeting {
+    fn enter(&self, _worker: u8, job: u32) {
+        self.entered.fetch_add(1, Ordering::SeqCst);
+        self.wait_for(&self.entered, 2);
+        if job == 0 {
+            self.wait_for(&self.left, 1);
+        }
+    }
+
+    fn leave(&self, _worker: u8, job: u32) {
+        if job == 1 {
+            self.left.store(1, Ordering::SeqCst);
+        }
+    }
+}
+
+#[test]
+fn two_workers_run_at_once(rt: HostRuntime) -> Result<(), Fail> {
+    let alloc = rt.alloc();
+    let (config, me) = config(alloc)?;
+    let mut calls = Vec::new(alloc);
+    calls.push(Call::Step(OPEN))?;
+    calls.push(Call::Step(OPEN_OTHER))?;
+    let gate = Meeting {
+        entered: AtomicU32::new(0),
+        left: AtomicU32::new(0),
+        late: AtomicU32::new(0),
+    };
+    let PoolReport {
+        receipts,
+        recorded,
+        node,
+    } = run_pool(&rt, alloc, config, me, calls, 2, &gate)?;
+    assert_eq!(rt; gate.late.load(Ordering::SeqCst), 0);
+    assert_eq!(rt;
+        (receipts.len(), recorded.len(), node.history().len()),
+        (2, 2, 2)
+    );
+    assert_eq!(rt; (receipts[1].place, session_of(&receipts[1])), (0, Some(1)));
+    assert_eq!(rt; (receipts[0].place, session_of(&receipts[0])), (1, Some(2)));
+    assert_eq!(rt; (recorded[0], recorded[1]), (1, 1));
+    Ok(())
+}
