@@ -1,6 +1,8 @@
 pub mod Same
 pub mod FirstPrefix
 pub mod KeptVotes
+pub mod RowLemmas
+pub mod TallyLemmas
 pub mod Voting
 pub mod FirstDue
 pub mod Due
