@@ -1,2 +1,4 @@
 pub mod Sizes
 pub mod Refusals
+pub mod NodeSets
+pub mod NodeWords

@@ -4,9 +4,11 @@
 #![tactic(auto)]
 
 mod name;
+mod node_set;
 mod sizes;
 
 pub use name::NodeName;
+pub use node_set::{NodeSet, quorums_meet};
 pub use sizes::{MOST_NODES, SizeFault, Sizes};
 
 #[cfg(test)]

@@ -50,3 +50,27 @@ fn names(rt: HostRuntime) -> Result<(), Fail> {
     assert!(rt; four.name(3) < Some(last));
     Ok(())
 }
+
+#[test]
+fn sets_of_nodes(rt: HostRuntime) -> Result<(), Fail> {
+    let sizes = Sizes::new(4, 1)?;
+    let beyond = Sizes::new(64, 21)?.name(63).ok_or("no name")?;
+    let mut evens = NodeSet::new();
+    let mut low = NodeSet::new();
+    for name in (0..3).filter_map(|i| sizes.name(i)) {
+        low.insert(name);
+        if name.index() % 2 == 0 {
+            assert!(rt; evens.insert(name));
+            assert!(rt; !evens.insert(name));
+        }
+    }
+    evens.insert(beyond);
+    assert_eq!(rt;
+        (low.len(), evens.len(), evens.count_among(&sizes)),
+        (3, 3, 2)
+    );
+    assert!(rt; evens.contains(beyond));
+    assert!(rt; !low.contains(beyond));
+    assert_eq!(rt; quorums_meet(&sizes, &low, &evens).len(), 2);
+    Ok(())
+}

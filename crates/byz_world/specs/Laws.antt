@@ -1,0 +1,85 @@
+-- The promises of the cluster, about every run of it.
+use Rattle.std.specs.Prelude.{◌≡◌, ℕ, ◌<◌, min, IsTrue, List, Option, Some}
+use Rattle.quorum_sizes.specs.NodeSets.{Nodes}
+use Rattle.role_commands.specs.declared.command.Command.{Command}
+use Rattle.bracha_instance.specs.Broadcast.{readied}
+use Rattle.owner_streams.specs.Laws.{IsPrefixOf}
+use Rattle.owner_streams.specs.Places.{takes_at, delivered_at}
+use Rattle.role_node.specs.Configs.{ConfigValue}
+use Rattle.role_node.specs.Histories.{issued, packets}
+use Rattle.role_node.specs.Access.{stream_at, reach_at, relations_at}
+use Rattle.byz_world.specs.Runs.{Run, history_of, is_correct, IsClusterRun}
+use Rattle.byz_world.specs.Resting.{IsAtRest}
+use Rattle.byz_world.specs.Agreement.{common_length}
+
+-- what a node is ready for, and what it has delivered, at a place of an owner's stream
+abbrev pub readied_by : ConfigValue → Run → ℕ → ℕ → ℕ → Option Command
+readied_by config run node owner place =
+    readied config.roles.sizes (takes_at owner place (packets (history_of node run)))
+
+abbrev pub delivered_by : ConfigValue → Run → ℕ → ℕ → ℕ → Option Command
+delivered_by config run node owner place = delivered_at config.roles.sizes owner place (packets (history_of node run))
+
+-- a node's stream of an owner, and how far it reaches
+abbrev pub stream_of : ConfigValue → Run → ℕ → ℕ → List Command
+stream_of config run node owner = stream_at config.roles.sizes (history_of node run) owner
+
+abbrev pub reach_of : ConfigValue → Run → ℕ → ℕ → ℕ
+reach_of config run node owner = reach_at config.roles.sizes (history_of node run) owner
+
+-- Two correct nodes are ready for one command at a place; what they deliver there is one command; and their streams of
+-- an owner agree as far as both reach.
+pub record IsConsistent (config : ConfigValue) (liars : Nodes) (run : Run) : Type 0 where
+  pub ready_for_one : (i j owner place : ℕ) (c d : Command) →
+      IsTrue (is_correct config.roles.sizes liars i) → IsTrue (is_correct config.roles.sizes liars j) →
+      readied_by config run i owner place ≡ Some c → readied_by config run j owner place ≡ Some d → c ≡ d
+  pub deliver_one : (i j owner place : ℕ) (c d : Command) →
+      IsTrue (is_correct config.roles.sizes liars i) → IsTrue (is_correct config.roles.sizes liars j) →
+      delivered_by config run i owner place ≡ Some c → delivered_by config run j owner place ≡ Some d → c ≡ d
+  pub streams_agree : (i j owner : ℕ) →
+      IsTrue (is_correct config.roles.sizes liars i) → IsTrue (is_correct config.roles.sizes liars j) →
+      common_length (stream_of config run i owner) (stream_of config run j owner)
+      ≡ min (reach_of config run i owner) (reach_of config run j owner)
+
+abbrev pub Consistency : Type 0
+Consistency =
+    (config : ConfigValue) (liars : Nodes) (run : Run) → IsClusterRun config liars run →
+    IsConsistent config liars run
+
+-- a correct owner's stream is, at each correct node, a front of what the owner issued
+abbrev pub Integrity : Type 0
+Integrity =
+    (config : ConfigValue) (liars : Nodes) (run : Run) (i owner : ℕ) → IsClusterRun config liars run →
+    IsTrue (is_correct config.roles.sizes liars i) → IsTrue (is_correct config.roles.sizes liars owner) →
+    IsPrefixOf (stream_of config run i owner) (issued (history_of owner run))
+
+-- correct nodes whose streams reach equally far have the same relations
+pub record HaveSameRelations (config : ConfigValue) (run : Run) (i j : ℕ) : Type 0 where
+  pub assigned : (user role : ℕ) →
+      (relations_at config.roles (history_of i run)).assigned user role
+      ≡ (relations_at config.roles (history_of j run)).assigned user role
+  pub granted : (operation object role : ℕ) →
+      (relations_at config.roles (history_of i run)).granted operation object role
+      ≡ (relations_at config.roles (history_of j run)).granted operation object role
+
+abbrev pub SamePolicy : Type 0
+SamePolicy =
+    (config : ConfigValue) (liars : Nodes) (run : Run) (i j : ℕ) → IsClusterRun config liars run →
+    IsTrue (is_correct config.roles.sizes liars i) → IsTrue (is_correct config.roles.sizes liars j) →
+    ((owner : ℕ) → owner < config.roles.sizes.nodes → reach_of config run i owner ≡ reach_of config run j owner) →
+    HaveSameRelations config run i j
+
+-- Of a cluster at rest: a correct owner's stream is, at each correct node, what the owner issued; and what one correct
+-- node delivered, each did, whoever the owner is.
+pub record HasSettled (config : ConfigValue) (liars : Nodes) (run : Run) : Type 0 where
+  pub issued_is_delivered : (i owner : ℕ) →
+      IsTrue (is_correct config.roles.sizes liars i) → IsTrue (is_correct config.roles.sizes liars owner) →
+      stream_of config run i owner ≡ issued (history_of owner run)
+  pub delivered_by_all : (i j owner place : ℕ) →
+      IsTrue (is_correct config.roles.sizes liars i) → IsTrue (is_correct config.roles.sizes liars j) →
+      delivered_by config run i owner place ≡ delivered_by config run j owner place
+
+abbrev pub AtRest : Type 0
+AtRest =
+    (config : ConfigValue) (liars : Nodes) (run : Run) → IsClusterRun config liars run → IsAtRest config liars run →
+    HasSettled config liars run

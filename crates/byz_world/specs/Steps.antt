@@ -1,0 +1,105 @@
+-- What a step of the world does: the node and the event that it comes to, its answer, and the run after it.
+use Rattle.std.specs.Prelude.{◌≡◌, ℕ, ◌+◌, Bool, not, ◌&&◌, nat_lt, if◌then◌else◌, IsTrue, List, [], ◌∷◌, ◌++◌, length, slice_get, is_some, Option, Some, None, Result, Ok, Err}
+use Rattle.link_frames.specs.Packets.{PacketValue, message_of}
+use Rattle.role_node.specs.Nodes.{due_at}
+use Rattle.role_node.specs.Answers.{is_recorded}
+use Rattle.role_node.specs.declared.event.Event.{Event}
+use Rattle.role_node.specs.declared.event.Event.TheVariants as event
+use Rattle.role_node.specs.declared.event.Reply.{Reply}
+use Rattle.role_node.specs.declared.faults.NodeFault.{NodeFault}
+use Rattle.byz_world.specs.Runs.{Run, has_sent}
+use Rattle.byz_world.specs.Pools.{pool, sent_by}
+use Rattle.byz_world.specs.Worlds.{WorldValue, is_correct_in, node_in}
+use Rattle.byz_world.specs.declared.step.Step.{Step}
+use Rattle.byz_world.specs.declared.step.Step.TheVariants.{Issue, Give, Lie, Client}
+use Rattle.byz_world.specs.declared.step.StepReply.{StepReply}
+use Rattle.byz_world.specs.declared.step.StepReply.TheVariants.{Absorbed, Node}
+use Rattle.byz_world.specs.declared.faults.WorldFault.{WorldFault}
+use Rattle.byz_world.specs.declared.faults.WorldFault.TheVariants as fault
+
+-- the pool has no room for one more message to all nodes
+abbrev pub is_pool_full : WorldValue → Bool
+is_pool_full w = nat_lt w.config.limit (length (pool w.config w.run) + w.config.roles.sizes.nodes)
+
+-- the node and the event that a step comes to; a packet to a liar comes to none
+abbrev pub Arrival : Type 0
+Arrival = Result (Option (ℕ × Event)) WorldFault
+
+abbrev pub unless_pool_full : WorldValue → ℕ × Event → Arrival
+unless_pool_full w pair = if is_pool_full w then Err fault.PoolFull else Ok (Some pair)
+
+-- a packet is absorbed by a liar
+abbrev pub arrives : WorldValue → PacketValue → Arrival
+arrives w p = if is_correct_in w p.to then unless_pool_full w (p.to, event.Take p) else Ok None
+
+-- a packet in the name of a correct node that the node has not sent
+abbrev pub is_forged : WorldValue → PacketValue → Bool
+is_forged w p = is_correct_in w p.from && not (has_sent w.config.roles.sizes w.run p.from (message_of p))
+
+-- packet K of the pool is given
+abbrev pub given : WorldValue → Option PacketValue → Arrival
+given w None = Err fault.NoSuchPacket
+given w (Some p) = arrives w p
+
+-- Where a step arrives, or the first refusal that holds before its node is asked.
+abbrev pub arrival : WorldValue → Step → Arrival
+arrival w (Issue node command) =
+    if is_correct_in w node then unless_pool_full w (node, event.Issue command) else Err fault.NotCorrect
+arrival w (Give packet) = given w (slice_get (pool w.config w.run) packet)
+arrival w (Lie p) =
+    if not (nat_lt p.from w.config.roles.sizes.nodes && nat_lt p.to w.config.roles.sizes.nodes)
+    then Err fault.NotCorrect
+    else (if is_forged w p then Err fault.NotSent
+    else arrives w p)
+arrival w (Client node act) = if is_correct_in w node then Ok (Some (node, event.Client act)) else Err fault.NotCorrect
+
+-- the node's answer, where the pool has these packets so far: a message it sends is a packet to each node
+abbrev pub of_reply : WorldValue → Reply → StepReply
+of_reply w r = Node r (length (pool w.config w.run)) (if is_some (sent_by r) then w.config.roles.sizes.nodes else 0)
+
+abbrev pub of_answer : WorldValue → Result Reply NodeFault → Result StepReply WorldFault
+of_answer w (Ok r) = Ok (of_reply w r)
+of_answer w (Err f) = Err (fault.Node f)
+
+abbrev pub answer_of : WorldValue → Arrival → Result StepReply WorldFault
+answer_of w (Ok (Some pair)) = of_answer w (due_at (node_in w pair.0) pair.1)
+answer_of w (Ok None) = Ok Absorbed
+answer_of w (Err f) = Err f
+
+-- The answer that is due to a step, memory apart.
+unfoldable pub step_due : WorldValue → Step → Result StepReply WorldFault
+step_due w step = answer_of w (arrival w step)
+
+-- whether the node that the step comes to records its event
+abbrev pub recorded_pair : WorldValue → Arrival → List (ℕ × Event)
+recorded_pair w (Ok (Some pair)) = if is_recorded (due_at (node_in w pair.0) pair.1) then pair ∷ [] else []
+recorded_pair w (Ok None) = []
+recorded_pair w (Err f) = []
+
+abbrev pub with_run : WorldValue → Run → WorldValue
+with_run w run = record { config = w.config; liars = w.liars; run = run }
+
+-- The world after a step: an event that its node records is one pair more.
+unfoldable pub after_step : WorldValue → Step → WorldValue
+after_step w step = with_run w (w.run ++ recorded_pair w (arrival w step))
+
+-- the world after these steps
+unfoldable pub after_steps : WorldValue → List Step → WorldValue
+after_steps w [] = w
+after_steps w (step ∷ steps) = after_steps (after_step w step) steps
+
+-- whether the step adds to the run
+abbrev pub adds : WorldValue → Step → Bool
+adds w step = nat_lt 0 (length (recorded_pair w (arrival w step)))
+
+-- the answer is the one that is due; want of memory comes last, where the step would add to the run
+abbrev pub IsStepAnswer : WorldValue → Step → Result StepReply WorldFault → Type 0
+IsStepAnswer w step (Ok r) = step_due w step ≡ Ok r
+IsStepAnswer w step (Err fault.TooManyLiars) = step_due w step ≡ Err fault.TooManyLiars
+IsStepAnswer w step (Err fault.NotCorrect) = step_due w step ≡ Err fault.NotCorrect
+IsStepAnswer w step (Err fault.NoSuchPacket) = step_due w step ≡ Err fault.NoSuchPacket
+IsStepAnswer w step (Err fault.NotSent) = step_due w step ≡ Err fault.NotSent
+IsStepAnswer w step (Err fault.PoolFull) = step_due w step ≡ Err fault.PoolFull
+IsStepAnswer w step (Err (fault.Node f)) = step_due w step ≡ Err (fault.Node f)
+IsStepAnswer w step (Err fault.NoSession) = step_due w step ≡ Err fault.NoSession
+IsStepAnswer w step (Err fault.Memory) = IsTrue (adds w step)

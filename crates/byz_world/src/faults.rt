@@ -1,0 +1,58 @@
+use role_node::NodeFault;
+use std::alloc::AllocError;
+use std::error::Error;
+use std::fmt;
+
+/// Why the world refuses. Written as its code and its name, a node's fault as that fault.
+#[derive(Clone, Copy, Debug, PartialEq, Eq, Hash)]
+pub enum WorldFault {
+    /// More nodes lie than may.
+    TooManyLiars,
+    /// The node is no correct node, or a packet's sender or receiver is no node.
+    NotCorrect,
+    /// The pool has no packet of this number.
+    NoSuchPacket,
+    /// The packet is in the name of a correct node that has not sent it.
+    NotSent,
+    /// The pool has no room for one more message to all nodes.
+    PoolFull,
+    /// The node refuses.
+    Node(NodeFault),
+    /// A session is to be listed that is not open.
+    NoSession,
+    /// Memory is wanting.
+    Memory,
+}
+
+impl fmt::Display for WorldFault {
+    ghost use Rattle.std.specs.Prelude.{Some};
+    ghost use Rattle.byz_world.specs.Faults.{world_fault_text};
+
+    ghost output = { λ fault. Some (world_fault_text fault) };
+
+    fn fmt<W: fmt::Write>(&self, f: &mut fmt::Formatter<W>) -> fmt::Result {
+        match self {
+            WorldFault::TooManyLiars => write!(f, "V1 TooManyLiars"),
+            WorldFault::NotCorrect => write!(f, "V2 NotCorrect"),
+            WorldFault::NoSuchPacket => write!(f, "V3 NoSuchPacket"),
+            WorldFault::NotSent => write!(f, "V4 NotSent"),
+            WorldFault::PoolFull => write!(f, "V5 PoolFull"),
+            WorldFault::Node(fault) => write!(f, "{fault}"),
+            WorldFault::NoSession => write!(f, "N1 NoSession"),
+            WorldFault::Memory => write!(f, "out of memory"),
+        }
+    }
+}
+
+impl Error for WorldFault {}
+
+impl From<AllocError> for WorldFault {
+    ghost use Rattle.std.specs.Prelude.{◌≡◌};
+    ghost use Rattle.byz_world.specs.declared.faults.WorldFault.TheVariants.{Memory};
+
+    ghost from_gives = { λ _ fault. fault ≡ Memory };
+
+    fn from(_: AllocError) -> Self {
+        WorldFault::Memory
+    }
+}

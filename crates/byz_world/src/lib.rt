@@ -1,0 +1,11 @@
+//! A cluster with lying nodes: correct nodes, and all that liars and the network may do to them, as a list of steps.
+//!
+//! `specs/Runs.antt` says what a run of a cluster is, `specs/Pools.antt` which packets it has sent, `specs/Steps.antt`
+//! what a step does, and `specs/Laws.antt` what holds of every run.
+#![tactic(auto)]
+
+mod faults;
+mod step;
+
+pub use faults::WorldFault;
+pub use step::{Step, StepReply};

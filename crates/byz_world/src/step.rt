@@ -1,0 +1,33 @@
+use link_frames::Packet;
+use quorum_sizes::NodeName;
+use role_commands::Command;
+use role_node::{ClientEvent, Reply};
+
+/// What may happen next to a cluster.
+#[derive(Clone, Copy, Debug, PartialEq, Eq, Hash)]
+pub enum Step {
+    /// A node publishes a command.
+    Issue { node: NodeName, command: Command },
+    /// The network gives the packet of this number of the pool to its receiver, for the first time or again.
+    Give { packet: u32 },
+    /// A liar sends a packet in its own name, or the network repeats one that was sent.
+    Lie { packet: Packet },
+    /// A client acts at a node.
+    Client { node: NodeName, event: ClientEvent },
+}
+
+/// What a step answers.
+#[derive(Clone, Copy, Debug, PartialEq, Eq, Hash)]
+pub enum StepReply {
+    /// The packet went to a liar.
+    Absorbed,
+    /// What the node replied.
+    Node {
+        /// The node's reply.
+        reply: Reply,
+        /// The number of the first packet that it sent now: how many there were before.
+        first: u32,
+        /// How many packets it sent: none, or one to each node.
+        count: u8,
+    },
+}

@@ -1,0 +1,3 @@
+pub mod NodeCounts
+pub mod NodeMasks
+pub mod Exported
