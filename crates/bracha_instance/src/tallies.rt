@@ -76,16 +76,18 @@ fn tally_of(tallies: &mut Vec<Tally>, command: Command) -> Result<usize, AllocEr
     ensures tallies { OnOk result (tallies.new.items ≡ with_tally (λ t. t) command tallies.old.items) }
     ensures err { OnErr result (tallies.new.items ≡ tallies.old.items) }
 {
-    if let Some(at) = place_of(tallies, &command) {
-        return Ok(at);
+    match place_of(tallies, &command) {
+        Some(at) => Ok(at),
+        None => {
+            let at = tallies.len();
+            tallies.push(Tally {
+                command,
+                echoes: NodeSet::new(),
+                readies: NodeSet::new(),
+            })?;
+            Ok(at)
+        }
     }
-    let at = tallies.len();
-    tallies.push(Tally {
-        command,
-        echoes: NodeSet::new(),
-        readies: NodeSet::new(),
-    })?;
-    Ok(at)
 }
 
 /// Adds a name to the ECHOs for a command. How many nodes support it then.
@@ -141,7 +143,8 @@ impl Tallies {
         ensures support { IfOk result (λ support. support ≡ support_of self.new command) }
         ensures err { OnErr result (self.new ≡ self.old) }
     {
-        add_echo(&mut self.tallies, name, command)
+        let support = add_echo(&mut self.tallies, name, command)?;
+        Ok(support)
     }
 
     /// Counts the READY of a node that has none. How many nodes support its command then.
@@ -155,7 +158,8 @@ impl Tallies {
         ensures support { IfOk result (λ support. support ≡ support_of self.new command) }
         ensures err { OnErr result (self.new ≡ self.old) }
     {
-        add_ready(&mut self.tallies, name, command)
+        let support = add_ready(&mut self.tallies, name, command)?;
+        Ok(support)
     }
 
     /// Forgets all votes, and gives their memory back.
