@@ -9,11 +9,9 @@ use Rattle.link_frames.specs.Kinds.{same_kind}
 use Rattle.link_frames.specs.declared.kind.Kind.{Kind}
 use Rattle.link_frames.specs.declared.kind.Kind.TheVariants.{Send, Echo, Ready}
 use Rattle.bracha_instance.specs.declared.instance.Effect.TheVariants.{Idle, Counted}
-use Rattle.bracha_instance.specs.declared.instance.Instance.TheInside.{Inside}
 use Rattle.bracha_instance.specs.Prefixes.{at_first_prefix}
 use Rattle.bracha_instance.specs.Broadcast.{Take, command_of, is_of_kind, is_vote_of, vote, voters, echoed, readied, delivered}
 use Rattle.bracha_instance.specs.States.{Votes, State, votes, state}
-use Rattle.bracha_instance.specs.Kept.{names_of, seen}
 use Rattle.bracha_instance.specs.Taking.{SendsAreFrom, effect_of, newly, sent_for, newly_sent, newly_delivered, has_voted}
 use Rattle.bracha_instance.specs.Next.{ready_now, deliver_now, only_if, after_echo, after_ready, after_kind, after}
 use Rattle.bracha_instance.proofs.KeptVotes.{contains-names_of, names_of-insert, names_of-empty}

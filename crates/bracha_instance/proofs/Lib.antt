@@ -9,4 +9,5 @@ pub mod Due
 pub mod StateSteps
 pub mod StateOf
 pub mod Counting
+pub mod KeptInstances
 pub mod Exported

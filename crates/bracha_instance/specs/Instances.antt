@@ -2,6 +2,7 @@
 use Rattle.std.specs.Prelude.{◌≡◌, ◌≤◌, ◌+◌, true, length, is_some, Option, Some, None}
 use Rattle.std.specs.FinMap as maps
 use Rattle.std.specs.FinSet as sets
+use Rattle.quorum_sizes.specs.Sizes.{most_nodes}
 use Rattle.role_commands.specs.declared.command.Command.{Command}
 use Rattle.bracha_instance.specs.Broadcast.{Names}
 use Rattle.bracha_instance.specs.States.{State}
@@ -29,6 +30,8 @@ pub record IsInstance (a : instance.Inside) : Type 0 where
   pub readiers : a.delivered ≡ None → names_of a.votes.readies ≡ a.readiers
   pub forgotten : is_some a.delivered ≡ true → a.votes ≡ no_votes
   pub few : length a.votes.commands ≤ sets.len a.echoers + sets.len a.readiers
+  pub echoers_fit : sets.len a.echoers ≤ most_nodes
+  pub readiers_fit : sets.len a.readiers ≤ most_nodes
 
 -- something is delivered, and no vote is kept
 abbrev pub record_state : record_of.Inside → State

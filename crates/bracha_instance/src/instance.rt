@@ -306,14 +306,13 @@ impl Instance {
         ensures most { (s : Counts) (takes : List Take) →
             self.now ≡ state s takes → All (λ (t : Take). t.from < s.nodes) takes → result ≤ 2 * s.nodes }
     {
-        let _most = (self.echoers.len(), self.readiers.len());
         self.votes.len() as u16
     }
 
     /// What stays of it once something is delivered.
     pub fn record(&self) -> Option<Record>
         ensures delivered { is_some result ≡ is_some self.now.delivered }
-        ensures record { IfSome result (λ record. record ≡ self.now) }
+        ensures record { IfSome result (λ kept. kept ≡ self.now) }
     {
         let delivered = self.delivered?;
         Some(Record::new(

@@ -99,7 +99,9 @@ impl Record {
     }
 
     fn count(&mut self, kind: Kind, from: NodeName, command: Command)
-        ensures { (s : Counts) → self.new ≡ after_kind s self.old kind from command }
+        ensures state { (s : Counts) → self.new ≡ after_kind s self.old kind from command }
+        ensures readied { self.new.readied ≡ self.old.readied }
+        ensures delivered { self.new.delivered ≡ self.old.delivered }
     {
         match kind {
             Kind::Send => self.echoed = first_of(self.echoed, true, command),
