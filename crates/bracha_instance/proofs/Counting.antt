@@ -1,24 +1,18 @@
 -- What the code of an instance shows of each of its steps.
 use Rattle.std.proofs.Common.{◌≡◌, ℕ, Bool, true, false, cond, List, [], ◌∷◌, ◌++◌, All, is_some, Option, Some, None, refl, sym, ap, ◌∙◌, ◌==◌, ◌&&◌, find, option_map, zero, suc, zero-le, suc-le-suc, le_of_suc-le-suc, not-suc-le-zero, eq-eqb}
-use Rattle.std.specs.Option.{option_or}
-use Rattle.std.specs.FinMap as maps
-use Rattle.std.specs.FinSet as sets
 use Rattle.quorum_sizes.specs.Sizes.{Counts}
 use Rattle.role_commands.specs.declared.command.Command.{Command}
 use Rattle.link_frames.specs.Kinds.{same_kind}
 use Rattle.link_frames.specs.declared.kind.Kind.{Kind}
 use Rattle.link_frames.specs.declared.kind.Kind.TheVariants.{Send, Echo, Ready}
 use Rattle.bracha_instance.specs.declared.instance.Effect.TheVariants.{Idle, Counted}
-use Rattle.bracha_instance.specs.Prefixes.{at_first_prefix}
-use Rattle.bracha_instance.specs.Broadcast.{Take, command_of, is_of_kind, is_vote_of, vote, voters, echoed, readied, delivered}
-use Rattle.bracha_instance.specs.States.{Votes, State, votes, state}
+use Rattle.bracha_instance.specs.Broadcast.{Take, command_of, is_of_kind, is_vote_of, vote, echoed}
+use Rattle.bracha_instance.specs.States.{State, state}
 use Rattle.bracha_instance.specs.Taking.{SendsAreFrom, effect_of, newly, sent_for, newly_sent, newly_delivered, has_voted}
-use Rattle.bracha_instance.specs.Next.{ready_now, deliver_now, only_if, after_echo, after_ready, after_kind, after}
-use Rattle.bracha_instance.proofs.KeptVotes.{contains-names_of, names_of-insert, names_of-empty}
+use Rattle.bracha_instance.specs.Next.{after_kind, after}
 use Rattle.bracha_instance.proofs.Same.{same_kind-true}
 use Rattle.bracha_instance.proofs.Voting.{contains-voters}
-use Rattle.bracha_instance.proofs.StateSteps.{IsEchoStep, IsReadyStep, echo_step, ready_step}
-use Rattle.bracha_instance.proofs.StateOf.{state_push, none_of}
+use Rattle.bracha_instance.proofs.StateOf.{state_push}
 
 -- The answers of `take`.
 

@@ -23,9 +23,9 @@ use Rattle.bracha_instance.specs.Broadcast.{Take, Names, command_of, vote, voter
 use Rattle.bracha_instance.specs.States.{Votes, State, votes, kept, state}
 use Rattle.bracha_instance.specs.Kept.{names_of}
 use Rattle.bracha_instance.specs.Next.{supporters_in, ready_now, deliver_now, only_if, after_echo, after_ready}
-use Rattle.bracha_instance.specs.Tallies.{Tallied, no_votes, with_command, with_echo, with_ready, support_of, HasVote, AreVoted}
+use Rattle.bracha_instance.specs.Tallies.{Tallied, no_votes, with_echo, with_ready, support_of, HasVote, AreVoted}
 use Rattle.bracha_instance.specs.Instances.{instance_state, IsInstance}
-use Rattle.bracha_instance.specs.Supported.{IsSupported, AreSupported, CountsSupported}
+use Rattle.bracha_instance.specs.Supported.{CountsSupported}
 use Rattle.bracha_instance.proofs.Same.{same_command-true}
 use Rattle.bracha_instance.proofs.KeptVotes.{contains-names_of, names_of-insert, names_of-empty}
 use Rattle.bracha_instance.proofs.TallyLemmas.{length-with_command}

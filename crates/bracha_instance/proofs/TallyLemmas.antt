@@ -1,11 +1,10 @@
 -- The tallies of commands: what a change of one shows, and the commands that have a vote.
-use Rattle.std.proofs.Common.{◌≡◌, ℕ, zero, suc, ◌+◌, ◌<◌, ◌≤◌, ◌≢◌, Bool, true, false, cond, not, ◌||◌, List, [], ◌∷◌, ◌++◌, map, length, get_or, Option, Some, None, refl, sym, ap, ◌∙◌, subst, arith, inl, inr, suc-le-suc, zero-le, le_of_suc-le-suc}
+use Rattle.std.proofs.Common.{◌≡◌, ℕ, zero, suc, ◌+◌, ◌<◌, ◌≤◌, ◌≢◌, Bool, true, false, cond, not, ◌||◌, List, [], ◌∷◌, ◌++◌, map, length, get_or, Some, None, refl, sym, ap, ◌∙◌, subst, arith, inl, inr, suc-le-suc, zero-le}
 use Rattle.std.specs.Prelude.{◌⊎◌, nat_lt, All, AllPairs, position, slice_set}
 use Rattle.std.specs.List.{list_any, prefix_len}
 use Rattle.std.specs.FinMap as maps
 use Rattle.std.specs.FinSet as sets
 use Rattle.std.specs.Ordering.{nat_cmp}
-use Rattle.std.specs.Cmp.{nat_cmp_total}
 use Rattle.std.proofs.lemmas.Bool.{both_ways, cases_Bool, or_left, or_right, or_parts}
 use Rattle.std.proofs.lemmas.Bool.Decides.{nat_tests}
 use Rattle.std.proofs.Common.{length-append}
@@ -18,12 +17,12 @@ use Rattle.role_commands.specs.Same.{same_command}
 use Rattle.bracha_instance.specs.Broadcast.{Names}
 use Rattle.bracha_instance.specs.States.{Votes}
 use Rattle.bracha_instance.specs.Next.{supporters_in}
-use Rattle.bracha_instance.specs.Tallies.{Tallied, no_votes, with_command, with_echo, with_ready, support_of, HasVote, AreVoted, Row, RowsAgree, echo_row, ready_row, names_for, command_in, is_tally_of, IsFirst, with_tally, echoed_by, ready_by, support_in, tallied, AreTallies, votes_in}
+use Rattle.bracha_instance.specs.Tallies.{Tallied, no_votes, with_command, with_echo, with_ready, support_of, HasVote, AreVoted, RowsAgree, echo_row, ready_row, names_for, command_in, is_tally_of, IsFirst, with_tally, echoed_by, ready_by, support_in, tallied, AreTallies, votes_in}
 use Rattle.bracha_instance.specs.declared.tallies.Tally.{Tally}
 use Rattle.bracha_instance.specs.declared.tallies.Support.{Support}
 use Rattle.bracha_instance.proofs.Same.{same_command-true, same_command-refl}
-use Rattle.bracha_instance.proofs.KeptVotes.{contains-supporters_in, supporters_in-empty, supporters_in-insert_same, supporters_in-insert_other, len_supporters_in-insert}
-use Rattle.bracha_instance.proofs.RowLemmas.{with_row, with_name, unchanged, votes_in-with_name, votes_in-unchanged, names_for-with_row, RowsAgree-empty, RowsAgree-unchanged, RowsAgree-with_name}
+use Rattle.bracha_instance.proofs.KeptVotes.{supporters_in-empty, supporters_in-insert_other, len_supporters_in-insert}
+use Rattle.bracha_instance.proofs.RowLemmas.{with_row, with_name, unchanged, votes_in-with_name, votes_in-unchanged, RowsAgree-empty, RowsAgree-unchanged, RowsAgree-with_name}
 
 -- The place of a tally.
 

@@ -1,13 +1,11 @@
 -- What holds of an instance as it is kept, and what contracts see of it. Serves the models of the code, and no contract.
-use Rattle.std.specs.Prelude.{◌≡◌, ◌≤◌, ◌+◌, true, length, is_some, Option, Some, None}
+use Rattle.std.specs.Prelude.{◌≡◌, ◌≤◌, ◌+◌, true, length, is_some, Some, None}
 use Rattle.std.specs.FinMap as maps
 use Rattle.std.specs.FinSet as sets
 use Rattle.quorum_sizes.specs.Sizes.{most_nodes}
-use Rattle.role_commands.specs.declared.command.Command.{Command}
-use Rattle.bracha_instance.specs.Broadcast.{Names}
 use Rattle.bracha_instance.specs.States.{State}
 use Rattle.bracha_instance.specs.Kept.{names_of}
-use Rattle.bracha_instance.specs.Tallies.{Tallied, no_votes}
+use Rattle.bracha_instance.specs.Tallies.{no_votes}
 use Rattle.bracha_instance.specs.declared.instance.Instance.TheInside as instance
 use Rattle.bracha_instance.specs.declared.record.Record.TheInside as record_of
 

@@ -1,5 +1,5 @@
 -- How states are stored, and the names in a map of votes. Serves the models of the code, and no contract.
-use Rattle.std.specs.Prelude.{ℕ, Option, refl}
+use Rattle.std.specs.Prelude.{Option, refl}
 use Rattle.std.specs.Coded.{Coded, code_by, coded×, coded_ℕ, coded_option}
 use Rattle.std.specs.FinMap as maps
 use Rattle.std.specs.FinSet as sets

@@ -1,4 +1,4 @@
-use Rattle.std.proofs.Common.{◌≡◌, sym, ap, ◌∙◌, refl, arith}
+use Rattle.std.proofs.Common.{sym, ap, ◌∙◌, refl, arith}
 use Rattle.std.specs.Prelude.{slice_set}
 use Rattle.bracha_instance.specs.Tallies.{with_tally, ready_by}
 use Rattle.bracha_instance.specs.declared.tallies.Tally.{Tally}

@@ -1,6 +1,6 @@
 use Rattle.std.proofs.Common.{◌≡◌, None, sym, ap, ◌∙◌, subst}
 use Rattle.std.specs.FinMap as maps
-use Rattle.bracha_instance.specs.Tallies.{Tallied, tallied, AreTallies, with_echo, support_in}
+use Rattle.bracha_instance.specs.Tallies.{Tallied, tallied, AreTallies, with_echo}
 use Rattle.bracha_instance.proofs.TallyLemmas.{tallied-echo, AreTallies-echo, support_of-tallied}
 use Rattle.bracha_instance.proofs.tallies.Tallies.count_echo.Goals as goal
 

@@ -1,6 +1,6 @@
 use Rattle.std.proofs.Common.{◌≡◌, None, sym, ap, ◌∙◌, subst}
 use Rattle.std.specs.FinMap as maps
-use Rattle.bracha_instance.specs.Tallies.{Tallied, tallied, AreTallies, with_ready, support_in}
+use Rattle.bracha_instance.specs.Tallies.{Tallied, tallied, AreTallies, with_ready}
 use Rattle.bracha_instance.proofs.TallyLemmas.{tallied-ready, AreTallies-ready, support_of-tallied}
 use Rattle.bracha_instance.proofs.tallies.Tallies.count_ready.Goals as goal
 
