@@ -11,7 +11,8 @@ no_answer : {A : Type 0} (ask : ℕ → Option A) (k : ℕ) → ask k ≡ None �
 no_answer ask k none zero h = let e : k + 0 ≡ k = omega arith in ap ask e ∙ none
 no_answer ask k none (suc i) h = absurd (omega arith)
 
-one_answer : {A : Type 0} (ask : ℕ → Option A) (k : ℕ) (x : A) (xs : List A) → ask k ≡ Some x → HasAnswers ask (k + 1) xs
+one_answer : {A : Type 0} (ask : ℕ → Option A) (k : ℕ) (x : A) (xs : List A) → ask k ≡ Some x
+    → HasAnswers ask (k + 1) xs
     → HasAnswers ask k (x ∷ xs)
 one_answer ask k x xs first more zero h = let e : k + 0 ≡ k = omega arith in ap ask e ∙ first
 one_answer ask k x xs first more (suc i) h =
@@ -19,7 +20,8 @@ one_answer ask k x xs first more (suc i) h =
     let within : i ≤ length xs = omega arith in
     ap ask e ∙ more i within
 
-answer_or_end : {A : Type 0} (ask : ℕ → Option A) (k : ℕ) (o : Option A) (xs : List A) → ask k ≡ o → HasAnswers ask (k + 1) xs
+answer_or_end : {A : Type 0} (ask : ℕ → Option A) (k : ℕ) (o : Option A) (xs : List A) → ask k ≡ o
+    → HasAnswers ask (k + 1) xs
     → HasAnswers ask k (cons_if o xs)
 answer_or_end ask k None xs e more = no_answer ask k e
 answer_or_end ask k (Some x) xs e more = one_answer ask k x xs e more
@@ -30,23 +32,29 @@ pub answers_are_all : {A : Type 0} (ask : ℕ → Option A) (k most : ℕ) → (
 unfolding answers_from
 answers_are_all ask k zero none = let h : k + 0 ≤ k = omega arith in no_answer ask k (none k h)
 answers_are_all ask k (suc most) none =
-    answer_or_end ask k (ask k) _ refl (answers_are_all ask (k + 1) most (λ i h. let past : k + suc most ≤ i = omega arith in none i past))
+    answer_or_end ask k (ask k) _ refl (answers_are_all ask (k + 1) most (λ i h. let past : k + suc most ≤ i =
+    omega arith in none i past))
 
 heads : {A : Type 0} (x y : A) → Some x ≡ Some y → x ≡ y
 heads x y e = cc
 
 -- the answers are one list
-pub answers_are_one : {A : Type 0} (ask : ℕ → Option A) (k : ℕ) (xs ys : List A) → HasAnswers ask k xs → HasAnswers ask k ys
+pub answers_are_one : {A : Type 0} (ask : ℕ → Option A) (k : ℕ) (xs ys : List A) → HasAnswers ask k xs
+    → HasAnswers ask k ys
     → xs ≡ ys
 answers_are_one ask k [] [] p q = refl
-answers_are_one ask k [] (y ∷ ys) p q = absurd (let e : None ≡ Some y = sym (p 0 (omega arith)) ∙ q 0 (omega arith) in cc)
-answers_are_one ask k (x ∷ xs) [] p q = absurd (let e : Some x ≡ None = sym (p 0 (omega arith)) ∙ q 0 (omega arith) in cc)
+answers_are_one ask k [] (y ∷ ys) p q =
+    absurd (let e : None ≡ Some y = sym (p 0 (omega arith)) ∙ q 0 (omega arith) in cc)
+answers_are_one ask k (x ∷ xs) [] p q =
+    absurd (let e : Some x ≡ None = sym (p 0 (omega arith)) ∙ q 0 (omega arith) in cc)
 answers_are_one ask k (x ∷ xs) (y ∷ ys) p q =
     let first : x ≡ y = heads x y (sym (p 0 (omega arith)) ∙ q 0 (omega arith)) in
     let rest : xs ≡ ys =
     answers_are_one ask (k + 1) xs ys
-    (λ i h. let e : k + 1 + i ≡ k + suc i = omega arith in let within : suc i ≤ length (x ∷ xs) = omega arith in ap ask e ∙ p (suc i) within)
-    (λ i h. let e : k + 1 + i ≡ k + suc i = omega arith in let within : suc i ≤ length (y ∷ ys) = omega arith in ap ask e ∙ q (suc i) within) in
+    (λ i h. let e : k + 1 + i ≡ k + suc i = omega arith in let within : suc i ≤ length (x ∷ xs) = omega arith in
+    ap ask e ∙ p (suc i) within)
+    (λ i h. let e : k + 1 + i ≡ k + suc i = omega arith in let within : suc i ≤ length (y ∷ ys) = omega arith in
+    ap ask e ∙ q (suc i) within) in
     λ i. first i ∷ rest i
 
 abbrev pub Begins : {A : Type 0} → List A → List A → Type 0
@@ -59,7 +67,8 @@ both_go_on (Some x) later xs ys stays more =
     (more.0, (λ i. x ∷ more.1 i) ∙ ap (λ o. cons_if o ys) (sym (stays x refl)))
 
 -- where answers stay, and there are more of them, their list goes on
-pub answers_go_on : {A : Type 0} (ask later : ℕ → Option A) (k m n : ℕ) → ((i : ℕ) (x : A) → ask i ≡ Some x → later i ≡ Some x)
+pub answers_go_on : {A : Type 0} (ask later : ℕ → Option A) (k m n : ℕ)
+    → ((i : ℕ) (x : A) → ask i ≡ Some x → later i ≡ Some x)
     → m ≤ n → Begins (answers_from ask k m) (answers_from later k n)
 unfolding answers_from
 answers_go_on ask later k zero n stays h = (answers_from later k n, refl)

@@ -58,12 +58,14 @@ not_there : (owner a b : ℕ) → b ≢ a → ((owner == owner) && (a == b)) ≡
 not_there owner a b apart = let turned : a ≢ b = λ e. apart (sym e) in grind (arith, nat_tests)
 
 -- a number at which a list's answers end is its length
-ends_agree : {A : Type 0} (xs : List A) (n : ℕ) (ask : ℕ → Option A) → ((k : ℕ) → k ≤ length xs → ask k ≡ slice_get xs k) →
+ends_agree : {A : Type 0} (xs : List A) (n : ℕ) (ask : ℕ → Option A)
+    → ((k : ℕ) → k ≤ length xs → ask k ≡ slice_get xs k) →
     ((k : ℕ) → k < n → IsSome (ask k)) → ask n ≡ None → length xs ≡ n
 ends_agree xs n ask is run ends =
     ⊎_elim
     (λ (short : length xs < n).
-    absurd (none_or_some (ask (length xs)) (is (length xs) (le_refl _) ∙ slice_get_past xs (length xs) (le_refl _)) (run (length xs) short)))
+    absurd (none_or_some (ask (length xs)) (is (length xs) (le_refl _)
+    ∙ slice_get_past xs (length xs) (le_refl _)) (run (length xs) short)))
     (λ (reached : n ≤ length xs).
     ⊎_elim
     (λ (long : n < length xs).
@@ -79,12 +81,14 @@ pub reach_is : (s : Counts) (owner : ℕ) (places : List (Option State)) (packet
     reach s owner packets ≡ n
 reach_is s owner places packets n is run ends =
     ends_agree (stream s owner packets) n (λ place. delivered_in (slot_at places place))
-    (λ place h. delivered_is s (slot_at places place) (takes_at owner place packets) (is place) ∙ stream_is_exact_lem s owner packets place h) run ends
+    (λ place h. delivered_is s (slot_at places place) (takes_at owner place packets) (is place)
+    ∙ stream_is_exact_lem s owner packets place h) run ends
 
 -- the places that hold the messages of the packets hold those of one more
 pub states_push : (s : Counts) (before after : List (Option State)) (packets : List PacketValue) (p : PacketValue) →
     ((place : ℕ) → place ≢ p.place → slot_at after place ≡ slot_at before place) →
-    ((takes : List Take) → state_in s (slot_at before p.place) ≡ state s takes → state_in s (slot_at after p.place) ≡ state s (takes ++ take_of p ∷ [])) →
+    ((takes : List Take) → state_in s (slot_at before p.place) ≡ state s takes
+    → state_in s (slot_at after p.place) ≡ state s (takes ++ take_of p ∷ [])) →
     ((place : ℕ) → state_in s (slot_at before place) ≡ state s (takes_at p.owner place packets)) →
     (place : ℕ) → state_in s (slot_at after place) ≡ state s (takes_at p.owner place (packets ++ p ∷ []))
 states_push s before after packets p others one is place =
@@ -101,7 +105,8 @@ states_push s before after packets p others one is place =
 -- what a packet does at its place keeps all that holds of the owner's stream
 pub still_run : (s : Counts) (before after : List (Option State)) (p : PacketValue) (n : ℕ) →
     ((place : ℕ) → place ≢ p.place → slot_at after place ≡ slot_at before place) →
-    ((takes : List Take) → state_in s (slot_at before p.place) ≡ state s takes → state_in s (slot_at after p.place) ≡ state s (takes ++ take_of p ∷ [])) →
+    ((takes : List Take) → state_in s (slot_at before p.place) ≡ state s takes
+    → state_in s (slot_at after p.place) ≡ state s (takes ++ take_of p ∷ [])) →
     ((place : ℕ) → (takes : List Take) × (state_in s (slot_at before place) ≡ state s takes)) →
     ((place : ℕ) → place < n → IsSome (delivered_in (slot_at before place))) →
     (place : ℕ) → place < n → IsSome (delivered_in (slot_at after place))
@@ -109,18 +114,21 @@ still_run s before after p n others one states run place h =
     ⊎_elim
     (λ (e : place ≡ p.place).
     let known = states p.place in
-    let there : IsSome (delivered_in (slot_at before p.place)) = subst (λ k. IsSome (delivered_in (slot_at before k))) e (run place h) in
+    let there : IsSome (delivered_in (slot_at before p.place)) =
+    subst (λ k. IsSome (delivered_in (slot_at before k))) e (run place h) in
     let c = the_some _ there in
     let first : delivered s known.0 ≡ Some c.0 = sym (delivered_is s (slot_at before p.place) known.0 known.1) ∙ c.1 in
     let now : delivered_in (slot_at after p.place) ≡ Some c.0 =
-    delivered_is s (slot_at after p.place) (known.0 ++ take_of p ∷ []) (one known.0 known.1) ∙ delivery_stays s known.0 (take_of p ∷ []) c.0 first in
+    delivered_is s (slot_at after p.place) (known.0 ++ take_of p ∷ []) (one known.0 known.1)
+    ∙ delivery_stays s known.0 (take_of p ∷ []) c.0 first in
     subst (λ k. IsSome (delivered_in (slot_at after k))) (sym e) (some_of _ c.0 now))
     (λ (apart : place ≢ p.place). subst (λ slot. IsSome (delivered_in slot)) (sym (others place apart)) (run place h))
     (cases_eq place p.place)
 
 pub still_states : (s : Counts) (before after : List (Option State)) (p : PacketValue) →
     ((place : ℕ) → place ≢ p.place → slot_at after place ≡ slot_at before place) →
-    ((takes : List Take) → state_in s (slot_at before p.place) ≡ state s takes → state_in s (slot_at after p.place) ≡ state s (takes ++ take_of p ∷ [])) →
+    ((takes : List Take) → state_in s (slot_at before p.place) ≡ state s takes
+    → state_in s (slot_at after p.place) ≡ state s (takes ++ take_of p ∷ [])) →
     ((place : ℕ) → (takes : List Take) × (state_in s (slot_at before place) ≡ state s takes)) →
     (place : ℕ) → (takes : List Take) × (state_in s (slot_at after place) ≡ state s takes)
 still_states s before after p others one states place =
@@ -133,17 +141,20 @@ still_states s before after p others one states place =
     (λ (apart : place ≢ p.place). let known = states place in (known.0, ap (state_in s) (others place apart) ∙ known.1))
     (cases_eq place p.place)
 
-pub same_states : (s : Counts) (before after : List (Option State)) → ((place : ℕ) → slot_at after place ≡ slot_at before place) →
+pub same_states : (s : Counts) (before after : List (Option State))
+    → ((place : ℕ) → slot_at after place ≡ slot_at before place) →
     ((place : ℕ) → (takes : List Take) × (state_in s (slot_at before place) ≡ state s takes)) →
     (place : ℕ) → (takes : List Take) × (state_in s (slot_at after place) ≡ state s takes)
-same_states s before after same states place = let known = states place in (known.0, ap (state_in s) (same place) ∙ known.1)
+same_states s before after same states place = let known = states place in
+    (known.0, ap (state_in s) (same place) ∙ known.1)
 
 -- what holds at the packet's place and at all others holds at each
 pub at_each : (before after : List (Option State)) (here : ℕ)
     → ((place : ℕ) → place ≢ here → slot_at after place ≡ slot_at before place) →
     slot_at after here ≡ slot_at before here → (place : ℕ) → slot_at after place ≡ slot_at before place
 at_each before after here others same place =
-    ⊎_elim (λ (e : place ≡ here). subst (λ k. slot_at after k ≡ slot_at before k) (sym e) same) (others place) (cases_eq place here)
+    ⊎_elim (λ (e : place ≡ here). subst (λ k. slot_at after k ≡ slot_at before k) (sym e) same) (others place)
+    (cases_eq place here)
 
 cons_from : (P : Take → Type 0) (o : Option Take) (ts : List Take) → All P (cons_option o []) → All P ts
     → All P (cons_option o ts)
@@ -151,22 +162,27 @@ cons_from P None ts one rest = rest
 cons_from P (Some t) ts one rest = All-cons P t ts (All-head P t [] one) rest
 
 -- the SENDs of an instance are from its owner, where all are from their owners
-one_from : (owner place : ℕ) (p : PacketValue) → SentByOwner p → (b : Bool) → ((p.owner == owner) && (p.place == place)) ≡ b →
+one_from : (owner place : ℕ) (p : PacketValue) → SentByOwner p → (b : Bool)
+    → ((p.owner == owner) && (p.place == place)) ≡ b →
     SendsAreFrom owner (cons_option (cond b (Some (take_of p)) None) [])
 one_from owner place p sent true e =
     let IsFromIt : Take → Type 0 = λ u. u.kind ≡ Send → u.from ≡ owner in
     let same : p.owner ≡ owner = grind (arith, nat_tests) in
     All-cons IsFromIt (take_of p) [] (λ k. sent k ∙ same) (All-nil IsFromIt)
-one_from owner place p sent false e = let IsFromIt : Take → Type 0 = λ u. u.kind ≡ Send → u.from ≡ owner in All-nil IsFromIt
+one_from owner place p sent false e = let IsFromIt : Take → Type 0 = λ u. u.kind ≡ Send → u.from ≡ owner in
+    All-nil IsFromIt
 
 pub sends_are_from : (owner place : ℕ) (packets : List PacketValue) → SendsAreOwners packets
     → SendsAreFrom owner (takes_at owner place packets)
 unfolding takes_at
-sends_are_from owner place [] sent = let IsFromIt : Take → Type 0 = λ u. u.kind ≡ Send → u.from ≡ owner in All-nil IsFromIt
+sends_are_from owner place [] sent = let IsFromIt : Take → Type 0 = λ u. u.kind ≡ Send → u.from ≡ owner in
+    All-nil IsFromIt
 sends_are_from owner place (p ∷ packets) sent =
     let IsFromIt : Take → Type 0 = λ u. u.kind ≡ Send → u.from ≡ owner in
-    let rest : SendsAreFrom owner (filter_map (take_at owner place) packets) = sends_are_from owner place packets (All-tail SentByOwner p packets sent) in
-    cons_from IsFromIt (take_at owner place p) _ (one_from owner place p (All-head SentByOwner p packets sent) _ refl) rest
+    let rest : SendsAreFrom owner (filter_map (take_at owner place) packets) =
+    sends_are_from owner place packets (All-tail SentByOwner p packets sent) in
+    cons_from IsFromIt (take_at owner place p) _ (one_from owner place p (All-head SentByOwner p packets sent) _ refl)
+    rest
 
 at_most : (b : Bool) {A : Type 0} (x y : A) → b ≡ true → cond b x y ≡ x
 at_most b x y e = ap (λ t. cond t x y) e
@@ -199,14 +215,22 @@ pub one_sender : (packets : List PacketValue) (p : PacketValue) → SendsAreOwne
     SendsAreFrom p.owner (takes_at p.owner p.place packets ++ take_of p ∷ [])
 one_sender packets p sent own =
     let IsFromIt : Take → Type 0 = λ u. u.kind ≡ Send → u.from ≡ p.owner in
-    All-append IsFromIt (takes_at p.owner p.place packets) (take_of p ∷ []) (sends_are_from p.owner p.place packets sent)
+    All-append IsFromIt (takes_at p.owner p.place packets) (take_of p ∷ [])
+    (sends_are_from p.owner p.place packets sent)
     (All-cons IsFromIt (take_of p) [] own (All-nil IsFromIt))
 
 -- the step that is due, from what the instance answers and how far the stream reaches
 pub step_is : (s : Counts) (packets : List PacketValue) (p : PacketValue) (taken : Taken) (from to : ℕ) →
-    effect_of (takes_at p.owner p.place packets) (take_of p) ≡ Counted → IsTaken s (takes_at p.owner p.place packets) (take_of p) taken →
+    effect_of (takes_at p.owner p.place packets) (take_of p) ≡ Counted
+    → IsTaken s (takes_at p.owner p.place packets) (take_of p) taken →
     reach s p.owner packets ≡ from → reach s p.owner (packets ++ p ∷ []) ≡ to →
-    step_of s packets p ≡ record { effect = Counted; broadcast = taken.broadcast; delivered = taken.delivered; from = from; to = to }
+    step_of s packets p ≡ record {
+      effect = Counted;
+      broadcast = taken.broadcast;
+      delivered = taken.delivered;
+      from = from;
+      to = to;
+    }
 step_is s packets p taken from to counts t f e =
     let before : List Take = takes_at p.owner p.place packets in
     let broadcast : newly_sent s before (takes_at p.owner p.place (packets ++ p ∷ [])) ≡ taken.broadcast =
@@ -231,11 +255,15 @@ pub idle_step_is : (s : Counts) (packets : List PacketValue) (p : PacketValue) (
 idle_step_is s packets p n idle same f e =
     let before : List Take = takes_at p.owner p.place packets in
     let after : List Take = takes_at p.owner p.place (packets ++ p ∷ []) in
-    let echo : echoed after ≡ echoed before = sym (state-echoed s after) ∙ ap (λ st. st.echoed) same ∙ state-echoed s before in
-    let ready : readied s after ≡ readied s before = sym (state-readied s after) ∙ ap (λ st. st.readied) same ∙ state-readied s before in
-    let done : delivered s after ≡ delivered s before = sym (state-delivered s after) ∙ ap (λ st. st.delivered) same ∙ state-delivered s before in
+    let echo : echoed after ≡ echoed before = sym (state-echoed s after) ∙ ap (λ st. st.echoed) same
+    ∙ state-echoed s before in
+    let ready : readied s after ≡ readied s before = sym (state-readied s after) ∙ ap (λ st. st.readied) same
+    ∙ state-readied s before in
+    let done : delivered s after ≡ delivered s before = sym (state-delivered s after) ∙ ap (λ st. st.delivered) same
+    ∙ state-delivered s before in
     let broadcast : newly_sent s before after ≡ None =
-    nothing_sent _ _ (not_new (echoed before) (echoed after) echo) (not_new (readied s before) (readied s after) ready) in
+    nothing_sent _ _ (not_new (echoed before) (echoed after) echo) (not_new (readied s before) (readied s after) ready)
+    in
     let delivery : newly_delivered s before after ≡ None = not_new (delivered s before) (delivered s after) done in
     λ i. record { effect = idle i; broadcast = broadcast i; delivered = delivery i; from = f i; to = e i }
 
@@ -245,7 +273,8 @@ pub run_within : (places : List (Option State)) (n : ℕ)
 run_within places n run =
     ⊎_elim
     (λ (past : length places < n).
-    absurd (none_or_some _ (ap delivered_in (get_or_past places (length places) None (le_refl _))) (run (length places) past)))
+    absurd (none_or_some _ (ap delivered_in (get_or_past places (length places) None (le_refl _)))
+    (run (length places) past)))
     (λ (within : n ≤ length places). within)
     (cases_lt (length places) n)
 
@@ -285,7 +314,8 @@ command_is_due s owner place a packets kept is =
     ⊎_elim
     (λ (before : place < a.reach).
     let test : nat_lt place a.reach ≡ true = grind (arith, nat_tests) in
-    at_most _ _ _ test ∙ delivered_is s (slot_at a.places.items place) (takes_at owner place packets) (is.at_each_place place)
+    at_most _ _ _ test
+    ∙ delivered_is s (slot_at a.places.items place) (takes_at owner place packets) (is.at_each_place place)
     ∙ stream_is_exact_lem s owner packets place (omega arith))
     (λ (past : a.reach ≤ place).
     let test : nat_lt place a.reach ≡ false = grind (arith, nat_tests) in
@@ -323,7 +353,8 @@ pub voted_changes_nothing : (s : Counts) (slot : Option State) (t : Take) → vo
 unfolding after
 voted_changes_nothing s None t v takes is = absurd cc
 voted_changes_nothing s (Some st) t v takes is =
-    sym (ap (λ b. cond b st (after_kind s st t.kind t.from t.command)) v) ∙ ap (λ x. after s x t) is ∙ sym (state_push s takes t)
+    sym (ap (λ b. cond b st (after_kind s st t.kind t.from t.command)) v) ∙ ap (λ x. after s x t) is
+    ∙ sym (state_push s takes t)
 
 -- the effect that was looked up is that of the step
 pub effect_is : (s : Counts) (packets : List PacketValue) (p : PacketValue) (e : Effect)
@@ -347,13 +378,16 @@ pub none_voted : (s : Counts) (takes : List Take) (kind : Kind) (name : ℕ) →
 none_voted s takes kind name same =
     ⊎_elim
     (λ (yes_voted : is_some (vote kind name takes) ≡ true).
-    let clash : false ≡ true = sym (fresh_has_voted s kind name) ∙ ap (λ st. has_voted st kind name) same ∙ voted s takes kind name yes_voted in
+    let clash : false ≡ true = sym (fresh_has_voted s kind name) ∙ ap (λ st. has_voted st kind name) same
+    ∙ voted s takes kind name yes_voted in
     absurd cc)
     (λ (none : is_some (vote kind name takes) ≡ false). sym none)
     (cases_Bool (is_some (vote kind name takes)))
 
 -- the effect by the test whether the node has voted
-pub look_is : (s : Counts) (packets : List PacketValue) (p : PacketValue) (e : Effect) (b : Bool) → cond b Idle Counted ≡ e →
-    b ≡ is_some (vote p.kind p.from (takes_at p.owner p.place packets)) → step_due s packets p ≡ Ok (step_of s packets p) →
+pub look_is : (s : Counts) (packets : List PacketValue) (p : PacketValue) (e : Effect) (b : Bool)
+    → cond b Idle Counted ≡ e →
+    b ≡ is_some (vote p.kind p.from (takes_at p.owner p.place packets))
+    → step_due s packets p ≡ Ok (step_of s packets p) →
     Ok e ≡ effect_due (step_due s packets p)
 look_is s packets p e b test is due = ap Ok (sym test ∙ ap (λ t. cond t Idle Counted) is) ∙ sym (ap effect_due due)

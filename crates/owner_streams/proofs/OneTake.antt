@@ -10,7 +10,8 @@ use Rattle.bracha_instance.specs.declared.instance.Taken.{Taken}
 use Rattle.owner_streams.specs.Slots.{state_in, IsTaken}
 
 -- what the instance's own contract says of the answer to t is what is due to u, the same message
-pub is_taken : (s : Counts) (slot : Option State) (now : State) (t u : Take) (taken : Taken) → state_in s slot ≡ now → t ≡ u →
+pub is_taken : (s : Counts) (slot : Option State) (now : State) (t u : Take) (taken : Taken) → state_in s slot ≡ now
+    → t ≡ u →
     ((takes : List Take) → now ≡ state s takes → taken.broadcast ≡ newly_sent s takes (takes ++ t ∷ [])) →
     ((takes : List Take) → now ≡ state s takes → taken.delivered ≡ newly_delivered s takes (takes ++ t ∷ [])) →
     (takes : List Take) → state_in s slot ≡ state s takes → IsTaken s takes u taken
@@ -20,8 +21,10 @@ is_taken s slot now t u taken same e sent delivered takes is =
 
 pub is_taken_if_ok : (s : Counts) (slot : Option State) (now : State) (t u : Take) (r : Result Taken AllocError)
     → state_in s slot ≡ now → t ≡ u →
-    IfOk r (λ taken. (takes : List Take) → now ≡ state s takes → taken.broadcast ≡ newly_sent s takes (takes ++ t ∷ [])) →
-    IfOk r (λ taken. (takes : List Take) → now ≡ state s takes → taken.delivered ≡ newly_delivered s takes (takes ++ t ∷ [])) →
+    IfOk r (λ taken. (takes : List Take) → now ≡ state s takes
+    → taken.broadcast ≡ newly_sent s takes (takes ++ t ∷ [])) →
+    IfOk r (λ taken. (takes : List Take) → now ≡ state s takes
+    → taken.delivered ≡ newly_delivered s takes (takes ++ t ∷ [])) →
     IfOk r (λ taken. (takes : List Take) → state_in s slot ≡ state s takes → IsTaken s takes u taken)
 is_taken_if_ok s slot now t u (Ok taken) same e sent delivered = is_taken s slot now t u taken same e sent delivered
 is_taken_if_ok s slot now t u (Err x) same e sent delivered = tt

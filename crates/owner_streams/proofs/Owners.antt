@@ -28,13 +28,15 @@ instances_are rows owner row e =
     ap (λ o. unwrap_or o maps.empty) (slice_get-map instances_in rows owner ∙ ap (option_map instances_in) e)
 
 -- the state at an owner's place is what the owner's stream holds there
-pub state_at_is : (s : Counts) (rows : List OwnerStream) (owner : ℕ) (row : OwnerStream) → slice_get rows owner ≡ Some row →
+pub state_at_is : (s : Counts) (rows : List OwnerStream) (owner : ℕ) (row : OwnerStream)
+    → slice_get rows owner ≡ Some row →
     (place : ℕ) → state_at (seen s rows) owner place ≡ state_in s (slot_at row.places.items place)
 state_at_is s rows owner row e place =
     ap (λ m. unwrap_or (maps.get m place) (state s [])) (instances_are rows owner row e)
     ∙ ap (λ slot. unwrap_or slot (state s [])) (get-instances_from row.places.items place)
 
-pub are_states_of : (s : Counts) (rows : List OwnerStream) (owner : ℕ) (row : OwnerStream) → slice_get rows owner ≡ Some row →
+pub are_states_of : (s : Counts) (rows : List OwnerStream) (owner : ℕ) (row : OwnerStream)
+    → slice_get rows owner ≡ Some row →
     (packets : List PacketValue) → IsStateOf (seen s rows) packets → AreStatesOf s owner row packets
 are_states_of s rows owner row e packets is = record {
   at_each_place = λ place. sym (state_at_is s rows owner row e place) ∙ is.at_each_place owner place;
@@ -48,7 +50,8 @@ there_now rows owner row new e =
     slice_get-get_or (slice_set rows owner new) owner new k ∙ ap Some (get_or-set_same rows owner new new h)
 
 other_instances : (rows : List OwnerStream) (owner other : ℕ) (new : OwnerStream) → other ≢ owner →
-    unwrap_or (slice_get (map instances_in (slice_set rows owner new)) other) maps.empty ≡ unwrap_or (slice_get (map instances_in rows) other) maps.empty
+    unwrap_or (slice_get (map instances_in (slice_set rows owner new)) other) maps.empty
+    ≡ unwrap_or (slice_get (map instances_in rows) other) maps.empty
 other_instances rows owner other new apart =
     ap (λ xs. unwrap_or (slice_get xs other) maps.empty) (map-set instances_in rows owner new)
     ∙ unwrap_or-slice_get (slice_set (map instances_in rows) owner (instances_in new)) other maps.empty
@@ -67,8 +70,10 @@ state_push s rows row new p e packets is now = record {
   at_each_place = λ owner place.
       ⊎_elim
       (λ (same : owner ≡ p.owner).
-      subst (λ k. state_at (seen s (slice_set rows p.owner new)) k place ≡ state s (takes_at k place (packets ++ p ∷ []))) (sym same)
-      (state_at_is s (slice_set rows p.owner new) p.owner new (there_now rows p.owner row new e) place ∙ now.at_each_place place))
+      subst (λ k. state_at (seen s (slice_set rows p.owner new)) k place
+      ≡ state s (takes_at k place (packets ++ p ∷ []))) (sym same)
+      (state_at_is s (slice_set rows p.owner new) p.owner new (there_now rows p.owner row new e) place
+      ∙ now.at_each_place place))
       (λ (apart : owner ≢ p.owner).
       ap (λ m. unwrap_or (maps.get m place) (state s [])) (other_instances rows p.owner owner new apart)
       ∙ is.at_each_place owner place
@@ -77,11 +82,13 @@ state_push s rows row new p e packets is now = record {
 }
 
 -- an owner's stream that holds the same changes nothing that contracts see
-pub same_seen : (s : Counts) (rows : List OwnerStream) (owner : ℕ) (row new : OwnerStream) → slice_get rows owner ≡ Some row
+pub same_seen : (s : Counts) (rows : List OwnerStream) (owner : ℕ) (row new : OwnerStream)
+    → slice_get rows owner ≡ Some row
     → SamePlaces row new →
     seen s (slice_set rows owner new) ≡ seen s rows
 same_seen s rows owner row new e same =
-    let one : instances_in new ≡ instances_in row = same_instances row.places.items new.places.items same.at_each_place in
+    let one : instances_in new ≡ instances_in row =
+    same_instances row.places.items new.places.items same.at_each_place in
     let kept : get_or (map instances_in rows) owner maps.empty ≡ instances_in row =
     sym (unwrap_or-slice_get (map instances_in rows) owner maps.empty) ∙ instances_are rows owner row e in
     let all : map instances_in (slice_set rows owner new) ≡ map instances_in rows =
@@ -109,16 +116,20 @@ fresh_at : (s : Counts) (rows : List OwnerStream) (owner place : ℕ) → All Is
     → slice_get rows owner ≡ o →
     state_at (seen s rows) owner place ≡ state s []
 fresh_at s rows owner place fresh None e =
-    ap (λ o. unwrap_or (maps.get (unwrap_or o maps.empty) place) (state s [])) (slice_get-map instances_in rows owner ∙ ap (option_map instances_in) e)
+    ap (λ o. unwrap_or (maps.get (unwrap_or o maps.empty) place) (state s [])) (slice_get-map instances_in rows owner
+    ∙ ap (option_map instances_in) e)
     ∙ ap (λ slot. unwrap_or slot (state s [])) (maps.get-empty nat_cmp place)
 fresh_at s rows owner place fresh (Some row) e =
-    let is : IsFresh row = subst IsFresh (get_or_from_slice_get rows owner row row e) (fresh owner row (slice_get_within rows owner row e)) in
+    let is : IsFresh row =
+    subst IsFresh (get_or_from_slice_get rows owner row row e) (fresh owner row (slice_get_within rows owner row e))
+    in
     state_at_is s rows owner row e place ∙ ap (state_in s) (empty_slot row is place)
 
 -- where nothing was taken from any owner, all is in the state of no packets
 pub fresh_state : (s : Counts) (rows : List OwnerStream) → All IsFresh rows → IsStateOf (seen s rows) []
 unfolding takes_at
-fresh_state s rows fresh = record { at_each_place = λ owner place. fresh_at s rows owner place fresh (slice_get rows owner) refl }
+fresh_state s rows fresh =
+    record { at_each_place = λ owner place. fresh_at s rows owner place fresh (slice_get rows owner) refl }
 
 -- the contract of one owner's stream, as the contract of all
 pub on_ok : {A B : Type 0} (r : Result A B) {P Q : Type 0} → (P → Q) → OnOk r P → OnOk r Q
@@ -134,44 +145,59 @@ if_ok (Ok x) f p = f x p
 if_ok (Err e) f p = p
 
 -- of the streams that contracts see as v, the one at index i is that of the owner
-pub record IsOwners (s : Counts) (rows : List OwnerStream) (i owner : ℕ) (row : OwnerStream) (v : StreamsValue) : Type 0 where
-  pub at : i ≡ owner
-  pub here : slice_get rows owner ≡ Some row
-  pub is : seen s rows ≡ v
+pub record IsOwners (s : Counts) (rows : List OwnerStream) (i owner : ℕ) (row : OwnerStream) (v : StreamsValue) : Type 0
+  where
+    pub at : i ≡ owner
+    pub here : slice_get rows owner ≡ Some row
+    pub is : seen s rows ≡ v
 
 pub is_owners : {s : Counts} {rows : List OwnerStream} {i owner : ℕ} {row : OwnerStream} {v : StreamsValue} →
-    i ≡ owner → length rows ≡ s.nodes → owner < v.sizes.nodes → seen s rows ≡ v → row ≡ slice_index_or rows i row → IsOwners s rows i owner row v
+    i ≡ owner → length rows ≡ s.nodes → owner < v.sizes.nodes → seen s rows ≡ v → row ≡ slice_index_or rows i row
+    → IsOwners s rows i owner row v
 is_owners {s} {rows} {i} {owner} {row} {v} at one_each has is read =
     let nodes : s.nodes ≡ v.sizes.nodes = ap (λ w. w.sizes.nodes) is in
     let within : owner < length rows = omega arith in
-    record { at = at; here = slice_get_read rows (length rows) owner row refl within (read ∙ ap (λ k. slice_index_or rows k row) at); is = is }
+    record {
+      at = at;
+      here = slice_get_read rows (length rows) owner row refl within (read ∙ ap (λ k. slice_index_or rows k row) at);
+      is = is;
+    }
 
 -- it is kept as all are
 pub is_kept : {s : Counts} {rows : List OwnerStream} {i owner : ℕ} {row : OwnerStream} {v : StreamsValue} →
     IsOwners s rows i owner row v → All (IsOwnerStream s) rows → IsOwnerStream s row
 is_kept {s} {rows} {i} {owner} {row} {v} o all =
-    subst (IsOwnerStream s) (get_or_from_slice_get rows owner row row o.here) (all owner row (slice_get_within rows owner row o.here))
+    subst (IsOwnerStream s) (get_or_from_slice_get rows owner row row o.here)
+    (all owner row (slice_get_within rows owner row o.here))
 
 -- what holds of packets by the one owner's stream holds by all
-pub by_owner : {s : Counts} {rows : List OwnerStream} {i owner : ℕ} {row : OwnerStream} {v : StreamsValue} (P : Counts → List PacketValue → Type 0) →
+pub by_owner : {s : Counts} {rows : List OwnerStream} {i owner : ℕ} {row : OwnerStream} {v : StreamsValue} (P : Counts
+    → List PacketValue → Type 0) →
     IsOwners s rows i owner row v → ((packets : List PacketValue) → AreStatesOf s owner row packets → P s packets) →
     (packets : List PacketValue) → IsStateOf v packets → P v.sizes packets
 by_owner {s} {rows} {i} {owner} {row} {v} P o one =
     let Holds : StreamsValue → Type 0 = λ w. (packets : List PacketValue) → IsStateOf w packets → P w.sizes packets in
     subst Holds o.is (λ packets known. one packets (are_states_of s rows owner row o.here packets known))
 
-pub states_go_on : {A B : Type 0} {s : Counts} {rows : List OwnerStream} {i : ℕ} {row : OwnerStream} {v : StreamsValue} (p : PacketValue) (new : OwnerStream) (r : Result A B) →
+pub states_go_on : {A B : Type 0} {s : Counts} {rows : List OwnerStream} {i : ℕ} {row : OwnerStream} {v : StreamsValue}
+    (p : PacketValue) (new : OwnerStream) (r : Result A B) →
     IsOwners s rows i p.owner row v →
-    OnOk r ((packets : List PacketValue) → AreStatesOf s p.owner row packets → AreStatesOf s p.owner new (packets ++ p ∷ [])) →
-    OnOk r ((packets : List PacketValue) → IsStateOf v packets → IsStateOf (seen s (slice_set rows i new)) (packets ++ p ∷ []))
+    OnOk r ((packets : List PacketValue) → AreStatesOf s p.owner row packets
+    → AreStatesOf s p.owner new (packets ++ p ∷ [])) →
+    OnOk r ((packets : List PacketValue) → IsStateOf v packets
+    → IsStateOf (seen s (slice_set rows i new)) (packets ++ p ∷ []))
 states_go_on {s = s} {rows = rows} {i = i} {row = row} {v = v} p new r o one =
     let GoesOn : ℕ → StreamsValue → Type 0 =
-    λ k w. OnOk r ((packets : List PacketValue) → IsStateOf w packets → IsStateOf (seen s (slice_set rows k new)) (packets ++ p ∷ [])) in
+    λ k w. OnOk r ((packets : List PacketValue) → IsStateOf w packets
+    → IsStateOf (seen s (slice_set rows k new)) (packets ++ p ∷ [])) in
     let all : GoesOn p.owner (seen s rows) =
-    on_ok r (λ take packets known. state_push s rows row new p o.here packets known (take packets (are_states_of s rows p.owner row o.here packets known))) one in
+    on_ok r (λ take packets known.
+    state_push s rows row new p o.here packets known
+    (take packets (are_states_of s rows p.owner row o.here packets known))) one in
     subst (GoesOn i) o.is (subst (λ k. GoesOn k (seen s rows)) (sym o.at) all)
 
-pub same_as_before : {s : Counts} {rows : List OwnerStream} {i owner : ℕ} {row : OwnerStream} {v : StreamsValue} (new : OwnerStream) →
+pub same_as_before : {s : Counts} {rows : List OwnerStream} {i owner : ℕ} {row : OwnerStream} {v : StreamsValue}
+    (new : OwnerStream) →
     IsOwners s rows i owner row v → SamePlaces row new → seen s (slice_set rows i new) ≡ v
 same_as_before {s} {rows} {i} {owner} {row} {v} new o same =
     ap (λ k. seen s (slice_set rows k new)) o.at ∙ same_seen s rows owner row new o.here same ∙ o.is

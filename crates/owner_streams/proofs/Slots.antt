@@ -14,7 +14,8 @@ same_key q k e = grind (arith, nat_tests)
 other_key : (q k : ℕ) → q ≢ k → eq_by_cmp nat_cmp q k ≡ false
 other_key q k e = grind (arith, nat_tests)
 
-get-put_same : (m : Instances) (k : ℕ) (slot : Option State) → maps.get m k ≡ None → maps.get (put_some m k slot) k ≡ slot
+get-put_same : (m : Instances) (k : ℕ) (slot : Option State) → maps.get m k ≡ None
+    → maps.get (put_some m k slot) k ≡ slot
 get-put_same m k None e = e
 get-put_same m k (Some st) e =
     maps.get-insert nat_cmp_total m k st k ∙ ap (λ b. cond b (Some st) (maps.get m k)) (same_key k k refl)
@@ -25,7 +26,8 @@ get-put_other m k q (Some st) apart =
     maps.get-insert nat_cmp_total m k st q ∙ ap (λ b. cond b (Some st) (maps.get m q)) (other_key q k apart)
 
 -- no instance is before the first place
-none_before : (first : ℕ) (places : List (Option State)) (q : ℕ) → q < first → maps.get (instances_from first places) q ≡ None
+none_before : (first : ℕ) (places : List (Option State)) (q : ℕ) → q < first
+    → maps.get (instances_from first places) q ≡ None
 unfolding instances_from
 none_before first [] q h = maps.get-empty nat_cmp q
 none_before first (slot ∷ places) q h =
@@ -50,10 +52,12 @@ from_first first (slot ∷ places) (suc place) =
 pub get-instances_from : (places : List (Option State)) (place : ℕ)
     → maps.get (instances_from 0 places) place ≡ slot_at places place
 get-instances_from places place =
-    let e : place ≡ 0 + place = omega arith in ap (λ q. maps.get (instances_from 0 places) q) e ∙ from_first 0 places place
+    let e : place ≡ 0 + place = omega arith in ap (λ q. maps.get (instances_from 0 places) q) e
+    ∙ from_first 0 places place
 
 -- places that hold the same are one map
 pub same_instances : (before after : List (Option State)) → ((place : ℕ) → slot_at after place ≡ slot_at before place) →
     instances_from 0 after ≡ instances_from 0 before
 same_instances before after same =
-    maps.same_map nat_cmp_total maps.nat_cmp-IsAntisymmetric _ _ (λ q. get-instances_from after q ∙ same q ∙ sym (get-instances_from before q))
+    maps.same_map nat_cmp_total maps.nat_cmp-IsAntisymmetric _ _ (λ q. get-instances_from after q ∙ same q
+    ∙ sym (get-instances_from before q))

@@ -37,5 +37,6 @@ stream_is_one_lem s owner packets commands is =
 pub stream_grows_lem : StreamGrows
 unfolding stream
 stream_grows_lem s owner before later =
-    answers_go_on (λ k. delivered_at s owner k before) (λ k. delivered_at s owner k (before ++ later)) 0 (places_end before) (places_end (before ++ later))
+    answers_go_on (λ k. delivered_at s owner k before) (λ k.
+    delivered_at s owner k (before ++ later)) 0 (places_end before) (places_end (before ++ later))
     (λ i x e. delivery_stays_lem s owner i before later x e) (places_end-append before later)

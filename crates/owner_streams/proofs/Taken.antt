@@ -37,7 +37,8 @@ takes_at-own packets p =
 
 -- and of no other
 pub takes_at-other : (owner place : ℕ) (packets : List PacketValue) (p : PacketValue)
-    → (p.owner == owner) && (p.place == place) ≡ false → takes_at owner place (packets ++ p ∷ []) ≡ takes_at owner place packets
+    → (p.owner == owner) && (p.place == place) ≡ false
+    → takes_at owner place (packets ++ p ∷ []) ≡ takes_at owner place packets
 unfolding takes_at
 takes_at-other owner place packets p e =
     filter_map-append (take_at owner place) packets (p ∷ [])
@@ -57,13 +58,15 @@ pub delivered-none : (s : Counts) → delivered s [] ≡ None
 unfolding delivered at_first_prefix
 delivered-none s = refl
 
-pub takes_at-end : (owner place : ℕ) (packets : List PacketValue) → places_end packets ≤ place → takes_at owner place packets ≡ []
+pub takes_at-end : (owner place : ℕ) (packets : List PacketValue) → places_end packets ≤ place
+    → takes_at owner place packets ≡ []
 unfolding takes_at places_end
 takes_at-end owner place [] h = refl
 takes_at-end owner place (p ∷ packets) h =
     let before : p.place < place = omega arith in
     let later : places_end packets ≤ place = omega arith in
-    ap (λ b. cons_option (cond b (Some (take_of p)) None) (filter_map (take_at owner place) packets)) (other_place (p.owner == owner) p.place place before)
+    ap (λ b. cons_option (cond b (Some (take_of p)) None) (filter_map (take_at owner place) packets))
+    (other_place (p.owner == owner) p.place place before)
     ∙ takes_at-end owner place packets later
 
 pub places_end-append : (before later : List PacketValue) → places_end before ≤ places_end (before ++ later)

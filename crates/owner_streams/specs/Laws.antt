@@ -10,7 +10,8 @@ IsPrefixOf xs ys = (rest : List Command) × (xs ++ rest ≡ ys)
 
 -- no more is delivered in a stream without a gap than the stream lists
 abbrev pub StreamIsExact : Type 0
-StreamIsExact = (s : Counts) (owner : ℕ) (packets : List PacketValue) → IsStream s owner packets (stream s owner packets)
+StreamIsExact = (s : Counts) (owner : ℕ) (packets : List PacketValue)
+    → IsStream s owner packets (stream s owner packets)
 
 -- there is one stream of an owner
 abbrev pub StreamIsOne : Type 0

@@ -1,4 +1,5 @@
--- The places of an owner's stream as they are kept, each with its instance if there is one. Serves the code, and no public contract.
+-- The places of an owner's stream as they are kept, each with its instance if there is one. Serves the code, and no
+-- public contract.
 use Rattle.std.specs.Prelude.{◌≡◌, ℕ, ◌+◌, Bool, false, List, [], ◌∷◌, ◌++◌, slice_index_or, unwrap_or, option_and_then, Option, Some, None}
 use Rattle.std.specs.FinMap as maps
 use Rattle.quorum_sizes.specs.Sizes.{Counts}
@@ -23,7 +24,10 @@ abbrev pub delivered_in : Option State → Option Command
 delivered_in slot = option_and_then (λ st. st.delivered) slot
 
 abbrev pub again_in : Option State → Again
-again_in slot = record { echo = option_and_then (λ st. st.echoed) slot; ready = option_and_then (λ st. st.readied) slot }
+again_in slot = record {
+  echo = option_and_then (λ st. st.echoed) slot;
+  ready = option_and_then (λ st. st.readied) slot;
+}
 
 -- whether a message of this kind from this node changes nothing
 abbrev pub voted_in : Option State → Kind → ℕ → Bool
@@ -37,7 +41,8 @@ pub record IsTaken (s : Counts) (takes : List Take) (t : Take) (taken : Taken) :
 
 -- from the state of any messages to that of one more
 abbrev pub GoesOn : Counts → Option State → Option State → Take → Type 0
-GoesOn s before after t = (takes : List Take) → state_in s before ≡ state s takes → state_in s after ≡ state s (takes ++ t ∷ [])
+GoesOn s before after t = (takes : List Take) → state_in s before ≡ state s takes
+    → state_in s after ≡ state s (takes ++ t ∷ [])
 
 -- the answer that is due to one more message, whatever messages the state is of
 abbrev pub IsAnswerAt : Counts → Option State → Take → Taken → Type 0

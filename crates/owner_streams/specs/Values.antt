@@ -4,6 +4,7 @@ use Rattle.std.specs.Coded.{Coded, code_by, coded×, coded_list, coded_ℕ}
 use Rattle.std.specs.Ordering.{nat_cmp}
 use Rattle.std.specs.FinMap as maps
 use Rattle.quorum_sizes.specs.Sizes.{Counts}
+use Rattle.quorum_sizes.specs.contracts.sizes.Sizes as sizes
 use Rattle.link_frames.specs.Packets.{PacketValue}
 use Rattle.bracha_instance.specs.States.{State, state}
 use Rattle.bracha_instance.specs.contracts.instance.Instance as instance
@@ -27,7 +28,8 @@ state_at streams owner place = unwrap_or (maps.get (instances_of streams owner) 
 
 -- for every owner and place the state is that of the messages among these packets
 pub record IsStateOf (streams : StreamsValue) (packets : List PacketValue) : Type 0 where
-  pub at_each_place : (owner place : ℕ) → state_at streams owner place ≡ state streams.sizes (takes_at owner place packets)
+  pub at_each_place : (owner place : ℕ)
+      → state_at streams owner place ≡ state streams.sizes (takes_at owner place packets)
 
 abbrev pub instances_code : Coded Instances
 instances_code = maps.code coded_ℕ instance.the_row.coded
@@ -35,7 +37,7 @@ instances_code = maps.code coded_ℕ instance.the_row.coded
 -- it is stored as its fields
 abbrev pub streams_code : Coded StreamsValue
 streams_code =
-    code_by ((ℕ × ℕ) × List Instances) (coded× (coded× coded_ℕ coded_ℕ) (coded_list instances_code))
-    (λ v. ((v.sizes.nodes, v.sizes.liars), v.owners))
-    (λ p. record { sizes = record { nodes = p.0.0; liars = p.0.1 }; owners = p.1 })
+    code_by (Counts × List Instances) (coded× sizes.the_row.coded (coded_list instances_code))
+    (λ v. (v.sizes, v.owners))
+    (λ p. record { sizes = p.0; owners = p.1 })
     (λ _. refl)

@@ -1,5 +1,5 @@
 -- What one more command of a stream changes.
-use Rattle.std.proofs.Common.{◌≡◌, ℕ, Bool, true, false, ◌&&◌, ◌==◌, ◌⊎◌, inl, inr, List, [], ◌∷◌, ◌++◌, Option, None, Some, unwrap_or, refl, sym, ap, ◌∙◌}
+use Rattle.std.proofs.Common.{◌≡◌, ℕ, Bool, true, false, ◌&&◌, ◌==◌, ◌⊎◌, inl, inr, List, [], ◌∷◌, ◌++◌, Option, None, Some, unwrap_or, refl, sym, ap, ◌∙◌, append-nil}
 use Rattle.std.specs.Prelude.{if◌then◌else◌}
 use Rattle.std.specs.List.{filter_map, last_or, cons_option}
 use Rattle.std.specs.Option.{option_map_or}
@@ -46,13 +46,9 @@ last_or-push : {A : Type 0} (o : Option A) (xs : List A) (x : A) → last_or o (
 last_or-push o [] x = refl
 last_or-push o (y ∷ xs) x = last_or-push (Some y) xs x
 
-append_nothing : {A : Type 0} (xs : List A) → xs ++ [] ≡ xs
-append_nothing [] = refl
-append_nothing (x ∷ xs) = ap (λ ys. x ∷ ys) (append_nothing xs)
-
 said_last : (said : List Bool) (o : Option Bool) →
     unwrap_or (last_or None (said ++ cons_option o [])) false ≡ unwrap_or o (unwrap_or (last_or None said) false)
-said_last said None = rw (append_nothing said)
+said_last said None = rw (append-nil said)
 said_last said (Some b) = rw (last_or-push None said b)
 
 -- one more command at the end

@@ -5,6 +5,7 @@ use Rattle.std.specs.List.{filter_map, last_or}
 use Rattle.std.specs.Option.{option_map_or}
 use Rattle.std.specs.FinMap as map
 use Rattle.role_commands.specs.Tables.{Table}
+pub use Rattle.role_commands.specs.Tables.{owns}
 use Rattle.role_commands.specs.Rules.{role_of}
 use Rattle.role_commands.specs.declared.command.Command.{Command}
 use Rattle.rbac_state.specs.Says.{says_of_user, says_of_permission}
@@ -30,10 +31,6 @@ is_permission_granted table streams operation object role =
 -- the streams after one more command of this node
 abbrev pub with_command : (ℕ → List Command) → ℕ → Command → ℕ → List Command
 with_command streams owner command node = if node == owner then streams node ++ command ∷ [] else streams node
-
--- the table has the role, with this node as its owner
-abbrev pub owns : Table → ℕ → ℕ → Bool
-owns table node role = option_map_or (λ owner. owner == node) (map.get table.owners role) false
 
 -- what holds after a command of a node's stream, where `before` held before it: what the command says, if its
 -- role is this node's and it says something

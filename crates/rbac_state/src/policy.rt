@@ -1,7 +1,6 @@
 ghost use Rattle.std.specs.Prelude.{◌≡◌, ℕ, Contains, ◌+◌, ◌<◌, ◌≤◌, IfOk, OnOk, OnErr};
 ghost use Rattle.std.specs.Ordering.{nat_cmp};
 ghost use Rattle.rbac_state.specs.Policies.{permission_cmp, assigned_in, granted_in, HasRole, RoleMay, UserMay, least_room, IsBlank, SameRelations, IsApplied};
-ghost use Rattle.rbac_state.specs.Assignments.{owns};
 ghost use Rattle.rbac_state.specs.Listings.{IsListing};
 
 use crate::listing::ascending;
@@ -44,16 +43,6 @@ impl Model for Policy {
       grants = set.from_list a.granted.items;
       room = min (vec_capacity a.assigned - vec_len a.assigned) (vec_capacity a.granted - vec_len a.granted);
     } };
-}
-
-/// Whether the table has the role, with this node as its owner.
-fn is_owner(roles: &RoleTable, node: NodeName, role: u16) -> bool
-    ensures { result ≡ owns roles.now node role }
-{
-    match roles.owner(role) {
-        Some(owner) => owner.index() == node.index(),
-        None => false,
-    }
 }
 
 impl Policy {
@@ -99,7 +88,7 @@ impl Policy {
         ensures applied { IsApplied owner command self.old self.new }
         ensures room { self.old.room ≤ self.new.room + 1 }
     {
-        if !is_owner(&self.roles, owner, command.role()) {
+        if !self.roles.is_owned_by(command.role(), owner) {
             return;
         }
         match command {

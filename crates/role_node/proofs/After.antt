@@ -1,7 +1,6 @@
 -- The state after one more event.
 use Rattle.std.proofs.Common.{◌≡◌, ℕ, ◌+◌, ◌≤◌, Bool, true, false, List, [], ◌∷◌, ◌++◌, Result, Ok, Err, refl, sym, ap, ◌∙◌, subst, le_refl, arith}
 use Rattle.std.specs.Prelude.{if◌then◌else◌, nat_le, OnErr}
-use Rattle.std.specs.FinSet as set
 use Rattle.std.proofs.lemmas.List.Elements.{All-nil, All-push}
 use Rattle.quorum_sizes.specs.Sizes.{Counts}
 use Rattle.role_commands.specs.Tables.{Table}
@@ -15,15 +14,14 @@ use Rattle.owner_streams.specs.Values.{IsStateOf}
 use Rattle.owner_streams.specs.declared.steps.StreamStep.{StreamStep}
 use Rattle.owner_streams.specs.declared.steps.StreamFault.{StreamFault}
 use Rattle.owner_streams.specs.declared.steps.StreamFault.TheVariants as stream_fault
-use Rattle.rbac_state.specs.Assignments.{is_user_assigned, is_permission_granted}
 use Rattle.rbac_state.specs.Policies.{PolicyValue, IsBlank, SameRelations, IsPolicyOf}
-use Rattle.rbac_state.proofs.StreamLemmas.{no_owner_said}
-use Rattle.rbac_state.specs.Says.{says_of_user, says_of_permission}
+use Rattle.rbac_state.proofs.Exported.{blank_is_of_no_commands, same_is_of_the_same}
+use Rattle.role_sessions.proofs.Exported.{relations_stay}
 use Rattle.role_sessions.specs.Sessions.{state_of, Happened}
 use Rattle.role_sessions.specs.Decisions.{Relations, relations_of}
 use Rattle.role_sessions.specs.Kept.{SessionsValue, KeptAreRight, KeepsRight}
 use Rattle.role_sessions.specs.declared.event.ClientEvent.{ClientEvent}
-use Rattle.role_node.specs.Histories.{issued, packets, client_events}
+use Rattle.role_node.specs.Histories.{packets, client_events}
 use Rattle.role_node.specs.Faults.{of_stream_fault}
 use Rattle.role_node.specs.Answers.{of_effect_due}
 use Rattle.role_node.specs.Kept.{ArePartsOf, IsStateAfter, Stays, obeyed}
@@ -36,48 +34,31 @@ use Rattle.role_node.specs.declared.state.State.{State}
 use Rattle.role_node.proofs.Parts.{issued-Issue, issued-Take, issued-Client, packets-Issue, packets-Take, packets-Client, client_events-Issue, client_events-Take, client_events-Client, issued-none, packets-none, client_events-none}
 use Rattle.role_node.proofs.Growing.{obeyed_none, obeyed_all, policy_same, stream_same}
 
-parts_same : (roles : Table) (commands commands' : List Command) (taken taken' : List PacketValue) (acts acts' : List ClientEvent) (a : State) →
-    commands ≡ commands' → taken ≡ taken' → acts ≡ acts' → ArePartsOf roles commands' taken' acts' a → ArePartsOf roles commands taken acts a
-parts_same roles commands commands' taken taken' acts acts' a c t e h =
+parts_same : {roles : Table} {commands commands' : List Command} {taken taken' : List PacketValue}
+    {acts acts' : List ClientEvent} {a : State} → commands ≡ commands' → taken ≡ taken' → acts ≡ acts' →
+    ArePartsOf roles commands' taken' acts' a → ArePartsOf roles commands taken acts a
+parts_same {roles = roles} {commands = commands} {commands' = commands'} {taken = taken} {taken' = taken'} {acts =
+    acts} {a = a}
+    c t e h =
     let P : List Command → Type 0 = λ x. ArePartsOf roles x taken acts a in
     let Q : List PacketValue → Type 0 = λ x. ArePartsOf roles commands' x acts a in
     let R : List ClientEvent → Type 0 = λ x. ArePartsOf roles commands' taken' x a in
     subst P (sym c) (subst Q (sym t) (subst R (sym e) h))
 
--- the relations of a policy with more room
-same_relations : (old new : PolicyValue) → SameRelations old new → relations_of new ≡ relations_of old
-same_relations old new same =
-    let a = same.assignments in
-    let g = same.grants in
-    λ i. record {
-      assigned = λ user role. set.contains (a i) (user, role);
-      granted = λ operation object role. set.contains (g i) ((operation, object), role);
-    }
-
-room_kept : (old new : PolicyValue) (sessions : SessionsValue) → SameRelations old new →
+-- answers that were right under a policy are so with more room in it
+pub kept_with_room : {old new : PolicyValue} (sessions : SessionsValue) → SameRelations old new →
     KeptAreRight (relations_of old) sessions → KeptAreRight (relations_of new) sessions
-room_kept old new sessions same h =
+kept_with_room {old = old} {new = new} sessions same h =
     let P : Relations → Type 0 = λ relations. KeptAreRight relations sessions in
-    subst P (sym (same_relations old new same)) h
+    subst P (sym (relations_stay old new same)) h
 
-room_policy : (streams : ℕ → List Command) (old new : PolicyValue) → SameRelations old new → IsPolicyOf streams old
-    → IsPolicyOf streams new
-room_policy streams old new same was =
-    record {
-      assigned = λ user role.
-          ap (λ a. set.contains a (user, role)) same.assignments ∙ was.assigned user role
-          ∙ ap (λ table. is_user_assigned table streams user role) (sym same.table);
-      granted = λ operation object role.
-          ap (λ g. set.contains g ((operation, object), role)) same.grants ∙ was.granted operation object role
-          ∙ ap (λ table. is_permission_granted table streams operation object role) (sym same.table);
-    }
-
-pub after_issue : (roles : Table) (history : List Event) (c : Command) (old new : State) → IsStateAfter roles history old →
-    new.issued.items ≡ old.issued.items ++ c ∷ [] → new.streams ≡ old.streams → new.policy ≡ old.policy → new.sessions ≡ old.sessions →
+pub after_issue : (roles : Table) (history : List Event) (c : Command) {old new : State}
+    → IsStateAfter roles history old →
+    new.issued.items ≡ old.issued.items ++ c ∷ [] → new.streams ≡ old.streams → new.policy ≡ old.policy
+    → new.sessions ≡ old.sessions →
     IsStateAfter roles (history ++ Issue c ∷ []) new
-after_issue roles history c old new h i s p t =
-    parts_same roles _ (issued history ++ c ∷ []) _ (packets history) _ (client_events history) new
-    (issued-Issue history c) (packets-Issue history c) (client_events-Issue history c)
+after_issue roles history c h i s p t =
+    parts_same (issued-Issue history c) (packets-Issue history c) (client_events-Issue history c)
     (record {
       issued = i ∙ ap (λ commands. commands ++ c ∷ []) h.issued;
       sizes = ap (λ streams. streams.sizes) s ∙ h.sizes;
@@ -89,14 +70,14 @@ after_issue roles history c old new h i s p t =
       kept = rw (p, t) h.kept;
     })
 
-pub after_act : (roles : Table) (history : List Event) (act a : ClientEvent) (old new : State) → IsStateAfter roles history old
+pub after_act : (roles : Table) (history : List Event) {act a : ClientEvent} {old new : State}
+    → IsStateAfter roles history old
     → act ≡ a →
     Happened a old.sessions.state new.sessions.state → KeepsRight old.sessions new.sessions →
     new.issued ≡ old.issued → new.streams ≡ old.streams → new.policy ≡ old.policy →
     IsStateAfter roles (history ++ Client act ∷ []) new
-after_act roles history act a old new h e happened keeps i s p =
-    parts_same roles _ (issued history) _ (packets history) _ (client_events history ++ act ∷ []) new
-    (issued-Client history act) (packets-Client history act) (client_events-Client history act)
+after_act roles history {act = act} {old = old} h e happened keeps i s p =
+    parts_same (issued-Client history act) (packets-Client history act) (client_events-Client history act)
     (record {
       issued = ap (λ items. items.items) i ∙ h.issued;
       sizes = ap (λ streams. streams.sizes) s ∙ h.sizes;
@@ -104,20 +85,21 @@ after_act roles history act a old new h e happened keeps i s p =
       sends = h.sends;
       table = ap (λ policy. policy.table) p ∙ h.table;
       policy = rw p h.policy;
-      sessions = happened (client_events history) h.sessions ∙ ap (λ x. state_of (client_events history ++ x ∷ [])) (sym e);
+      sessions = happened (client_events history) h.sessions
+          ∙ ap (λ x. state_of (client_events history ++ x ∷ [])) (sym e);
       kept = rw p (keeps (relations_of old.policy) h.kept);
     })
 
 -- what a packet needs of the parts that it changes
-pub after_take : (roles : Table) (history : List Event) (p : PacketValue) (old new : State) → IsStateAfter roles history old →
+pub after_take : (roles : Table) (history : List Event) (p : PacketValue) {old new : State}
+    → IsStateAfter roles history old →
     SentByOwner p → new.issued ≡ old.issued → new.streams.sizes ≡ old.streams.sizes →
     IsStateOf new.streams (packets history ++ p ∷ []) → new.policy.table ≡ old.policy.table →
     IsPolicyOf (λ owner. stream roles.sizes owner (packets history ++ p ∷ [])) new.policy →
     new.sessions.state ≡ old.sessions.state → KeptAreRight (relations_of new.policy) new.sessions →
     IsStateAfter roles (history ++ Take p ∷ []) new
-after_take roles history p old new h sent i s streams t policy sessions kept =
-    parts_same roles _ (issued history) _ (packets history ++ p ∷ []) _ (client_events history) new
-    (issued-Take history p) (packets-Take history p) (client_events-Take history p)
+after_take roles history p h sent i s streams t policy sessions kept =
+    parts_same (issued-Take history p) (packets-Take history p) (client_events-Take history p)
     (record {
       issued = ap (λ items. items.items) i ∙ h.issued;
       sizes = s ∙ h.sizes;
@@ -130,19 +112,21 @@ after_take roles history p old new h sent i s streams t policy sessions kept =
     })
 
 -- room in the policy changes nothing
-pub stays_with_room : (roles : Table) (history : List Event) (old new : State) → IsStateAfter roles history old →
-    new.issued ≡ old.issued → new.streams ≡ old.streams → SameRelations old.policy new.policy → new.sessions ≡ old.sessions →
+pub stays_with_room : (roles : Table) (history : List Event) {old new : State} → IsStateAfter roles history old →
+    new.issued ≡ old.issued → new.streams ≡ old.streams → SameRelations old.policy new.policy
+    → new.sessions ≡ old.sessions →
     IsStateAfter roles history new
-stays_with_room roles history old new h i s same t =
+stays_with_room roles history {old = old} {new = new} h i s same t =
     record {
       issued = ap (λ items. items.items) i ∙ h.issued;
       sizes = ap (λ streams. streams.sizes) s ∙ h.sizes;
       streams = rw s h.streams;
       sends = h.sends;
       table = same.table ∙ h.table;
-      policy = room_policy (λ owner. stream roles.sizes owner (packets history)) old.policy new.policy same h.policy;
+      policy =
+          same_is_of_the_same (λ owner. stream roles.sizes owner (packets history)) old.policy new.policy h.policy same;
       sessions = ap (λ sessions. sessions.state) t ∙ h.sessions;
-      kept = rw t (room_kept old.policy new.policy old.sessions same h.kept);
+      kept = rw t (kept_with_room old.sessions same h.kept);
     }
 
 ok_is : {A E : Type 0} (b : Bool) (e : E) (x y : A) → ◌≡◌ {A = Result A E} (if b then Err e else Ok x) (Ok y) → x ≡ y
@@ -150,53 +134,59 @@ ok_is true e x y h = absurd cc
 ok_is false e x y h = cc
 
 -- the step that is due is what the packet causes
-pub step_is_due : (s : Counts) (taken : List PacketValue) (p : PacketValue) (step : StreamStep) → step_due s taken p ≡ Ok step
+pub step_is_due : (s : Counts) (taken : List PacketValue) (p : PacketValue) (step : StreamStep)
+    → step_due s taken p ≡ Ok step
     → step_of s taken p ≡ step
 unfolding step_due
 step_is_due s taken p step e = ok_is (nat_le (reach s p.owner taken + 64) p.place) _ (step_of s taken p) step e
 
 -- the policy after the packet, where the new commands of its owner's stream were obeyed
-pub policy_grown : (s : Counts) (taken : List PacketValue) (p : PacketValue) (step : StreamStep) (sizes : Counts) (owner : ℕ) (old room new : PolicyValue) →
-    sizes ≡ s → owner ≡ p.owner → step_of s taken p ≡ step →
+pub policy_grown : (s : Counts) (taken : List PacketValue) (p : PacketValue) {step : StreamStep} {sizes : Counts}
+    {owner : ℕ}
+    {old room new : PolicyValue} → sizes ≡ s → owner ≡ p.owner → step_of s taken p ≡ step →
     IsPolicyOf (λ o. stream s o taken) old → SameRelations old room →
-    (IsPolicyOf (obeyed sizes (taken ++ p ∷ []) owner step.from) room → IsPolicyOf (obeyed sizes (taken ++ p ∷ []) owner step.to) new) →
+    (IsPolicyOf (obeyed sizes (taken ++ p ∷ []) owner step.from) room →
+    IsPolicyOf (obeyed sizes (taken ++ p ∷ []) owner step.to) new) →
     IsPolicyOf (λ o. stream s o (taken ++ p ∷ [])) new
-policy_grown s taken p step sizes owner old room new es eo e was same obeys =
+policy_grown s taken p {step = step} {sizes = sizes} {owner = owner} {old = old} {room = room} {new =
+    new} es eo e was same obeys =
     let from : step.from ≡ reach s p.owner taken = ap (λ x. x.from) (sym e) in
     let to : step.to ≡ reach s p.owner (taken ++ p ∷ []) = ap (λ x. x.to) (sym e) in
     let after : List PacketValue = taken ++ p ∷ [] in
     let before : IsPolicyOf (obeyed s after p.owner (reach s p.owner taken)) room =
-    policy_same (λ o. stream s o taken) (obeyed s after p.owner (reach s p.owner taken)) room (λ node. sym (obeyed_none s taken p node))
-    (room_policy (λ o. stream s o taken) old room same was) in
+    policy_same (λ o. stream s o taken) (obeyed s after p.owner (reach s p.owner taken)) room (λ node.
+    sym (obeyed_none s taken p node))
+    (same_is_of_the_same (λ o. stream s o taken) old room was same) in
     let now : IsPolicyOf (obeyed sizes after owner step.to) new = obeys (rw (es, eo, from) before) in
     let of_sizes : Counts → Type 0 = λ z. IsPolicyOf (obeyed z after owner step.to) new in
     let of_owner : ℕ → Type 0 = λ o. IsPolicyOf (obeyed s after o step.to) new in
     let of_end : ℕ → Type 0 = λ n. IsPolicyOf (obeyed s after p.owner n) new in
-    let then' : IsPolicyOf (obeyed s after p.owner (reach s p.owner after)) new = subst of_end to (subst of_owner eo (subst of_sizes es now)) in
-    policy_same (obeyed s after p.owner (reach s p.owner after)) (λ o. stream s o after) new (obeyed_all s after p.owner (reach s p.owner after) (le_refl _)) then'
+    let then' : IsPolicyOf (obeyed s after p.owner (reach s p.owner after)) new =
+    subst of_end to (subst of_owner eo (subst of_sizes es now)) in
+    policy_same (obeyed s after p.owner (reach s p.owner after)) (λ o.
+    stream s o after) new (obeyed_all s after p.owner (reach s p.owner after) (le_refl _)) then'
 
 -- .. and where the stream did not grow
-pub policy_stays : (s : Counts) (taken : List PacketValue) (p : PacketValue) (step : StreamStep) (old room : PolicyValue) →
+pub policy_stays : (s : Counts) (taken : List PacketValue) (p : PacketValue) {step : StreamStep}
+    {old room : PolicyValue} →
     step_of s taken p ≡ step → step.to ≤ step.from →
     IsPolicyOf (λ o. stream s o taken) old → SameRelations old room →
     IsPolicyOf (λ o. stream s o (taken ++ p ∷ [])) room
-policy_stays s taken p step old room e no_more was same =
+policy_stays s taken p {step = step} {old = old} {room = room} e no_more was same =
     let from : step.from ≡ reach s p.owner taken = ap (λ x. x.from) (sym e) in
     let to : step.to ≡ reach s p.owner (taken ++ p ∷ []) = ap (λ x. x.to) (sym e) in
     let no_further : reach s p.owner (taken ++ p ∷ []) ≤ reach s p.owner taken = omega arith in
     policy_same (λ o. stream s o taken) (λ o. stream s o (taken ++ p ∷ [])) room (stream_same s taken p no_further)
-    (room_policy (λ o. stream s o taken) old room same was)
+    (same_is_of_the_same (λ o. stream s o taken) old room was same)
 
-pub kept_with_room : (old new : PolicyValue) (sessions : SessionsValue) → SameRelations old new →
-    KeptAreRight (relations_of old) sessions → KeptAreRight (relations_of new) sessions
-kept_with_room old new sessions same h = room_kept old new sessions same h
-
-pub none_kept : (relations : Relations) (sessions : SessionsValue) → sessions.kept ≡ [] → KeptAreRight relations sessions
+pub none_kept : (relations : Relations) (sessions : SessionsValue) → sessions.kept ≡ []
+    → KeptAreRight relations sessions
 none_kept relations sessions e = rw e (All-nil _)
 
 -- a packet that counts is refused for want of memory alone
 pub only_memory : (due : Result StreamStep StreamFault) (f : StreamFault) (routed : Bool) → IsAnswer due (Err f) →
-    ◌≡◌ {A = Result Effect NodeFault} (if routed then of_effect_due (effect_due due) else Err fault.Misrouted) (Ok effect.Counted) →
+    ◌≡◌ {A = Result Effect NodeFault} (if routed then of_effect_due (effect_due due)
+    else Err fault.Misrouted) (Ok effect.Counted) →
     of_stream_fault f ≡ fault.Memory
 only_memory due stream_fault.Memory routed a e = refl
 only_memory (Ok step) (stream_fault.Beyond place end) routed a e = absurd cc
@@ -208,29 +198,25 @@ pub blank_policy : (roles : Table) (streams : ℕ → List Command) (p : PolicyV
     → IsBlank roles p → IsPolicyOf streams p
 blank_policy roles streams p nothing blank =
     policy_same (λ node. []) streams p (λ node. sym (nothing node))
-    (record {
-      assigned = λ user role. blank.assigned user role ∙ sym (no_owner_said p.table role (says_of_user user role));
-      granted =
-          λ operation object role. blank.granted operation object role
-          ∙ sym (no_owner_said p.table role (says_of_permission operation object role));
-    })
+    (blank_is_of_no_commands roles p blank)
 
 -- a refusal keeps the state, with what room was made
-pub stays_on_err : (r : Result Reply NodeFault) (old new : State) → new.issued ≡ old.issued → new.streams ≡ old.streams →
+pub stays_on_err : (r : Result Reply NodeFault) {old new : State} → new.issued ≡ old.issued
+    → new.streams ≡ old.streams →
     SameRelations old.policy new.policy → new.sessions ≡ old.sessions → OnErr r (Stays old new)
-stays_on_err (Ok reply) old new i s same t = tt
-stays_on_err (Err f) old new i s same t = λ roles history h. stays_with_room roles history old new h i s same t
+stays_on_err (Ok reply) i s same t = tt
+stays_on_err (Err f) i s same t = λ roles history h. stays_with_room roles history h i s same t
 
 stream_of_nothing : (s : Counts) (owner : ℕ) → stream s owner [] ≡ []
 unfolding stream places_end answers_from
 stream_of_nothing s owner = refl
 
 -- the parts before the first event
-pub parts_of_nothing : (roles : Table) (a : State) → a.issued.items ≡ [] → a.streams.sizes ≡ roles.sizes
+pub parts_of_nothing : (roles : Table) {a : State} → a.issued.items ≡ [] → a.streams.sizes ≡ roles.sizes
     → IsStateOf a.streams [] →
     IsBlank roles a.policy → a.sessions.state ≡ state_of [] → a.sessions.kept ≡ [] → IsStateAfter roles [] a
-parts_of_nothing roles a i s streams blank t kept =
-    parts_same roles _ [] _ [] _ [] a issued-none packets-none client_events-none
+parts_of_nothing roles {a = a} i s streams blank t kept =
+    parts_same issued-none packets-none client_events-none
     (record {
       issued = i;
       sizes = s;

@@ -29,7 +29,8 @@ at_push (z ∷ xs) x (suc k) y e =
     (λ (h : (k ≡ length xs) × (x ≡ y)). inr (ap suc h.0, h.1))
     (at_push xs x k y e)
 
-pub events-push : (entries : List Entry) (entry : Entry) → events (entries ++ entry ∷ []) ≡ events entries ++ entry.event ∷ []
+pub events-push : (entries : List Entry) (entry : Entry)
+    → events (entries ++ entry ∷ []) ≡ events entries ++ entry.event ∷ []
 events-push [] entry = refl
 events-push (e ∷ entries) entry = ap (λ es. e.event ∷ es) (events-push entries entry)
 
@@ -38,14 +39,17 @@ events-length [] = refl
 events-length (e ∷ entries) = ap suc (events-length entries)
 
 was_due : ConfigValue → ℕ → List Event → Entry → Type 0
-was_due config me past entry = (answer_due config me past entry.event ≡ Ok entry.reply) × IsTrue (is_recorded (Ok entry.reply))
+was_due config me past entry =
+    (answer_due config me past entry.event ≡ Ok entry.reply) × IsTrue (is_recorded (Ok entry.reply))
 
 -- one more entry whose reply was due
-pub entries_push : (config : ConfigValue) (me : ℕ) (entries : List Entry) (entry : Entry) → AreEntries config me entries →
+pub entries_push : (config : ConfigValue) (me : ℕ) (entries : List Entry) (entry : Entry)
+    → AreEntries config me entries →
     answer_due config me (events entries) entry.event ≡ Ok entry.reply → IsTrue (is_recorded (Ok entry.reply)) →
     AreEntries config me (entries ++ entry ∷ [])
 entries_push config me entries entry are due recorded k e at =
-    let P : List Event → Type 0 = λ past. (answer_due config me past e.event ≡ Ok e.reply) × IsTrue (is_recorded (Ok e.reply)) in
+    let P : List Event → Type 0 = λ past. (answer_due config me past e.event ≡ Ok e.reply)
+    × IsTrue (is_recorded (Ok e.reply)) in
     ⊎_elim
     (λ (h : (k < length entries) × (slice_get entries k ≡ Some e)).
     let short : k ≤ length (events entries) = omega (arith, events-length entries, h.0) in
@@ -57,7 +61,8 @@ entries_push config me entries entry are due recorded k e at =
     let past : take k (events (entries ++ entry ∷ [])) ≡ events entries =
     ap (take k) (events-push entries entry) ∙ ap (λ n. take n (events entries ++ entry.event ∷ [])) end
     ∙ take-append_seam (events entries) (entry.event ∷ []) in
-    let Q : Entry → Type 0 = λ x. (answer_due config me (events entries) x.event ≡ Ok x.reply) × IsTrue (is_recorded (Ok x.reply)) in
+    let Q : Entry → Type 0 = λ x. (answer_due config me (events entries) x.event ≡ Ok x.reply)
+    × IsTrue (is_recorded (Ok x.reply)) in
     subst P (sym past) (subst Q h.1 (due, recorded)))
     (at_push entries entry k e at)
 
@@ -101,7 +106,8 @@ counted_is_due config me history event r e is =
 
 pub counted_is_recorded : (roles : Table) (me : ℕ) (history : List Event) (event : Event) (r : Reply) →
     r ≡ reply_to roles me history event → IsTrue (is_recorded (Ok r))
-counted_is_recorded roles me history event r is = ap (λ x. is_recorded (Ok x)) is ∙ reply_is_recorded roles me history event
+counted_is_recorded roles me history event r is = ap (λ x. is_recorded (Ok x)) is
+    ∙ reply_is_recorded roles me history event
 
 unless_full_counts : (full : Bool) (r : Result Effect NodeFault) → unless_full full r ≡ Ok effect.Counted
     → (full ≡ false) × (r ≡ Ok effect.Counted)
@@ -113,7 +119,8 @@ unless_full_counts full (Err f) e = absurd cc
 -- where an event counts there is room
 pub counted_with_room : (config : ConfigValue) (me : ℕ) (history : List Event) (event : Event)
     → outlook config me history event ≡ Ok effect.Counted →
-    (nat_le config.limit (length history) ≡ false) × (outlook_with_room config.roles me history event ≡ Ok effect.Counted)
+    (nat_le config.limit (length history) ≡ false)
+    × (outlook_with_room config.roles me history event ≡ Ok effect.Counted)
 counted_with_room config me history event e = unless_full_counts _ _ e
 
 recorded_by : (o : Result Effect NodeFault) (r : Reply) (b : Bool) → is_recorded (Ok r) ≡ true → o ≡ Ok effect.Counted

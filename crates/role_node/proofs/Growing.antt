@@ -10,12 +10,10 @@ use Rattle.role_commands.specs.declared.command.Command.{Command}
 use Rattle.link_frames.specs.Packets.{PacketValue}
 use Rattle.bracha_instance.specs.Broadcast.{delivered}
 use Rattle.owner_streams.specs.Places.{stream, reach}
-use Rattle.owner_streams.proofs.Taken.{takes_at-other}
-use Rattle.owner_streams.proofs.StreamLaws.{stream_is_exact_lem, stream_is_one_lem, stream_grows_lem}
-use Rattle.rbac_state.specs.Says.{says_of_user, says_of_permission}
-use Rattle.rbac_state.specs.Assignments.{owner_said, with_command, said_by}
+use Rattle.owner_streams.proofs.Exported.{takes_at-other, stream_is_exact_lem, stream_is_one_lem, stream_grows_lem}
+use Rattle.rbac_state.specs.Assignments.{with_command}
 use Rattle.rbac_state.specs.Policies.{PolicyValue, IsApplied, IsPolicyOf}
-use Rattle.rbac_state.proofs.StreamLemmas.{says_of_user-concerns, says_of_permission-concerns, owner_said-push}
+use Rattle.rbac_state.proofs.Exported.{applied_is_of_one_more}
 use Rattle.role_node.specs.Kept.{obeyed}
 
 not_both : (b c : Bool) → b ≡ false → (b && c) ≡ false
@@ -34,7 +32,8 @@ stream_other s owner taken p e =
 take_shorter : {A : Type 0} (xs ys rest : List A) → xs ++ rest ≡ ys → take (length xs) ys ≡ xs
 take_shorter xs ys rest e = ap (take (length xs)) (sym e) ∙ take-append_seam xs rest
 
-take_one_more : {A : Type 0} (xs : List A) (n : ℕ) (x : A) → slice_get xs n ≡ Some x → take (n + 1) xs ≡ take n xs ++ x ∷ []
+take_one_more : {A : Type 0} (xs : List A) (n : ℕ) (x : A) → slice_get xs n ≡ Some x
+    → take (n + 1) xs ≡ take n xs ++ x ∷ []
 take_one_more [] n x e = absurd cc
 take_one_more (y ∷ xs) zero x e = let same : y ≡ x = cc in ap (λ z. z ∷ []) same
 take_one_more (y ∷ xs) (suc n) x e =
@@ -51,19 +50,17 @@ take_no_more (y ∷ xs) (suc n) e =
     let next : suc n + 1 ≡ suc (n + 1) = omega arith in
     ap (λ m. take m (y ∷ xs)) next ∙ ap (λ zs. y ∷ zs) (take_no_more xs n e)
 
-same_number : (a b : ℕ) → (a == b) ≡ true → a ≡ b
-same_number a b e = exact_unsigned_eq a b e
-
 turned : (a b : ℕ) (t : Bool) → (a == b) ≡ t → (b == a) ≡ t
 turned a b true e = grind (arith, nat_tests)
 turned a b false e = grind (arith, nat_tests)
 
 none_by : (s : Counts) (taken : List PacketValue) (p : PacketValue) (node : ℕ) (b : Bool) → (node == p.owner) ≡ b →
-    (if b then take (reach s p.owner taken) (stream s p.owner (taken ++ p ∷ [])) else stream s node (taken ++ p ∷ [])) ≡ stream s node taken
+    (if b then take (reach s p.owner taken) (stream s p.owner (taken ++ p ∷ [])) else stream s node (taken ++ p ∷ []))
+    ≡ stream s node taken
 none_by s taken p node true e =
     let longer = stream_grows_lem s p.owner taken (p ∷ []) in
     take_shorter (stream s p.owner taken) (stream s p.owner (taken ++ p ∷ [])) longer.0 longer.1
-    ∙ ap (λ n. stream s n taken) (sym (same_number node p.owner e))
+    ∙ ap (λ n. stream s n taken) (sym (exact_unsigned_eq node p.owner e))
 none_by s taken p node false e = stream_other s node taken p (turned node p.owner false e)
 
 -- before any of its owner's new commands is obeyed, the streams are as before the packet
@@ -75,7 +72,7 @@ all_by : (s : Counts) (taken : List PacketValue) (owner count node : ℕ) (b : B
     → (node == owner) ≡ b →
     (if b then take count (stream s owner taken) else stream s node taken) ≡ stream s node taken
 all_by s taken owner count node true h e =
-    take_all count (stream s owner taken) h ∙ ap (λ n. stream s n taken) (sym (same_number node owner e))
+    take_all count (stream s owner taken) h ∙ ap (λ n. stream s n taken) (sym (exact_unsigned_eq node owner e))
 all_by s taken owner count node false h e = refl
 
 -- after all are, the streams are those of all packets
@@ -85,7 +82,8 @@ obeyed_all s taken owner count h node = all_by s taken owner count node (node ==
 
 more_by : (s : Counts) (taken : List PacketValue) (owner count : ℕ) (c : Command) (node : ℕ) (b : Bool)
     → slice_get (stream s owner taken) count ≡ Some c →
-    (if b then (if b then take count (stream s owner taken) else stream s node taken) ++ c ∷ [] else (if b then take count (stream s owner taken) else stream s node taken))
+    (if b then (if b then take count (stream s owner taken) else stream s node taken) ++ c ∷ []
+    else (if b then take count (stream s owner taken) else stream s node taken))
     ≡ (if b then take (count + 1) (stream s owner taken) else stream s node taken)
 more_by s taken owner count c node true e = sym (take_one_more (stream s owner taken) count c e)
 more_by s taken owner count c node false e = refl
@@ -98,18 +96,21 @@ obeyed_more s taken owner count c e node = more_by s taken owner count c node (n
 
 past_by : (s : Counts) (taken : List PacketValue) (owner count node : ℕ) (b : Bool)
     → slice_get (stream s owner taken) count ≡ None →
-    (if b then take count (stream s owner taken) else stream s node taken) ≡ (if b then take (count + 1) (stream s owner taken) else stream s node taken)
+    (if b then take count (stream s owner taken) else stream s node taken)
+    ≡ (if b then take (count + 1) (stream s owner taken) else stream s node taken)
 past_by s taken owner count node true e = sym (take_no_more (stream s owner taken) count e)
 past_by s taken owner count node false e = refl
 
 -- there is none past the end
-pub obeyed_past : (s : Counts) (taken : List PacketValue) (owner count : ℕ) → slice_get (stream s owner taken) count ≡ None
+pub obeyed_past : (s : Counts) (taken : List PacketValue) (owner count : ℕ)
+    → slice_get (stream s owner taken) count ≡ None
     → (node : ℕ) →
     obeyed s taken owner count node ≡ obeyed s taken owner (count + 1) node
 obeyed_past s taken owner count e node = past_by s taken owner count node (node == owner) e
 
 -- a policy of these streams is one of the same streams
-pub policy_same : (f g : ℕ → List Command) (p : PolicyValue) → ((node : ℕ) → f node ≡ g node) → IsPolicyOf f p → IsPolicyOf g p
+pub policy_same : (f g : ℕ → List Command) (p : PolicyValue) → ((node : ℕ) → f node ≡ g node) → IsPolicyOf f p
+    → IsPolicyOf g p
 policy_same f g p same is =
     let e : f ≡ g = λ i node. same node i in
     let P : (ℕ → List Command) → Type 0 = λ streams. IsPolicyOf streams p in
@@ -122,34 +123,20 @@ pub stream_same : (s : Counts) (taken : List PacketValue) (p : PacketValue)
 stream_same s taken p h node =
     sym (obeyed_none s taken p node) ∙ obeyed_all s (taken ++ p ∷ []) p.owner (reach s p.owner taken) h node
 
--- a policy of these streams, to which one more command of a node is applied, is one of the streams with it
-applied_is : (streams : ℕ → List Command) (node : ℕ) (command : Command) (old new : PolicyValue) →
-    IsPolicyOf streams old → IsApplied node command old new → IsPolicyOf (with_command streams node command) new
-applied_is streams node command old new was applied =
-    record {
-      assigned = λ user role.
-          let says = says_of_user user role in
-          applied.assigned user role ∙ ap (said_by old.table node command says) (was.assigned user role)
-          ∙ sym (owner_said-push old.table streams node command role says (says_of_user-concerns user role))
-          ∙ ap (λ table. owner_said table (with_command streams node command) role says) (sym applied.table);
-      granted = λ operation object role.
-          let says = says_of_permission operation object role in
-          applied.granted operation object role ∙ ap (said_by old.table node command says) (was.granted operation object role)
-          ∙ sym (owner_said-push old.table streams node command role says (says_of_permission-concerns operation object role))
-          ∙ ap (λ table. owner_said table (with_command streams node command) role says) (sym applied.table);
-    }
-
 -- the next command of the owner's stream is obeyed ..
-pub policy_more : (s : Counts) (taken : List PacketValue) (owner place : ℕ) (command : Command) (old new : PolicyValue) →
+pub policy_more : (s : Counts) (taken : List PacketValue) (owner place : ℕ) {command : Command} {old new : PolicyValue}
+    →
     Some command ≡ slice_get (stream s owner taken) place → IsApplied owner command old new →
     IsPolicyOf (obeyed s taken owner place) old → IsPolicyOf (obeyed s taken owner (place + 1)) new
-policy_more s taken owner place command old new e applied was =
+policy_more s taken owner place {command = command} {old = old} {new = new} e applied was =
     policy_same (with_command (obeyed s taken owner place) owner command) (obeyed s taken owner (place + 1)) new
-    (obeyed_more s taken owner place command (sym e)) (applied_is (obeyed s taken owner place) owner command old new was applied)
+    (obeyed_more s taken owner place command (sym e))
+    (applied_is_of_one_more (obeyed s taken owner place) owner command old new was applied)
 
 -- .. or there is none
-pub policy_past : (s : Counts) (taken : List PacketValue) (owner place : ℕ) (p : PolicyValue)
+pub policy_past : (s : Counts) (taken : List PacketValue) (owner place : ℕ) {p : PolicyValue}
     → None ≡ slice_get (stream s owner taken) place →
     IsPolicyOf (obeyed s taken owner place) p → IsPolicyOf (obeyed s taken owner (place + 1)) p
-policy_past s taken owner place p e was =
-    policy_same (obeyed s taken owner place) (obeyed s taken owner (place + 1)) p (obeyed_past s taken owner place (sym e)) was
+policy_past s taken owner place {p = p} e was =
+    policy_same (obeyed s taken owner place) (obeyed s taken owner (place + 1)) p
+    (obeyed_past s taken owner place (sym e)) was

@@ -5,4 +5,7 @@ pub mod Entries
 pub mod Relations
 pub mod Refused
 pub mod Recording
+pub mod Ascending
+pub mod Pairs
 pub mod ListedLemmas
+pub mod Exported

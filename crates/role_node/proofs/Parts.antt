@@ -10,7 +10,8 @@ use Rattle.role_node.specs.declared.event.Event.TheVariants.{Issue, Take, Client
 use Rattle.role_node.specs.Histories.{command_in, packet_in, act_in, issued, packets, client_events}
 
 -- an element that gives nothing adds nothing
-none_more : {X Y : Type 0} (f : X → Option Y) (xs : List X) (x : X) → f x ≡ None → filter_map f (xs ++ x ∷ []) ≡ filter_map f xs
+none_more : {X Y : Type 0} (f : X → Option Y) (xs : List X) (x : X) → f x ≡ None
+    → filter_map f (xs ++ x ∷ []) ≡ filter_map f xs
 none_more f xs x e =
     filter_map-append f xs (x ∷ []) ∙ ap (λ o. filter_map f xs ++ cons_option o []) e ∙ append-nil (filter_map f xs)
 
@@ -35,7 +36,8 @@ pub packets-Issue : (history : List Event) (c : Command) → packets (history ++
 unfolding packets
 packets-Issue history c = none_more packet_in history (Issue c) refl
 
-pub packets-Take : (history : List Event) (p : PacketValue) → packets (history ++ Take p ∷ []) ≡ packets history ++ p ∷ []
+pub packets-Take : (history : List Event) (p : PacketValue) → packets (history ++ Take p ∷ []) ≡ packets history
+    ++ p ∷ []
 unfolding packets
 packets-Take history p = one_more packet_in history (Take p) p refl
 
@@ -43,11 +45,13 @@ pub packets-Client : (history : List Event) (a : ClientEvent) → packets (histo
 unfolding packets
 packets-Client history a = none_more packet_in history (Client a) refl
 
-pub client_events-Issue : (history : List Event) (c : Command) → client_events (history ++ Issue c ∷ []) ≡ client_events history
+pub client_events-Issue : (history : List Event) (c : Command)
+    → client_events (history ++ Issue c ∷ []) ≡ client_events history
 unfolding client_events
 client_events-Issue history c = none_more act_in history (Issue c) refl
 
-pub client_events-Take : (history : List Event) (p : PacketValue) → client_events (history ++ Take p ∷ []) ≡ client_events history
+pub client_events-Take : (history : List Event) (p : PacketValue)
+    → client_events (history ++ Take p ∷ []) ≡ client_events history
 unfolding client_events
 client_events-Take history p = none_more act_in history (Take p) refl
 

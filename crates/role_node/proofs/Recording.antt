@@ -2,13 +2,12 @@
 use Rattle.std.proofs.Common.{◌≡◌, ℕ, ◌<◌, ◌≤◌, Bool, true, false, ◌&&◌, ◌==◌, List, [], ◌∷◌, ◌++◌, length, Some, None, Result, Ok, Err, refl, sym, ap, subst, arith, length-append}
 use Rattle.std.specs.Prelude.{if◌then◌else◌, nat_le, nat_lt}
 use Rattle.std.proofs.lemmas.Bool.Decides.{nat_tests}
-use Rattle.std.proofs.lemmas.List.Sums.{count_by-le-length}
 use Rattle.role_commands.specs.Tables.{Table}
 use Rattle.bracha_instance.specs.declared.instance.Effect.{Effect}
 use Rattle.bracha_instance.specs.declared.instance.Effect.TheVariants as effect
 use Rattle.owner_streams.specs.Places.{place_count}
-use Rattle.role_sessions.specs.Sessions.{is_opening, opened_count, state_of}
-use Rattle.role_sessions.specs.declared.event.ClientEvent.{ClientEvent}
+use Rattle.role_sessions.specs.Sessions.{state_of}
+use Rattle.role_sessions.proofs.Exported.{state_counts_the_opened}
 use Rattle.role_node.specs.Configs.{most_events}
 use Rattle.role_node.specs.Histories.{issued, client_events}
 use Rattle.role_node.specs.Answers.{outlook, outlook_with_room, or_counted, is_routed, reply_to}
@@ -27,9 +26,9 @@ use Rattle.role_node.proofs.Parts.{client_events-length}
 use Rattle.role_node.proofs.Entries.{entries_push, events-push, events-length, counted_is_due, counted_is_recorded, counted_with_room}
 
 -- room that was made changes nothing of this
-pub inside_stays : (a b : Inside) → IsNode a → b.config ≡ a.config → b.me ≡ a.me → b.entries.items ≡ a.entries.items
+pub inside_stays : {a b : Inside} → IsNode a → b.config ≡ a.config → b.me ≡ a.me → b.entries.items ≡ a.entries.items
     → Stays a.state b.state → IsNode b
-inside_stays a b is ec em ee stays =
+inside_stays {a = a} is ec em ee stays =
     record {
       me = rw (ec, em) is.me;
       limit = rw ec is.limit;
@@ -39,17 +38,18 @@ inside_stays a b is ec em ee stays =
     }
 
 -- an event that counts is recorded
-pub inside_grows : (a b : Inside) (event : Event) (r : Reply) → IsNode a → b.config ≡ a.config → b.me ≡ a.me →
+pub inside_grows : {a b : Inside} (event : Event) (r : Reply) → IsNode a → b.config ≡ a.config → b.me ≡ a.me →
     b.entries.items ≡ a.entries.items ++ record { event = event; reply = r } ∷ [] → Follows event a.state b.state →
     outlook a.config a.me (events a.entries.items) event ≡ Ok effect.Counted → RepliesTo a.me event a.state r → IsNode b
-inside_grows a b event r is ec em ee follows counts replies =
+inside_grows {a = a} event r is ec em ee follows counts replies =
     let history : List Event = events a.entries.items in
     let entry : Entry = record { event = event; reply = r } in
     let replied : r ≡ reply_to a.config.roles a.me history event = replies a.config.roles history is.state in
     let room = counted_with_room a.config a.me history event counts in
     let full : nat_le a.config.limit (length history) ≡ false = room.0 in
     let shorter : length (events a.entries.items) < a.config.limit = grind (arith, nat_tests) in
-    let within : length (a.entries.items ++ entry ∷ []) ≤ a.config.limit = omega (arith, length-append a.entries.items (entry ∷ []), events-length a.entries.items) in
+    let within : length (a.entries.items ++ entry ∷ []) ≤ a.config.limit =
+    omega (arith, length-append a.entries.items (entry ∷ []), events-length a.entries.items) in
     record {
       me = rw (ec, em) is.me;
       limit = rw ec is.limit;
@@ -63,17 +63,22 @@ inside_grows a b event r is ec em ee follows counts replies =
 
 -- that an event counts, by the fields
 pub counts_inside : (a : Inside) (v : NodeValue) (event : Event) → node_value a ≡ v →
-    outlook v.config v.me v.history event ≡ Ok effect.Counted → outlook a.config a.me (events a.entries.items) event ≡ Ok effect.Counted
+    outlook v.config v.me v.history event ≡ Ok effect.Counted
+    → outlook a.config a.me (events a.entries.items) event ≡ Ok effect.Counted
 counts_inside a v event e counts =
-    let P : NodeValue → Type 0 = λ n. outlook n.config n.me n.history event ≡ Ok effect.Counted in subst P (sym e) counts
+    let P : NodeValue → Type 0 = λ n. outlook n.config n.me n.history event ≡ Ok effect.Counted in
+    subst P (sym e) counts
 
 second_test : (a b c : Bool) →
-    or_counted (if a then Some fault.NotMine else (if b then Some fault.StreamFull else (if c then Some fault.Busy else None))) ≡ Ok effect.Counted → b ≡ false
+    or_counted (if a then Some fault.NotMine
+    else (if b then Some fault.StreamFull else (if c then Some fault.Busy else None))) ≡ Ok effect.Counted
+    → b ≡ false
 second_test true b c e = absurd cc
 second_test false true c e = absurd cc
 second_test false false c e = refl
 
-routed_by : (routed : Bool) (r : Result Effect NodeFault) → (if routed then r else Err fault.Misrouted) ≡ Ok effect.Counted
+routed_by : (routed : Bool) (r : Result Effect NodeFault)
+    → (if routed then r else Err fault.Misrouted) ≡ Ok effect.Counted
     → routed ≡ true
 routed_by true r e = refl
 routed_by false r e = absurd cc
@@ -87,12 +92,9 @@ last_two false b c e = absurd cc
 below : (x n : ℕ) → nat_lt x n ≡ true → x < n
 below x n e = grind (arith, nat_tests)
 
-opened_is : (acts : List ClientEvent) → (state_of acts).opened ≤ length acts
-unfolding state_of opened_count
-opened_is acts = count_by-le-length is_opening acts
-
 -- what counts is in range
-pub in_range : (roles : Table) (me : ℕ) (history : List Event) (a : State) (event : Event) → IsStateAfter roles history a →
+pub in_range : (roles : Table) (me : ℕ) (history : List Event) (a : State) (event : Event)
+    → IsStateAfter roles history a →
     outlook_with_room roles me history event ≡ Ok effect.Counted → length history ≤ most_events → IsInRange a event
 in_range roles me history a (Issue c) h e room =
     let more : nat_le place_count (length (issued history)) ≡ false = second_test _ _ _ e in
@@ -100,13 +102,15 @@ in_range roles me history a (Issue c) h e room =
     let short : length (issued history) < place_count = grind (arith, nat_tests) in
     omega (arith, a.issued.ok.0)
 in_range roles me history a (Take p) h e room =
-    let both = last_two (p.to == me) (nat_lt p.from roles.sizes.nodes) (nat_lt p.owner roles.sizes.nodes) (routed_by (is_routed roles.sizes me p) _ e) in
+    let both =
+    last_two (p.to == me) (nat_lt p.from roles.sizes.nodes) (nat_lt p.owner roles.sizes.nodes)
+    (routed_by (is_routed roles.sizes me p) _ e) in
     rw h.sizes (below p.from roles.sizes.nodes both.0, below p.owner roles.sizes.nodes both.1)
 in_range roles me history a (Client act) h e room =
     let opened : a.sessions.state.opened ≡ (state_of (client_events history)).opened = ap (λ s. s.opened) h.sessions in
-    let few = opened_is (client_events history) in
+    let few = state_counts_the_opened (client_events history) in
     let acts = client_events-length history in
-    omega arith
+    omega (arith, few.0, few.1)
 
 -- a history is no longer than the most events
 pub events_are_few : (a : Inside) → IsNode a → length (events a.entries.items) ≤ most_events

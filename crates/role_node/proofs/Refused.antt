@@ -32,7 +32,8 @@ abbrev IsOther : Option NodeFault → Type 0
 IsOther o = o ≡ Some fault.Memory → ⊥
 
 issue_other : (a b c : Bool)
-    → IsOther (if a then Some fault.NotMine else (if b then Some fault.StreamFull else (if c then Some fault.Busy else None)))
+    → IsOther (if a then Some fault.NotMine
+    else (if b then Some fault.StreamFull else (if c then Some fault.Busy else None)))
 issue_other true b c e = cc
 issue_other false true c e = cc
 issue_other false false true e = cc
@@ -49,7 +50,8 @@ session_other (Some session.AlreadyActive) h e = cc
 session_other (Some session.TooManyRoles) h e = cc
 session_other (Some session.Memory) h e = h refl
 
-open_other : (b : Bool) → ◌≡◌ {A = Option SessionFault} (if b then Some session.TooManySessions else None) (Some session.Memory)
+open_other : (b : Bool)
+    → ◌≡◌ {A = Option SessionFault} (if b then Some session.TooManySessions else None) (Some session.Memory)
     → ⊥
 open_other true e = cc
 open_other false e = cc
@@ -92,7 +94,8 @@ or_counted_other (Some f) h e = let same : f ≡ fault.Memory = cc in h (ap Some
 
 step_other : (routed beyond : Bool) (place end : ℕ) (step : StreamStep) →
     ◌≡◌ {A = Result Effect NodeFault}
-    (if routed then of_effect_due (effect_due (if beyond then Err (stream_fault.Beyond place end) else Ok step)) else Err fault.Misrouted) (Err fault.Memory) → ⊥
+    (if routed then of_effect_due (effect_due (if beyond then Err (stream_fault.Beyond place end) else Ok step))
+    else Err fault.Misrouted) (Err fault.Memory) → ⊥
 step_other false beyond place end step e = cc
 step_other true true place end step e = cc
 step_other true false place end step e = cc
@@ -100,7 +103,8 @@ step_other true false place end step e = cc
 take_other : (roles : Table) (me : ℕ) (history : List Event) (p : PacketValue)
     → take_outlook roles me history p ≡ Err fault.Memory → ⊥
 unfolding step_due
-take_other roles me history p e = step_other (is_routed roles.sizes me p) _ _ _ (step_of roles.sizes (packets history) p) e
+take_other roles me history p e =
+    step_other (is_routed roles.sizes me p) _ _ _ (step_of roles.sizes (packets history) p) e
 
 early_other : (roles : Table) (me : ℕ) (history : List Event) (event : Event)
     → outlook_with_room roles me history event ≡ Err fault.Memory → ⊥
@@ -109,7 +113,8 @@ early_other roles me history (Take p) e = take_other roles me history p e
 early_other roles me history (Client act) e =
     or_counted_other _ (act_other roles (relations_at roles history) (sessions_at history) act) e
 
-full_other : (full : Bool) (r : Result Effect NodeFault) → (r ≡ Err fault.Memory → ⊥) → unless_full full r ≡ Err fault.Memory → ⊥
+full_other : (full : Bool) (r : Result Effect NodeFault) → (r ≡ Err fault.Memory → ⊥)
+    → unless_full full r ≡ Err fault.Memory → ⊥
 full_other full (Ok effect.Idle) h e = cc
 full_other true (Ok effect.Counted) h e = cc
 full_other false (Ok effect.Counted) h e = cc
@@ -118,9 +123,11 @@ full_other full (Err f) h e = h e
 not_memory : (config : ConfigValue) (me : ℕ) (history : List Event) (event : Event)
     → outlook config me history event ≡ Err fault.Memory → ⊥
 not_memory config me history event e =
-    full_other (nat_le config.limit (length history)) (outlook_with_room config.roles me history event) (early_other config.roles me history event) e
+    full_other (nat_le config.limit (length history)) (outlook_with_room config.roles me history event)
+    (early_other config.roles me history event) e
 
-is_refusal : (due : Result Reply NodeFault) (f : NodeFault) → due ≡ Err f → (f ≡ fault.Memory → ⊥) → IsAnswer due (Err f)
+is_refusal : (due : Result Reply NodeFault) (f : NodeFault) → due ≡ Err f → (f ≡ fault.Memory → ⊥)
+    → IsAnswer due (Err f)
 is_refusal due fault.NotMine e h = e
 is_refusal due fault.StreamFull e h = e
 is_refusal due fault.Busy e h = e

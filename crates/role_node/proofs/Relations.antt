@@ -25,20 +25,27 @@ pub relations_are : (roles : Table) (history : List Event) (a : State) → IsSta
     → relations_of a.policy ≡ relations_at roles history
 relations_are roles history a h =
     let assigned = λ (user role : ℕ).
-    h.policy.assigned user role ∙ ap (λ table. is_user_assigned table (λ owner. stream roles.sizes owner (packets history)) user role) h.table in
+    h.policy.assigned user role
+    ∙ ap (λ table. is_user_assigned table (λ owner. stream roles.sizes owner (packets history)) user role) h.table in
     let granted = λ (operation object role : ℕ).
     h.policy.granted operation object role
-    ∙ ap (λ table. is_permission_granted table (λ owner. stream roles.sizes owner (packets history)) operation object role) h.table in
-    λ i. record { assigned = λ user role. assigned user role i; granted = λ operation object role. granted operation object role i }
+    ∙ ap (λ table. is_permission_granted table (λ owner.
+    stream roles.sizes owner (packets history)) operation object role) h.table in
+    λ i. record {
+      assigned = λ user role. assigned user role i;
+      granted = λ operation object role. granted operation object role i;
+    }
 
 -- a node's history is legal
 pub legal_inside : (a : Inside) (v : NodeValue) → IsNode a → node_value a ≡ v → IsLegalNode v
 legal_inside a v is e = subst IsLegalNode e (legal a.config a.me a.entries.items is.entries)
 
 -- an answer under what a node keeps is one after its history
-pub answered_after : (roles : Table) (history : List Event) (a : State) (question : Question) (r : Result Answer AskFault)
+pub answered_after : (roles : Table) (history : List Event) (a : State) (question : Question)
+    (r : Result Answer AskFault)
     → IsStateAfter roles history a →
-    IfOk r (IsAnswerUnder (relations_of a.policy) a.sessions.state question) → IfOk r (IsAnswerTo roles history question)
+    IfOk r (IsAnswerUnder (relations_of a.policy) a.sessions.state question)
+    → IfOk r (IsAnswerTo roles history question)
 answered_after roles history a question r h is =
     let P : Relations → Type 0 = λ relations. IfOk r (IsAnswerUnder relations (sessions_at history) question) in
     let Q : SessionState → Type 0 = λ sessions. IfOk r (IsAnswerUnder (relations_of a.policy) sessions question) in

@@ -61,7 +61,8 @@ abbrev pub act_fault : Table → Relations → SessionState → ClientEvent → 
 act_fault roles relations sessions (Open user) = option_map of_session_fault (open_due sessions)
 act_fault roles relations sessions (Activate session user role) =
     option_map of_session_fault (activate_due roles relations sessions session user role)
-act_fault roles relations sessions (DropRole session user role) = option_map fault.End (drop_due sessions session user role)
+act_fault roles relations sessions (DropRole session user role) =
+    option_map fault.End (drop_due sessions session user role)
 act_fault roles relations sessions (Close session user) = option_map fault.End (close_due sessions session user)
 
 -- what is not refused counts
@@ -126,7 +127,8 @@ is_recorded (Err f) = false
 -- A history is legal where the answer due to each event after those before it has it recorded.
 abbrev pub IsLegal : ConfigValue → ℕ → List Event → Type 0
 IsLegal config me history =
-    (k : ℕ) (event : Event) → slice_get history k ≡ Some event → IsTrue (is_recorded (answer_due config me (take k history) event))
+    (k : ℕ) (event : Event) → slice_get history k ≡ Some event
+    → IsTrue (is_recorded (answer_due config me (take k history) event))
 
 -- the answer is the one that is due; want of memory comes last, where the event would be recorded
 abbrev pub IsAnswer : Result Reply NodeFault → Result Reply NodeFault → Type 0
@@ -144,4 +146,5 @@ IsAnswer due (Err fault.Memory) = IsTrue (is_recorded due)
 -- each reply is the one that was due at its place
 abbrev pub AreReplies : ConfigValue → ℕ → List Event → List Entry → Type 0
 AreReplies config me history entries =
-    (k : ℕ) (entry : Entry) → slice_get entries k ≡ Some entry → answer_due config me (take k history) entry.event ≡ Ok entry.reply
+    (k : ℕ) (entry : Entry) → slice_get entries k ≡ Some entry
+    → answer_due config me (take k history) entry.event ≡ Ok entry.reply

@@ -23,4 +23,8 @@ most_events = 4194304
 -- a node records one event at least
 abbrev pub config_due : ℕ → Table → ℕ → Option ConfigValue
 config_due cluster roles limit =
-    if nat_le 1 limit && nat_le limit most_events then Some (record { cluster = cluster; roles = roles; limit = limit }) else None
+    if nat_le 1 limit && nat_le limit most_events then Some (record {
+      cluster = cluster;
+      roles = roles;
+      limit = limit;
+    }) else None

@@ -25,7 +25,8 @@ use Rattle.role_node.specs.declared.faults.NodeFault.TheVariants.{Memory}
 use Rattle.role_node.specs.declared.state.State.{State}
 
 -- the parts follow from the commands issued, the packets taken, and what the clients did
-pub record ArePartsOf (roles : Table) (commands : List Command) (taken : List PacketValue) (acts : List ClientEvent) (a : State) : Type 0 where
+pub record ArePartsOf (roles : Table) (commands : List Command) (taken : List PacketValue) (acts : List ClientEvent)
+    (a : State) : Type 0 where
   pub issued : a.issued.items ≡ commands
   pub sizes : a.streams.sizes ≡ roles.sizes
   pub streams : IsStateOf a.streams taken
@@ -42,7 +43,8 @@ IsStateAfter roles history a = ArePartsOf roles (issued history) (packets histor
 -- of whatever history the old state is, the new one is of that with the event
 abbrev pub Follows : Event → State → State → Type 0
 Follows event old new =
-    (roles : Table) (history : List Event) → IsStateAfter roles history old → IsStateAfter roles (history ++ event ∷ []) new
+    (roles : Table) (history : List Event) → IsStateAfter roles history old
+    → IsStateAfter roles (history ++ event ∷ []) new
 
 -- of whatever history the old state is, the new one is
 abbrev pub Stays : State → State → Type 0
@@ -50,7 +52,8 @@ Stays old new = (roles : Table) (history : List Event) → IsStateAfter roles hi
 
 -- the reply is the one to the event that counts
 abbrev pub RepliesTo : ℕ → Event → State → Reply → Type 0
-RepliesTo me event old reply = (roles : Table) (history : List Event) → IsStateAfter roles history old → reply ≡ reply_to roles me history event
+RepliesTo me event old reply = (roles : Table) (history : List Event) → IsStateAfter roles history old
+    → reply ≡ reply_to roles me history event
 
 -- where the event counts, only memory can be wanting
 abbrev pub FailsForMemory : ℕ → Event → State → Result Reply NodeFault → Type 0
@@ -79,4 +82,5 @@ events entries = map event_of entries
 abbrev pub AreEntries : ConfigValue → ℕ → List Entry → Type 0
 AreEntries config me entries =
     (k : ℕ) (entry : Entry) → slice_get entries k ≡ Some entry →
-    (answer_due config me (take k (events entries)) entry.event ≡ Ok entry.reply) × IsTrue (is_recorded (Ok entry.reply))
+    (answer_due config me (take k (events entries)) entry.event ≡ Ok entry.reply)
+    × IsTrue (is_recorded (Ok entry.reply))

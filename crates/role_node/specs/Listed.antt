@@ -21,7 +21,8 @@ those_below end holds = filter holds (range_with_len 0 end)
 
 -- the pairs of numbers below these ends of which this holds, by the first and then by the second
 unfoldable pub pairs_below : ℕ → ℕ → (ℕ → ℕ → Bool) → List (ℕ × ℕ)
-pairs_below first second holds = flat_map (λ a. map (λ b. (a, b)) (those_below second (holds a))) (range_with_len 0 first)
+pairs_below first second holds =
+    flat_map (λ a. map (λ b. (a, b)) (those_below second (holds a))) (range_with_len 0 first)
 
 abbrev pub users_where : (ℕ → Bool) → List ℕ
 users_where = those_below (2 ^ 32)

@@ -66,7 +66,8 @@ SomeRoleMay relations user operation object =
 -- the roles that count in a session stand in the order of their activation.
 abbrev pub IsAnswerUnder : Relations → SessionState → Question → Answer → Type 0
 IsAnswerUnder relations sessions (Check id user operation object) answer =
-    IsVerdict answer (λ decision. decision ≡ verdict relations (map.get sessions.open_sessions id) user operation object)
+    IsVerdict answer (λ decision. decision
+    ≡ verdict relations (map.get sessions.open_sessions id) user operation object)
 IsAnswerUnder relations sessions (AssignedUsers role) answer =
     AreUsers answer (IsListing nat_cmp (λ user. IsTrue (relations.assigned user role)))
 IsAnswerUnder relations sessions (AssignedRoles user) answer =
@@ -80,14 +81,16 @@ IsAnswerUnder relations sessions (RoleOperations role object) answer =
 IsAnswerUnder relations sessions (UserOperations user object) answer =
     AreOperations answer (IsListing nat_cmp (λ operation. SomeRoleMay relations user operation object))
 IsAnswerUnder relations sessions (SessionRoles id) answer =
-    AreRoles answer (λ roles. IsSomeAnd (map.get sessions.open_sessions id) (λ found. roles ≡ counted_roles relations found))
+    AreRoles answer (λ roles.
+    IsSomeAnd (map.get sessions.open_sessions id) (λ found. roles ≡ counted_roles relations found))
 IsAnswerUnder relations sessions (SessionPermissions id) answer =
     ArePermissions answer (λ permissions. IsSomeAnd (map.get sessions.open_sessions id)
     (λ found. IsListing permission_cmp (λ p. SessionMay relations found p.0 p.1) permissions))
 
 -- the answer that is due after this history
 abbrev pub IsAnswerTo : Table → List Event → Question → Answer → Type 0
-IsAnswerTo roles history question answer = IsAnswerUnder (relations_at roles history) (sessions_at history) question answer
+IsAnswerTo roles history question answer =
+    IsAnswerUnder (relations_at roles history) (sessions_at history) question answer
 
 -- where a session is to be listed that is not open there is no answer
 abbrev pub session_needed : SessionState → ℕ → Option AskFault

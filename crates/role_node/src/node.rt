@@ -15,6 +15,7 @@ use crate::state::State;
 use bracha_instance::Effect;
 use link_frames::Place;
 use quorum_sizes::NodeName;
+use rbac_state::push_within_capacity;
 use role_commands::Command;
 use role_sessions::Verdict;
 use std::alloc::{AllocError, Global};
@@ -106,7 +107,8 @@ impl Node {
     /// Records an event that counts.
     fn record(&mut self, event: Event) -> Result<Reply, NodeFault>
         requires { outlook self.old.config self.old.me self.old.history event ≡ Ok Counted }
-        ensures reply { IfOk result (λ reply. reply ≡ reply_to self.old.config.roles self.old.me self.old.history event) }
+        ensures reply { IfOk result (λ reply.
+            reply ≡ reply_to self.old.config.roles self.old.me self.old.history event) }
         ensures ok { IfOk result (λ reply. self.new ≡ with_event self.old event) }
         ensures err { OnErr result (self.new ≡ self.old) }
         ensures memory { IfErr result (λ fault. fault ≡ Memory) }
@@ -116,7 +118,7 @@ impl Node {
     {
         self.entries.try_reserve(1)?;
         let reply = self.state.answer(self.me, &event)?;
-        let _ = self.entries.push(Entry::new(&event, &reply));
+        push_within_capacity(&mut self.entries, Entry::new(&event, &reply));
         Ok(reply)
     }
 

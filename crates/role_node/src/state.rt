@@ -3,7 +3,6 @@ ghost use Rattle.role_commands.specs.Tables.{Table};
 ghost use Rattle.link_frames.specs.Packets.{PacketValue};
 ghost use Rattle.owner_streams.specs.Places.{place_count};
 ghost use Rattle.owner_streams.specs.Values.{IsStateOf};
-ghost use Rattle.rbac_state.specs.Assignments.{owns};
 ghost use Rattle.rbac_state.specs.Policies.{IsPolicyOf};
 ghost use Rattle.role_sessions.specs.Decisions.{relations_of};
 ghost use Rattle.role_sessions.specs.Refusals.{AnswersExactly};
@@ -23,7 +22,7 @@ use bracha_instance::Effect;
 use link_frames::{Kind, Message, Packet, Place};
 use owner_streams::{PLACES, StreamStep, Streams, WINDOW};
 use quorum_sizes::NodeName;
-use rbac_state::Policy;
+use rbac_state::{Policy, push_within_capacity};
 use role_commands::{Command, Items, RoleTable};
 use role_sessions::{ClientEvent, SessionFault, Sessions, Verdict};
 use std::alloc::{AllocError, Global};
@@ -70,7 +69,7 @@ impl State {
         ensures { (roles : Table) (history : List Event) → IsStateAfter roles history self.now →
             result ≡ or_counted (issue_fault roles me history command) }
     {
-        if !self.owns(me, command.role()) {
+        if !self.policy.roles().is_owned_by(command.role(), me) {
             return Err(NodeFault::NotMine);
         }
         let issued = self.issued.len();
@@ -81,16 +80,6 @@ impl State {
             return Err(NodeFault::Busy);
         }
         Ok(Effect::Counted)
-    }
-
-    /// Whether the role is in the table, with this node as its owner.
-    fn owns(&self, node: NodeName, role: u16) -> bool
-        ensures { result ≡ owns self.now.policy.table node role }
-    {
-        match self.policy.roles().owner(role) {
-            Some(owner) => owner == node,
-            None => false,
-        }
     }
 
     fn may_take(&self, me: NodeName, packet: &Packet) -> Result<Effect, NodeFault>
@@ -106,7 +95,8 @@ impl State {
     }
 
     fn may_act(&self, act: ClientEvent) -> Result<Effect, NodeFault>
-        ensures { result ≡ or_counted (act_fault self.now.policy.table (relations_of self.now.policy) self.now.sessions.state act) }
+        ensures { let relations = relations_of self.now.policy in
+            result ≡ or_counted (act_fault self.now.policy.table relations self.now.sessions.state act) }
     {
         match act {
             ClientEvent::Open { .. } => self.sessions.may_open()?,
@@ -152,7 +142,7 @@ impl State {
     {
         self.issued.try_reserve(1)?;
         let place = self.issued.len() as Place;
-        let _ = self.issued.push(command);
+        push_within_capacity(&mut self.issued, command);
         Ok(Reply::Issued(Message {
             kind: Kind::Send,
             owner: me,

@@ -26,7 +26,8 @@ one event = cond (is_opening event) 1 0
 pub opened_count-push : (events : List ClientEvent) (event : ClientEvent)
     → opened_count (events ++ event ∷ []) ≡ opened_count events + cond (is_opening event) 1 0
 unfolding opened_count
-opened_count-push events event = sum_by-append one events (event ∷ []) ∙ ap (λ n. sum_by one events + n) (zero-add (one event))
+opened_count-push events event = sum_by-append one events (event ∷ [])
+    ∙ ap (λ n. sum_by one events + n) (zero-add (one event))
 
 opened_count-none : opened_count [] ≡ 0
 unfolding opened_count
@@ -80,21 +81,29 @@ life_of-beyond j (Open v ∷ events) h =
     let above : 1 < j = omega (arith, more) in
     let apart : (j == 1) ≡ false = grind (arith, nat_tests) in
     rw apart (life_of-beyond (j - 1) events (omega (arith, more)))
-life_of-beyond j (Activate s user role ∷ events) h = let same = opened_count-other (Activate s user role) events refl in life_of-beyond j events (omega (arith, same))
-life_of-beyond j (DropRole s user role ∷ events) h = let same = opened_count-other (DropRole s user role) events refl in life_of-beyond j events (omega (arith, same))
-life_of-beyond j (Close s user ∷ events) h = let same = opened_count-other (Close s user) events refl in life_of-beyond j events (omega (arith, same))
+life_of-beyond j (Activate s user role ∷ events) h = let same = opened_count-other (Activate s user role) events refl in
+    life_of-beyond j events (omega (arith, same))
+life_of-beyond j (DropRole s user role ∷ events) h = let same = opened_count-other (DropRole s user role) events refl in
+    life_of-beyond j events (omega (arith, same))
+life_of-beyond j (Close s user ∷ events) h = let same = opened_count-other (Close s user) events refl in
+    life_of-beyond j events (omega (arith, same))
 
 pub life_of-opened : (j : ℕ) (events : List ClientEvent) (user : ℕ) →
-    life_of j (events ++ Open user ∷ []) ≡ (if j == opened_count events + 1 then Some (new_life user) else option_map (later_by (Open user)) (life_of j events))
+    life_of j (events ++ Open user ∷ []) ≡ (if j == opened_count events + 1 then Some (new_life user)
+    else option_map (later_by (Open user)) (life_of j events))
 unfolding life_of
 life_of-opened j [] user = rw opened_count-none refl
 life_of-opened j (Open v ∷ events) user =
     rw (opened_count-open v events) (by (opened_count events) (eqb_tells j 1) (life_of-opened (j - 1) events user))
   where
     by : (n : ℕ) → ((j == 1) ≡ true) × (j ≡ 1) ⊎ ((j == 1) ≡ false) × (j ≢ 1) →
-        life_of (j - 1) (events ++ Open user ∷ []) ≡ (if j - 1 == n + 1 then Some (new_life user) else option_map (later_by (Open user)) (life_of (j - 1) events)) →
-        (if j == 1 then Some (record { user = v; later = events ++ Open user ∷ [] }) else life_of (j - 1) (events ++ Open user ∷ []))
-        ≡ (if j == n + 1 + 1 then Some (new_life user) else option_map (later_by (Open user)) (if j == 1 then Some (record { user = v; later = events }) else life_of (j - 1) events))
+        life_of (j - 1) (events ++ Open user ∷ []) ≡ (if j - 1 == n + 1 then Some (new_life user)
+        else option_map (later_by (Open user)) (life_of (j - 1) events)) →
+        (if j == 1 then Some (record { user = v; later = events ++ Open user ∷ [] })
+        else life_of (j - 1) (events ++ Open user ∷ []))
+        ≡ (if j == n + 1 + 1 then Some (new_life user)
+        else option_map (later_by (Open user))
+        (if j == 1 then Some (record { user = v; later = events }) else life_of (j - 1) events))
     by n (inl first) e =
         let apart : (j == n + 1 + 1) ≡ false = grind (arith, nat_tests) in
         rw (first.0, apart) refl
@@ -105,7 +114,8 @@ life_of-opened j (Activate s u role ∷ events) user =
     rw (opened_count-other (Activate s u role) events refl) (life_of-opened j events user)
 life_of-opened j (DropRole s u role ∷ events) user =
     rw (opened_count-other (DropRole s u role) events refl) (life_of-opened j events user)
-life_of-opened j (Close s u ∷ events) user = rw (opened_count-other (Close s u) events refl) (life_of-opened j events user)
+life_of-opened j (Close s u ∷ events) user =
+    rw (opened_count-other (Close s u) events refl) (life_of-opened j events user)
 
 -- ---- active roles
 
@@ -122,7 +132,8 @@ active_roles-idle id [] event h none = none
 active_roles-idle id (Open u ∷ events) event h none = active_roles-idle id events event h none
 active_roles-idle id (Activate s u r ∷ events) event h none =
     let same : list_any (is_about id r) (events ++ event ∷ []) ≡ list_any (is_about id r) events =
-    list_any-append (is_about id r) events (event ∷ []) ∙ ap (λ b. list_any (is_about id r) events || (b || false)) (h r) ∙ or_false _ in
+    list_any-append (is_about id r) events (event ∷ [])
+    ∙ ap (λ b. list_any (is_about id r) events || (b || false)) (h r) ∙ or_false _ in
     let rest = active_roles-idle id events event h none in
     λ i. if (id == s) && not (same i) then r ∷ rest i else rest i
 active_roles-idle id (DropRole s u r ∷ events) event h none = active_roles-idle id events event h none
@@ -141,14 +152,18 @@ active_roles-about id role [] event h = refl
 active_roles-about id role (Open u ∷ events) event h = active_roles-about id role events event h
 active_roles-about id role (Activate s u r ∷ events) event h =
     let rest = active_roles-about id role events event h in
-    (λ i. if (id == s) && not (seen i) then r ∷ rest i else rest i) ∙ by (id == s) (list_any (is_about id r) events) (r == role) refl
+    (λ i. if (id == s) && not (seen i) then r ∷ rest i else rest i)
+    ∙ by (id == s) (list_any (is_about id r) events) (r == role) refl
   where
     seen : list_any (is_about id r) (events ++ event ∷ []) ≡ (list_any (is_about id r) events || ((r == role) || false))
-    seen = list_any-append (is_about id r) events (event ∷ []) ∙ ap (λ b. list_any (is_about id r) events || (b || false)) (h r)
+    seen = list_any-append (is_about id r) events (event ∷ [])
+        ∙ ap (λ b. list_any (is_about id r) events || (b || false)) (h r)
 
     by : (a b c : Bool) → (r == role) ≡ c →
-        (if a && not (b || (c || false)) then r ∷ (but role (active_roles id events) ++ active_roles id (event ∷ [])) else but role (active_roles id events) ++ active_roles id (event ∷ []))
-        ≡ but role (if a && not b then r ∷ active_roles id events else active_roles id events) ++ active_roles id (event ∷ [])
+        (if a && not (b || (c || false)) then r ∷ (but role (active_roles id events) ++ active_roles id (event ∷ []))
+        else but role (active_roles id events) ++ active_roles id (event ∷ []))
+        ≡ but role (if a && not b then r ∷ active_roles id events else active_roles id events)
+        ++ active_roles id (event ∷ [])
     by false b c e = refl
     by true true c e = refl
     by true false true e = rw e refl
@@ -180,15 +195,22 @@ session_in-later events event id k h each =
 
 -- one more event that doesn't close the session
 open-still : (id : ℕ) (event : ClientEvent) (life : Life) (k : Session → Session) → is_closing id event ≡ false →
-    k (record { user = life.user; active = active_roles id life.later }) ≡ record { user = life.user; active = active_roles id (life.later ++ event ∷ []) } →
+    k (record { user = life.user; active = active_roles id life.later }) ≡ record {
+      user = life.user;
+      active = active_roles id (life.later ++ event ∷ []);
+    } →
     while_open id (later_by event life) ≡ option_and_then (λ session. Some (k session)) (while_open id life)
 open-still id event life k h is =
     let same : list_any (is_closing id) (life.later ++ event ∷ []) ≡ list_any (is_closing id) life.later =
-    list_any-append (is_closing id) life.later (event ∷ []) ∙ ap (λ b. list_any (is_closing id) life.later || (b || false)) h ∙ or_false _ in
+    list_any-append (is_closing id) life.later (event ∷ [])
+    ∙ ap (λ b. list_any (is_closing id) life.later || (b || false)) h ∙ or_false _ in
     (λ i. if same i then None else Some (sym is i)) ∙ by (list_any (is_closing id) life.later)
   where
     by : (b : Bool) → (if b then None else Some (k (record { user = life.user; active = active_roles id life.later })))
-        ≡ option_and_then (λ session. Some (k session)) (if b then None else Some (record { user = life.user; active = active_roles id life.later }))
+        ≡ option_and_then (λ session. Some (k session)) (if b then None else Some (record {
+          user = life.user;
+          active = active_roles id life.later;
+        }))
     by true = refl
     by false = refl
 
@@ -197,20 +219,32 @@ idle-still : (id : ℕ) (event : ClientEvent) (life : Life) → is_closing id ev
     → ((role : ℕ) → is_about id role event ≡ false) → active_roles id (event ∷ []) ≡ [] →
     while_open id (later_by event life) ≡ while_open id life
 idle-still id event life h about none =
-    open-still id event life (λ session. session) h (λ i. record { user = life.user; active = sym (active_roles-idle id life.later event about none) i }) ∙ and_then-same _
+    open-still id event life (λ session. session) h (λ i. record {
+      user = life.user;
+      active = sym (active_roles-idle id life.later event about none) i;
+    }) ∙ and_then-same _
 
 pub session_in-opened : (events : List ClientEvent) (user id : ℕ) →
-    session_in (events ++ Open user ∷ []) id ≡ (if id == opened_count events + 1 then Some (record { user = user; active = [] }) else session_in events id)
+    session_in (events ++ Open user ∷ []) id ≡ (if id == opened_count events + 1 then Some (record {
+      user = user;
+      active = [];
+    }) else session_in events id)
 unfolding session_in active_roles
 session_in-opened events user id =
     ap (option_and_then (while_open id)) (life_of-opened id events user) ∙ by (id == opened_count events + 1)
   where
     by : (b : Bool)
-        → option_and_then (while_open id) (if b then Some (new_life user) else option_map (later_by (Open user)) (life_of id events))
-        ≡ (if b then Some (record { user = user; active = [] }) else option_and_then (while_open id) (life_of id events))
+        → option_and_then (while_open id) (if b then Some (new_life user)
+        else option_map (later_by (Open user)) (life_of id events))
+        ≡ (if b then Some (record {
+          user = user;
+          active = [];
+        }) else option_and_then (while_open id) (life_of id events))
     by true = refl
     by false =
-        and_then-map (while_open id) (later_by (Open user)) Some (λ l. idle-still id (Open user) l refl (λ role. refl) refl ∙ sym (and_then-same _)) (life_of id events) ∙ and_then-same _
+        and_then-map (while_open id) (later_by (Open user)) Some (λ l.
+        idle-still id (Open user) l refl (λ role. refl) refl ∙ sym (and_then-same _)) (life_of id events)
+        ∙ and_then-same _
 
 closed-then : (id : ℕ) (event : ClientEvent) (life : Life) → is_closing id event ≡ true
     → while_open id (later_by event life) ≡ None
@@ -218,7 +252,10 @@ closed-then id event life h =
     rw (list_any-append (is_closing id) life.later (event ∷ []), h) (by (list_any (is_closing id) life.later))
   where
     by : (b : Bool)
-        → cond {A = Option Session} (b || (true || false)) None (Some (record { user = life.user; active = active_roles id (life.later ++ event ∷ []) })) ≡ None
+        → cond {A = Option Session} (b || (true || false)) None (Some (record {
+          user = life.user;
+          active = active_roles id (life.later ++ event ∷ []);
+        })) ≡ None
     by true = refl
     by false = refl
 
@@ -234,9 +271,11 @@ session_in-closed events s user id = by (cases_Bool (id == s))
     by : ((id == s) ≡ true) ⊎ ((id == s) ≡ false)
         → session_in (events ++ Close s user ∷ []) id ≡ (if id == s then None else session_in events id)
     by (inl e) =
-        rw e (session_in-later events (Close s user) id (λ session. None) refl (λ l. closed-then id (Close s user) l e ∙ sym (and_then-none _)) ∙ and_then-none _)
+        rw e (session_in-later events (Close s user) id (λ session. None) refl (λ l. closed-then id (Close s user) l e
+        ∙ sym (and_then-none _)) ∙ and_then-none _)
     by (inr e) =
-        rw e (session_in-later events (Close s user) id Some refl (λ l. idle-still id (Close s user) l e (λ role. refl) refl ∙ sym (and_then-same _)) ∙ and_then-same _)
+        rw e (session_in-later events (Close s user) id Some refl (λ l.
+        idle-still id (Close s user) l e (λ role. refl) refl ∙ sym (and_then-same _)) ∙ and_then-same _)
 
 -- an event of one session about one role
 module _ (s role : ℕ) (event : ClientEvent) (change : Session → Session)
@@ -244,9 +283,13 @@ module _ (s role : ℕ) (event : ClientEvent) (change : Session → Session)
     (about : (id r : ℕ) → is_about id r event ≡ ((id == s) && (r == role)))
     (quiet : (id : ℕ) → (id == s) ≡ false → active_roles id (event ∷ []) ≡ [])
     (changes : (id : ℕ) → (id == s) ≡ true → (user : ℕ) (later : List ClientEvent) →
-    change (record { user = user; active = active_roles id later }) ≡ record { user = user; active = but role (active_roles id later) ++ active_roles id (event ∷ []) }) where
+    change (record { user = user; active = active_roles id later }) ≡ record {
+      user = user;
+      active = but role (active_roles id later) ++ active_roles id (event ∷ []);
+    }) where
   session_in-changed : (events : List ClientEvent) (id : ℕ) →
-      session_in (events ++ event ∷ []) id ≡ (if id == s then option_map change (session_in events id) else session_in events id)
+      session_in (events ++ event ∷ []) id
+      ≡ (if id == s then option_map change (session_in events id) else session_in events id)
   session_in-changed events id = by (cases_Bool (id == s))
     where
       as_map : (o : Option Session) → option_and_then (λ session. Some (change session)) o ≡ option_map change o
@@ -254,29 +297,40 @@ module _ (s role : ℕ) (event : ClientEvent) (change : Session → Session)
       as_map (Some x) = refl
 
       by : ((id == s) ≡ true) ⊎ ((id == s) ≡ false)
-          → session_in (events ++ event ∷ []) id ≡ (if id == s then option_map change (session_in events id) else session_in events id)
+          → session_in (events ++ event ∷ []) id
+          ≡ (if id == s then option_map change (session_in events id) else session_in events id)
       by (inl e) =
           rw e (session_in-later events event id (λ session. Some (change session)) no_opening
           (λ l. open-still id event l change (no_closing id)
           (changes id e l.user l.later
-          ∙ (λ i. record { user = l.user; active = sym (active_roles-about id role l.later event (λ r. about id r ∙ ap (λ b. b && (r == role)) e)) i })))
+          ∙ (λ i. record {
+            user = l.user;
+            active = sym (active_roles-about id role l.later event (λ r. about id r ∙ ap (λ b. b && (r == role)) e)) i;
+          })))
           ∙ as_map (session_in events id))
       by (inr e) =
           rw e (session_in-later events event id Some no_opening
-          (λ l. idle-still id event l (no_closing id) (λ r. about id r ∙ ap (λ b. b && (r == role)) e) (quiet id e) ∙ sym (and_then-same _))
+          (λ l. idle-still id event l (no_closing id) (λ r. about id r ∙ ap (λ b. b && (r == role)) e) (quiet id e)
+          ∙ sym (and_then-same _))
           ∙ and_then-same _)
 
 pub session_in-activated : (events : List ClientEvent) (s user role id : ℕ) →
     session_in (events ++ Activate s user role ∷ []) id
-    ≡ (if id == s then option_map (λ session. with_role role (without_role role session)) (session_in events id) else session_in events id)
+    ≡ (if id == s then option_map (λ session. with_role role (without_role role session)) (session_in events id)
+    else session_in events id)
 unfolding active_roles
 session_in-activated events s user role =
-    session_in-changed s role (Activate s user role) (λ session. with_role role (without_role role session)) refl (λ id. refl) (λ id r. refl)
+    session_in-changed s role (Activate s user role) (λ session. with_role role (without_role role session)) refl (λ id.
+    refl) (λ id r. refl)
     (λ id e. ap (λ b. if b && true then role ∷ [] else []) e)
-    (λ id e u later. λ i. record { user = u; active = but role (active_roles id later) ++ (if sym e i && true then role ∷ [] else []) }) events
+    (λ id e u later. λ i. record {
+      user = u;
+      active = but role (active_roles id later) ++ (if sym e i && true then role ∷ [] else []);
+    }) events
 
 pub session_in-dropped : (events : List ClientEvent) (s user role id : ℕ) →
-    session_in (events ++ DropRole s user role ∷ []) id ≡ (if id == s then option_map (without_role role) (session_in events id) else session_in events id)
+    session_in (events ++ DropRole s user role ∷ []) id
+    ≡ (if id == s then option_map (without_role role) (session_in events id) else session_in events id)
 unfolding active_roles
 session_in-dropped events s user role =
     session_in-changed s role (DropRole s user role) (without_role role) refl (λ id. refl) (λ id r. refl) (λ id e. refl)

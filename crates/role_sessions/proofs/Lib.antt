@@ -1,5 +1,7 @@
 pub mod EventLemmas
 pub mod StateLemmas
-pub mod OpenLemmas
 pub mod RoleLemmas
-pub mod LawLemmas
+pub mod OpenLemmas
+pub mod DecisionLaws
+pub mod IdLaws
+pub mod Exported

@@ -41,11 +41,13 @@ given old new id w gives q =
 pub map_of-insert : (old new : Entries) (id : ℕ) (session : Session) → Gives id (Some session) old new
     → map_of new ≡ map.insert (map_of old) id session
 map_of-insert old new id session gives =
-    same_map nat_cmp_total nat_cmp-IsAntisymmetric _ _ (λ q. given old new id (Some session) gives q ∙ sym (get-inserted (map_of old) id session q))
+    same_map nat_cmp_total nat_cmp-IsAntisymmetric _ _ (λ q. given old new id (Some session) gives q
+    ∙ sym (get-inserted (map_of old) id session q))
 
 pub map_of-remove : (old new : Entries) (id : ℕ) → Gives id None old new → map_of new ≡ map.remove (map_of old) id
 map_of-remove old new id gives =
-    same_map nat_cmp_total nat_cmp-IsAntisymmetric _ _ (λ q. given old new id None gives q ∙ sym (get-removed (map_of old) id q))
+    same_map nat_cmp_total nat_cmp-IsAntisymmetric _ _ (λ q. given old new id None gives q
+    ∙ sym (get-removed (map_of old) id q))
 
 pub IsLong-none : IsLong []
 IsLong-none = len-empty nat_cmp Session
@@ -57,7 +59,8 @@ IsLong-insert old new id session long gives len =
     ∙ by (map.contains_key (map_of old) id) (ap is_some (get-map_of old id)) ∙ sym len
   where
     by : (b : Bool) → b ≡ is_some (lookup (nat_eq id) old) →
-        cond b (map.len (map_of old)) (map.len (map_of old) + 1) ≡ length old + (if is_some (lookup (nat_eq id) old) then 0 else 1)
+        cond b (map.len (map_of old)) (map.len (map_of old) + 1)
+        ≡ length old + (if is_some (lookup (nat_eq id) old) then 0 else 1)
     by true e = rw (← e) (omega (arith, long))
     by false e = rw (← e) (omega (arith, long))
 
@@ -74,13 +77,15 @@ IsLong-remove old new id long gives len =
     by false e len = let same : length new + 0 ≡ length old = rw (← e) at len in omega (arith, long)
 
 -- the session at the id is written anew
-module _ (old new : Entries) (id : ℕ) (session written : Session) (here : Some session ≡ lookup (nat_eq id) old) (gives : Gives id (Some written) old new) where
+module _ (old new : Entries) (id : ℕ) (session written : Session) (here : Some session
+    ≡ lookup (nat_eq id) old) (gives : Gives id (Some written) old new) where
   pub IsLong-written : IsLong old → length new ≡ length old → IsLong new
   IsLong-written long len =
       let there : is_some (lookup (nat_eq id) old) ≡ true = ap is_some (sym here) in
       IsLong-insert old new id written long gives (rw there (omega (arith, len)))
 
-  pub map_of-written : (m : map.FinMap nat_cmp Session) (change : Session → Session) → map_of old ≡ m → written ≡ change session
+  pub map_of-written : (m : map.FinMap nat_cmp Session) (change : Session → Session) → map_of old ≡ m
+      → written ≡ change session
       → map_of new ≡ changed_at m id change
   map_of-written m change view is =
       let found : map.get m id ≡ Some session = ap (λ n. map.get n id) (sym view) ∙ get-map_of old id ∙ sym here in

@@ -40,16 +40,21 @@ module _ (relations : Relations) (inside session : Session) (view : inside ≡ s
   passed counts rest are =
       let yours : (session.user == user) ≡ true = eq-eqb _ _ (ap (λ s. s.user) (sym view) ∙ theirs) in
       let active : (length session.active == 0) ≡ false = ap (λ s. length s.active == 0) (sym view) ∙ some in
-      let none : (length (counted_roles relations session) == 0) ≡ not counts = none-filter (relations.assigned session.user) session.active ∙ ap not are in
-      rw (yours, active, none) (elim counts as (λ b. (if b then rest else Deny NoneAssigned) ≡ (if not b then Deny NoneAssigned else rest)) [ true ↦ refl | false ↦ refl ])
+      let none : (length (counted_roles relations session) == 0) ≡ not counts =
+      none-filter (relations.assigned session.user) session.active ∙ ap not are in
+      rw (yours, active, none) (elim counts as (λ b. (if b then rest else Deny NoneAssigned)
+      ≡ (if not b then Deny NoneAssigned else rest)) [ true ↦ refl | false ↦ refl ])
 
   pub none_counts : list_any (relations.assigned session.user) session.active ≡ false
       → Deny NoneAssigned ≡ verdict relations (Some session) user operation object
-  none_counts are = passed false (allowed (find (relations.granted operation object) (counted_roles relations session))) are
+  none_counts are =
+      passed false (allowed (find (relations.granted operation object) (counted_roles relations session))) are
 
   pub some_counts : list_any (relations.assigned session.user) session.active ≡ true →
-      (found : Option ℕ) → found ≡ find (λ role. relations.assigned session.user role && relations.granted operation object role) session.active →
+      (found : Option ℕ) → found ≡ find (λ role. relations.assigned session.user role
+      && relations.granted operation object role) session.active →
       allowed found ≡ verdict relations (Some session) user operation object
   some_counts are found is =
-      ap allowed (is ∙ sym (find-filter (relations.granted operation object) (relations.assigned session.user) session.active))
+      ap allowed (is
+      ∙ sym (find-filter (relations.granted operation object) (relations.assigned session.user) session.active))
       ∙ passed true (allowed (find (relations.granted operation object) (counted_roles relations session))) are

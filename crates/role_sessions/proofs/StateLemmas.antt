@@ -29,7 +29,8 @@ find-below f a (suc n) q h = by (f a) (find-below f (a + 1) n q (omega arith))
     apart = unsigned_tied q a ∙ grind (arith, nat_tests)
 
     by : (o : Option Session) → find nat_cmp q (entries_of f (range_with_len (a + 1) n)) ≡ None →
-        find nat_cmp q (cons_option (option_map (λ (session : Session). (a, session)) o) (entries_of f (range_with_len (a + 1) n))) ≡ None
+        find nat_cmp q (cons_option (option_map (λ (session : Session). (a, session)) o)
+        (entries_of f (range_with_len (a + 1) n))) ≡ None
     by None e = e
     by (Some s) e = rw apart e
 
@@ -51,14 +52,16 @@ find-within f a (suc n) q h none =
     by (Some s) e (inr apart) further = rw (unsigned_tied q a, apart.0) (further (omega (arith, apart.1)))
 
 -- a session is open exactly where the events say so
-pub get-state_of : (events : List ClientEvent) (id : ℕ) → map.get (state_of events).open_sessions id ≡ session_in events id
+pub get-state_of : (events : List ClientEvent) (id : ℕ)
+    → map.get (state_of events).open_sessions id ≡ session_in events id
 unfolding state_of
 get-state_of events zero =
     get-from_entries nat_cmp_total _ 0 ∙ find-below (session_in events) 1 (opened_count events) 0 (omega arith)
     ∙ sym (session_in-zero events)
 get-state_of events (suc id) =
     get-from_entries nat_cmp_total _ (suc id)
-    ∙ find-within (session_in events) 1 (opened_count events) (suc id) (omega arith) (λ x above. session_in-beyond events x (omega arith))
+    ∙ find-within (session_in events) 1 (opened_count events) (suc id) (omega arith) (λ x above.
+    session_in-beyond events x (omega arith))
 
 pub opened-state_of : (events : List ClientEvent) → (state_of events).opened ≡ opened_count events
 unfolding state_of
@@ -85,8 +88,10 @@ pub get-changed_at : (m : map.FinMap nat_cmp Session) (id : ℕ) (change : Sessi
 get-changed_at m id change q = by (map.get m id) refl (eqb_tells q id)
   where
     by : (o : Option Session) → map.get m id ≡ o → ((q == id) ≡ true) × (q ≡ id) ⊎ ((q == id) ≡ false) × (q ≢ id) →
-        map.get (option_map_or (λ session. map.insert m id (change session)) o m) q ≡ (if q == id then option_map change (map.get m q) else map.get m q)
-    by None e (inl same) = rw same.0 (ap (map.get m) same.1 ∙ e ∙ ap (option_map change) (sym e ∙ ap (map.get m) (sym same.1)))
+        map.get (option_map_or (λ session. map.insert m id (change session)) o m) q
+        ≡ (if q == id then option_map change (map.get m q) else map.get m q)
+    by None e (inl same) =
+        rw same.0 (ap (map.get m) same.1 ∙ e ∙ ap (option_map change) (sym e ∙ ap (map.get m) (sym same.1)))
     by None e (inr apart) = rw apart.0 refl
     by (Some s) e (inl same) =
         get-inserted m id (change s) q ∙ rw same.0 (ap (option_map change) (sym e ∙ ap (map.get m) (sym same.1)))
@@ -95,32 +100,53 @@ get-changed_at m id change q = by (map.get m id) refl (eqb_tells q id)
 -- ---- the four events
 
 pub state_of-opened : (events : List ClientEvent) (user : ℕ) →
-    record { opened = (state_of events).opened + 1; open_sessions = map.insert (state_of events).open_sessions ((state_of events).opened + 1) (record { user = user; active = [] }) }
+    record {
+      opened = (state_of events).opened + 1;
+      open_sessions = map.insert (state_of events).open_sessions ((state_of events).opened + 1) (record {
+        user = user;
+        active = [];
+      });
+    }
     ≡ state_of (events ++ Open user ∷ [])
 state_of-opened events user =
     same_state _ _
-    (ap (λ n. n + 1) (opened-state_of events) ∙ sym (opened-state_of (events ++ Open user ∷ []) ∙ opened_count-push events (Open user)))
-    (λ id. get-inserted (state_of events).open_sessions ((state_of events).opened + 1) (record { user = user; active = [] }) id
-    ∙ (λ i. if id == opened-state_of events i + 1 then Some (record { user = user; active = [] }) else get-state_of events id i)
+    (ap (λ n. n + 1) (opened-state_of events)
+    ∙ sym (opened-state_of (events ++ Open user ∷ []) ∙ opened_count-push events (Open user)))
+    (λ id. get-inserted (state_of events).open_sessions ((state_of events).opened + 1) (record {
+      user = user;
+      active = [];
+    }) id
+    ∙ (λ i. if id == opened-state_of events i + 1 then Some (record {
+      user = user;
+      active = [];
+    }) else get-state_of events id i)
     ∙ sym (get-state_of (events ++ Open user ∷ []) id ∙ session_in-opened events user id))
 
 add-none : (a b : ℕ) → b ≡ a + 0 → a ≡ b
 add-none a b e = omega arith
 
 pub state_of-closed : (events : List ClientEvent) (s user : ℕ) →
-    record { opened = (state_of events).opened; open_sessions = map.remove (state_of events).open_sessions s } ≡ state_of (events ++ Close s user ∷ [])
+    record {
+      opened = (state_of events).opened;
+      open_sessions = map.remove (state_of events).open_sessions s;
+    } ≡ state_of (events ++ Close s user ∷ [])
 state_of-closed events s user =
     same_state _ _
-    (opened-state_of events ∙ add-none _ _ (opened-state_of (events ++ Close s user ∷ []) ∙ opened_count-push events (Close s user)))
+    (opened-state_of events
+    ∙ add-none _ _ (opened-state_of (events ++ Close s user ∷ []) ∙ opened_count-push events (Close s user)))
     (λ id. get-removed (state_of events).open_sessions s id
     ∙ (λ i. if id == s then None else get-state_of events id i)
     ∙ sym (get-state_of (events ++ Close s user ∷ []) id ∙ session_in-closed events s user id))
 
 pub state_of-dropped : (events : List ClientEvent) (s user role : ℕ) →
-    record { opened = (state_of events).opened; open_sessions = changed_at (state_of events).open_sessions s (without_role role) } ≡ state_of (events ++ DropRole s user role ∷ [])
+    record {
+      opened = (state_of events).opened;
+      open_sessions = changed_at (state_of events).open_sessions s (without_role role);
+    } ≡ state_of (events ++ DropRole s user role ∷ [])
 state_of-dropped events s user role =
     same_state _ _
-    (opened-state_of events ∙ add-none _ _ (opened-state_of (events ++ DropRole s user role ∷ []) ∙ opened_count-push events (DropRole s user role)))
+    (opened-state_of events ∙ add-none _ _ (opened-state_of (events ++ DropRole s user role ∷ [])
+    ∙ opened_count-push events (DropRole s user role)))
     (λ id. get-changed_at (state_of events).open_sessions s (without_role role) id
     ∙ (λ i. if id == s then option_map (without_role role) (get-state_of events id i) else get-state_of events id i)
     ∙ sym (get-state_of (events ++ DropRole s user role ∷ []) id ∙ session_in-dropped events s user role id))
@@ -130,10 +156,14 @@ abbrev last_active : ℕ → Session → Session
 last_active role session = with_role role (without_role role session)
 
 state_of-last_active : (events : List ClientEvent) (s user role : ℕ) →
-    record { opened = (state_of events).opened; open_sessions = changed_at (state_of events).open_sessions s (last_active role) } ≡ state_of (events ++ Activate s user role ∷ [])
+    record {
+      opened = (state_of events).opened;
+      open_sessions = changed_at (state_of events).open_sessions s (last_active role);
+    } ≡ state_of (events ++ Activate s user role ∷ [])
 state_of-last_active events s user role =
     same_state _ _
-    (opened-state_of events ∙ add-none _ _ (opened-state_of (events ++ Activate s user role ∷ []) ∙ opened_count-push events (Activate s user role)))
+    (opened-state_of events ∙ add-none _ _ (opened-state_of (events ++ Activate s user role ∷ [])
+    ∙ opened_count-push events (Activate s user role)))
     (λ id. get-changed_at (state_of events).open_sessions s (last_active role) id
     ∙ (λ i. if id == s then option_map (last_active role) (get-state_of events id i) else get-state_of events id i)
     ∙ sym (get-state_of (events ++ Activate s user role ∷ []) id ∙ session_in-activated events s user role id))
@@ -146,28 +176,38 @@ filter-absent role (r ∷ roles) h = by (r == role) h (filter-absent role roles)
   where
     by : (b : Bool) → (b || list_any (λ active. active == role) roles) ≡ false
         → (list_any (λ active. active == role) roles ≡ false → filter (λ active. not (active == role)) roles ≡ roles)
-        → (if not b then r ∷ filter (λ active. not (active == role)) roles else filter (λ active. not (active == role)) roles) ≡ r ∷ roles
+        → (if not b then r ∷ filter (λ active. not (active == role)) roles
+        else filter (λ active. not (active == role)) roles) ≡ r ∷ roles
     by true e further = absurd (cc)
     by false e further = ap (λ rest. r ∷ rest) (further e)
 
 pub state_of-activated : (events : List ClientEvent) (s user role : ℕ) (session : Session) →
-    map.get (state_of events).open_sessions s ≡ Some session → list_any (λ active. active == role) session.active ≡ false →
-    record { opened = (state_of events).opened; open_sessions = changed_at (state_of events).open_sessions s (with_role role) } ≡ state_of (events ++ Activate s user role ∷ [])
+    map.get (state_of events).open_sessions s ≡ Some session
+    → list_any (λ active. active == role) session.active ≡ false →
+    record {
+      opened = (state_of events).opened;
+      open_sessions = changed_at (state_of events).open_sessions s (with_role role);
+    } ≡ state_of (events ++ Activate s user role ∷ [])
 state_of-activated events s user role session found new =
     (λ i. record {
       opened = (state_of events).opened;
       open_sessions =
-          option_map_or (λ x. map.insert (state_of events).open_sessions s (with_role role x)) (found i) (state_of events).open_sessions;
+          option_map_or (λ x. map.insert (state_of events).open_sessions s (with_role role x)) (found i)
+          (state_of events).open_sessions;
     })
     ∙ (λ i. record {
       opened = (state_of events).opened;
       open_sessions =
-          map.insert (state_of events).open_sessions s (record { user = session.user; active = sym (filter-absent role session.active new) i ++ role ∷ [] });
+          map.insert (state_of events).open_sessions s (record {
+            user = session.user;
+            active = sym (filter-absent role session.active new) i ++ role ∷ [];
+          });
     })
     ∙ (λ i. record {
       opened = (state_of events).opened;
       open_sessions =
-          option_map_or (λ x. map.insert (state_of events).open_sessions s (last_active role x)) (sym found i) (state_of events).open_sessions;
+          option_map_or (λ x. map.insert (state_of events).open_sessions s (last_active role x)) (sym found i)
+          (state_of events).open_sessions;
     })
     ∙ state_of-last_active events s user role
 
@@ -179,8 +219,10 @@ state_of-none = refl
 
 -- no fault is due: the session is open, and the role isn't active in it
 no_fault : (yours there has active full : Bool) →
-    (if not yours then Some session.NotYours else (if not there then Some session.NoSuchRole else (if not has then Some session.NotAssigned
-    else (if active then Some session.AlreadyActive else (if full then Some session.TooManyRoles else None))))) ≡ None → active ≡ false
+    (if not yours then Some session.NotYours
+    else (if not there then Some session.NoSuchRole else (if not has then Some session.NotAssigned
+    else (if active then Some session.AlreadyActive else (if full then Some session.TooManyRoles else None))))) ≡ None
+    → active ≡ false
 no_fault false there has active full e = absurd (cc)
 no_fault true false has active full e = absurd (cc)
 no_fault true true false active full e = absurd (cc)
@@ -191,10 +233,19 @@ activatable : (table : Table) (relations : Relations) (o : Option Session) (user
     → activate_in table relations o user role ≡ None →
     (session : Session) × ((o ≡ Some session) × (list_any (λ active. active == role) session.active ≡ false))
 activatable table relations None user role e = absurd (cc)
-activatable table relations (Some found) user role e =
-    (found, (refl, no_fault (found.user == user) (map.contains_key table.owners role) (relations.assigned user role) (list_any (λ active. active == role) found.active) (nat_le most_active_roles (length found.active)) e))
+activatable table relations (Some found) user role e = (
+  found,
+  (
+    refl,
+    no_fault (found.user == user) (map.contains_key table.owners role) (relations.assigned user role)
+        (list_any (λ active. active == role) found.active) (nat_le most_active_roles (length found.active)) e,
+  ),
+)
 
-module _ (n : ℕ) (open_sessions new : map.FinMap nat_cmp Session) (old : SessionState) (view : record { opened = n; open_sessions = open_sessions } ≡ old) where
+module _ (n : ℕ) (open_sessions new : map.FinMap nat_cmp Session) (old : SessionState) (view : record {
+  opened = n;
+  open_sessions = open_sessions;
+} ≡ old) where
   module _ (events : List ClientEvent) (are : old ≡ state_of events) where
     at : record { opened = n; open_sessions = open_sessions } ≡ state_of events
     at = view ∙ are
@@ -204,7 +255,10 @@ module _ (n : ℕ) (open_sessions new : map.FinMap nat_cmp Session) (old : Sessi
         record { opened = n + 1; open_sessions = new } ≡ state_of (events ++ Open user ∷ [])
     then_opened user session is made =
         (λ i. record { opened = n + 1; open_sessions = made i })
-        ∙ (λ i. record { opened = (at i).opened + 1; open_sessions = map.insert (at i).open_sessions ((at i).opened + 1) (is i) })
+        ∙ (λ i. record {
+          opened = (at i).opened + 1;
+          open_sessions = map.insert (at i).open_sessions ((at i).opened + 1) (is i);
+        })
         ∙ state_of-opened events user
 
     pub then_closed : (s user : ℕ) → new ≡ map.remove open_sessions s
@@ -218,14 +272,21 @@ module _ (n : ℕ) (open_sessions new : map.FinMap nat_cmp Session) (old : Sessi
         record { opened = n; open_sessions = new } ≡ state_of (events ++ DropRole s user role ∷ [])
     then_dropped s user role made =
         (λ i. record { opened = n; open_sessions = made i })
-        ∙ (λ i. record { opened = (at i).opened; open_sessions = changed_at (at i).open_sessions s (without_role role) })
+        ∙ (λ i. record {
+          opened = (at i).opened;
+          open_sessions = changed_at (at i).open_sessions s (without_role role);
+        })
         ∙ state_of-dropped events s user role
 
     pub then_activated : (table : Table) (relations : Relations) (s user role : ℕ)
         → activate_due table relations old s user role ≡ None →
-        new ≡ changed_at open_sessions s (with_role role) → record { opened = n; open_sessions = new } ≡ state_of (events ++ Activate s user role ∷ [])
+        new ≡ changed_at open_sessions s (with_role role) → record {
+          opened = n;
+          open_sessions = new;
+        } ≡ state_of (events ++ Activate s user role ∷ [])
     then_activated table relations s user role due made =
         let free = activatable table relations (map.get old.open_sessions s) user role due in
         (λ i. record { opened = n; open_sessions = made i })
         ∙ (λ i. record { opened = (at i).opened; open_sessions = changed_at (at i).open_sessions s (with_role role) })
-        ∙ state_of-activated events s user role free.0 (ap (λ st. map.get st.open_sessions s) (sym are) ∙ free.1.0) free.1.1
+        ∙ state_of-activated events s user role free.0 (ap (λ st. map.get st.open_sessions s) (sym are)
+        ∙ free.1.0) free.1.1

@@ -11,8 +11,12 @@ with_role role session = record { user = session.user; active = session.active +
 
 -- with the role no longer among the active ones
 abbrev pub without_role : ℕ → Session → Session
-without_role role session = record { user = session.user; active = filter (λ active. not (active == role)) session.active }
+without_role role session = record {
+  user = session.user;
+  active = filter (λ active. not (active == role)) session.active;
+}
 
 -- with the session of this id changed, if it is there
 abbrev pub changed_at : map.FinMap nat_cmp Session → ℕ → (Session → Session) → map.FinMap nat_cmp Session
-changed_at sessions id change = option_map_or (λ session. map.insert sessions id (change session)) (map.get sessions id) sessions
+changed_at sessions id change =
+    option_map_or (λ session. map.insert sessions id (change session)) (map.get sessions id) sessions

@@ -25,7 +25,8 @@ pub record SessionsValue : Type 0 where
 -- the answer is the verdict under these relations, if the session is open
 abbrev pub IsRight : Relations → SessionState → KeptAnswer → Type 0
 IsRight relations state k =
-    IfSome (map.get state.open_sessions k.session) (λ session. k.answer ≡ verdict relations (Some session) session.user k.operation k.object)
+    IfSome (map.get state.open_sessions k.session) (λ session.
+    k.answer ≡ verdict relations (Some session) session.user k.operation k.object)
 
 -- every answer that is kept is the verdict under these relations
 abbrev pub KeptAreRight : Relations → SessionsValue → Type 0
@@ -37,7 +38,10 @@ KeepsRight old new = (relations : Relations) → KeptAreRight relations old → 
 
 -- a session is stored as the pair of its parts
 abbrev pub session_code : Coded Session
-session_code = code_by (ℕ × List ℕ) (coded× coded_ℕ (coded_list coded_ℕ)) (λ s. (s.user, s.active)) (λ p. record { user = p.0; active = p.1 }) (λ _. refl)
+session_code = code_by (ℕ × List ℕ) (coded× coded_ℕ (coded_list coded_ℕ)) (λ s. (s.user, s.active)) (λ p. record {
+  user = p.0;
+  active = p.1;
+}) (λ _. refl)
 
 -- rules are stored as numbers
 abbrev pub rule_number : Rule → ℕ

@@ -12,7 +12,8 @@ use Rattle.role_sessions.specs.Decisions.{Relations, relations_of, counted_roles
 
 -- the user is assigned to the role, which may do the operation on the object
 abbrev pub Permits : Relations → ℕ → ℕ → ℕ → ℕ → Type 0
-Permits relations user operation object role = IsTrue (relations.assigned user role) × IsTrue (relations.granted operation object role)
+Permits relations user operation object role =
+    IsTrue (relations.assigned user role) × IsTrue (relations.granted operation object role)
 
 -- CheckAccess: what is allowed is allowed in a role that is active in the user's open session, that the user is
 -- assigned to now, and that has the permission
@@ -20,14 +21,16 @@ abbrev pub AllowedInARole : Type 0
 AllowedInARole =
     (relations : Relations) (found : Option Session) (user operation object role : ℕ) →
     verdict relations found user operation object ≡ Allow role →
-    IsSomeAnd found (λ session. (session.user ≡ user) × Contains session.active role × Permits relations user operation object role)
+    IsSomeAnd found (λ session. (session.user ≡ user) × Contains session.active role
+    × Permits relations user operation object role)
 
 -- what is denied in the user's open session, no role that is active in it permits
 abbrev pub DeniedForWantOfARole : Type 0
 DeniedForWantOfARole =
     (relations : Relations) (found : Option Session) (user operation object : ℕ) (rule : Rule) →
     verdict relations found user operation object ≡ Deny rule →
-    IfSome found (λ session. session.user ≡ user → (role : ℕ) → Contains session.active role → ¬ (Permits relations user operation object role))
+    IfSome found (λ session. session.user ≡ user → (role : ℕ) → Contains session.active role
+    → ¬ (Permits relations user operation object role))
 
 -- a role that counts is active, and the user is assigned to it
 abbrev pub CountedAreAssigned : Type 0
@@ -38,7 +41,8 @@ CountedAreAssigned =
 -- after a deassign by its owner the role doesn't count
 abbrev pub DeassignedCountsNoMore : Type 0
 DeassignedCountsNoMore =
-    (node user role : ℕ) (old new : PolicyValue) (session : Session) → IsApplied node (Deassign user role) old new → IsTrue (owns old.table node role) →
+    (node user role : ℕ) (old new : PolicyValue) (session : Session) → IsApplied node (Deassign user role) old new
+    → IsTrue (owns old.table node role) →
     session.user ≡ user → ¬ (Contains (counted_roles (relations_of new) session) role)
 
 -- a deassign of a role that the user had, and a new assign, leave the roles that count, with no new activation
@@ -54,17 +58,21 @@ RelationsStay = (old new : PolicyValue) → SameRelations old new → relations_
 
 -- the state has the sessions that are open
 abbrev pub StateHasTheOpen : Type 0
-StateHasTheOpen = (events : List ClientEvent) (id : ℕ) → map.get (state_of events).open_sessions id ≡ session_in events id
+StateHasTheOpen = (events : List ClientEvent) (id : ℕ)
+    → map.get (state_of events).open_sessions id ≡ session_in events id
 
 -- and counts all that were opened, no more than there are events
 abbrev pub StateCountsTheOpened : Type 0
-StateCountsTheOpened = (events : List ClientEvent) → ((state_of events).opened ≡ opened_count events) × (opened_count events ≤ length events)
+StateCountsTheOpened = (events : List ClientEvent) → ((state_of events).opened ≡ opened_count events)
+    × (opened_count events ≤ length events)
 
 -- the ids are those from 1 up to how many were opened
 abbrev pub IdsAreGivenInOrder : Type 0
-IdsAreGivenInOrder = (events : List ClientEvent) (id : ℕ) → session_in events id ≢ None → (1 ≤ id) × (id ≤ opened_count events)
+IdsAreGivenInOrder = (events : List ClientEvent) (id : ℕ) → session_in events id ≢ None
+    → (1 ≤ id) × (id ≤ opened_count events)
 
 -- the id of a session that was closed is never used again
 abbrev pub ClosedStayClosed : Type 0
 ClosedStayClosed =
-    (events later : List ClientEvent) (id : ℕ) → id ≤ opened_count events → session_in events id ≡ None → session_in (events ++ later) id ≡ None
+    (events later : List ClientEvent) (id : ℕ) → id ≤ opened_count events → session_in events id ≡ None
+    → session_in (events ++ later) id ≡ None

@@ -55,14 +55,18 @@ unfoldable pub active_roles : ℕ → List ClientEvent → List ℕ
 active_roles id [] = []
 active_roles id (Open user ∷ later) = active_roles id later
 active_roles id (Activate session user role ∷ later) =
-    if (id == session) && not (list_any (is_about id role) later) then role ∷ active_roles id later else active_roles id later
+    if (id == session) && not (list_any (is_about id role) later) then role ∷ active_roles id later
+    else active_roles id later
 active_roles id (DropRole session user role ∷ later) = active_roles id later
 active_roles id (Close session user ∷ later) = active_roles id later
 
 -- the session, unless a Close of it follows its Open
 abbrev pub while_open : ℕ → Life → Option Session
 while_open id life =
-    if list_any (is_closing id) life.later then None else Some (record { user = life.user; active = active_roles id life.later })
+    if list_any (is_closing id) life.later then None else Some (record {
+      user = life.user;
+      active = active_roles id life.later;
+    })
 
 -- the session with this id, if it is open
 unfoldable pub session_in : List ClientEvent → ℕ → Option Session

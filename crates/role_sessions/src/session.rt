@@ -152,7 +152,8 @@ impl Session {
     /// The first active role that counts and has the permission.
     fn granting(&self, policy: &Policy, operation: u16, object: u32) -> Option<u16>
         ensures { let relations = relations_of policy.now in
-            result ≡ find (λ role. relations.assigned self.now.user role && relations.granted operation object role) self.now.active }
+            result ≡ find
+            (λ role. relations.assigned self.now.user role && relations.granted operation object role) self.now.active }
     {
         self.active.iter().copied().find(|role| {
             policy.is_assigned(self.user, *role) && policy.is_granted(*role, operation, object)

@@ -137,8 +137,8 @@ impl Sessions {
         user: u32,
         role: u16,
     ) -> Result<(), SessionFault>
-        ensures due { let due = activate_due policy.now.table (relations_of policy.now) self.old.state session user role in
-            AnswersDue due result }
+        ensures due { let relations = relations_of policy.now in
+            AnswersDue (activate_due policy.now.table relations self.old.state session user role) result }
         ensures ok { OnOk result (Happened (Activate session user role) self.old.state self.new.state) }
         ensures err { OnErr result (self.new ≡ self.old) }
         ensures kept { KeepsRight self.old self.new }
@@ -267,7 +267,8 @@ impl Sessions {
         session: u64,
     ) -> Result<Vec<Permission>, SessionFault>
         ensures due { AnswersDue (listing_due self.now.state session) result }
-        ensures permissions { IfOk result (λ permissions. IsSomeAnd (map.get self.now.state.open_sessions session) (λ found.
+        ensures permissions { IfOk result (λ permissions.
+            IsSomeAnd (map.get self.now.state.open_sessions session) (λ found.
             IsListing permission_cmp (λ p. SessionMay (relations_of policy.now) found p.0 p.1) permissions.items)) }
     {
         let Some(found) = self.open_sessions.get(session) else {

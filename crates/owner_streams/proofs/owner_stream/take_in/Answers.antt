@@ -5,7 +5,8 @@ use Rattle.owner_streams.proofs.owner_stream.take_in.Goals as goal
 
 pub returns-in-Some-clause-taken : goal.returns-in-Some-clause-taken
 returns-in-Some-clause-taken c =
-    is_taken_if_ok c.args.sizes.now c.args.slot.now c.in-Some.instance _ _ c.take.result (ap (state_in c.args.sizes.now) c.in-Some.is)
+    is_taken_if_ok c.args.sizes.now c.args.slot.now c.in-Some.instance _ _ c.take.result
+    (ap (state_in c.args.sizes.now) c.in-Some.is)
     (λ i. record { kind = c.kind.ensures i; from = c.from.ensures i; command = c.command.ensures i })
     c.take.ensures.broadcast c.take.ensures.delivered
 

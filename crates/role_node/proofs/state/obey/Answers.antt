@@ -13,7 +13,8 @@ loop-place-preserved c =
             table = ap (λ p. p.table) w.policy-is ∙ w.apply.ensures.applied.table ∙ c.loop-place.invariant.table;
             policy = λ taken is was.
                 rw w.policy-is
-                (policy_more c.args.streams.now.sizes taken c.args.owner c.loop-place.place _ _ _ (w.in-Some.ensures taken is)
+                (policy_more c.args.streams.now.sizes taken c.args.owner c.loop-place.place
+                (w.in-Some.ensures taken is)
                 w.apply.ensures.applied (c.loop-place.invariant.policy taken is was));
           }
       | in_default w ↦
@@ -23,7 +24,8 @@ loop-place-preserved c =
             table = ap (λ p. p.table) w.policy-is ∙ c.loop-place.invariant.table;
             policy = λ taken is was.
                 rw w.policy-is
-                (policy_past c.args.streams.now.sizes taken c.args.owner c.loop-place.place c.loop-place.policy (w.in_default.ensures taken is)
+                (policy_past c.args.streams.now.sizes taken c.args.owner c.loop-place.place
+                (w.in_default.ensures taken is)
                 (c.loop-place.invariant.policy taken is was));
           }
     ]

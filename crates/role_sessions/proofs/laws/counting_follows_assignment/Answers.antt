@@ -1,4 +1,4 @@
-use Rattle.role_sessions.proofs.LawLemmas.{counted_are_assigned, deassigned_counts_no_more, reassigned_counts_again}
+use Rattle.role_sessions.proofs.DecisionLaws.{counted_are_assigned, deassigned_counts_no_more, reassigned_counts_again}
 use Rattle.role_sessions.proofs.laws.counting_follows_assignment.Goals as goal
 
 pub returns-clause-counted : goal.returns-clause-counted

@@ -1,5 +1,5 @@
 use Rattle.role_sessions.proofs.StateLemmas.{get-state_of}
-use Rattle.role_sessions.proofs.LawLemmas.{state_counts_the_opened, ids_are_given_in_order, closed_stay_closed}
+use Rattle.role_sessions.proofs.IdLaws.{state_counts_the_opened, ids_are_given_in_order, closed_stay_closed}
 use Rattle.role_sessions.proofs.laws.ids_are_never_used_again.Goals as goal
 
 pub returns-clause-state : goal.returns-clause-state

@@ -1,4 +1,4 @@
-use Rattle.role_sessions.proofs.LawLemmas.{relations_stay}
+use Rattle.role_sessions.proofs.DecisionLaws.{relations_stay}
 use Rattle.role_sessions.proofs.laws.relations_stay.Goals as goal
 
 pub returns : goal.returns

@@ -9,4 +9,6 @@ pub returns : goal.returns
 returns c =
     by_owner (λ s packets. c.again.result ≡ again_due s c.args.owner c.args.place packets)
     (is_owners (omega arith) c.self.invariant.one_each c.requires c.self.view_is c.index-2.ensures)
-    (λ packets is. c.again.ensures ∙ again_is c.self.inside.sizes c.args.owner c.args.place (slot_at c.index-2.result.now.places.items c.args.place) packets (is.at_each_place c.args.place))
+    (λ packets is. c.again.ensures
+    ∙ again_is c.self.inside.sizes c.args.owner c.args.place
+    (slot_at c.index-2.result.now.places.items c.args.place) packets (is.at_each_place c.args.place))

@@ -7,4 +7,7 @@ pub returns-clause-due : goal.returns-clause-due
 returns-clause-due c =
     by_owner (λ s packets. SendsAreOwners packets → c.look.result ≡ effect_due (step_due s packets c.args.packet.now))
     (is_owners (omega arith) c.self.invariant.one_each c.requires.owner c.self.view_is c.index-2.ensures)
-    (λ packets. c.look.ensures.due c.self.inside.sizes packets (is_kept (is_owners (omega arith) c.self.invariant.one_each c.requires.owner c.self.view_is c.index-2.ensures) c.self.invariant.each))
+    (λ packets.
+    c.look.ensures.due c.self.inside.sizes packets
+    (is_kept (is_owners (omega arith) c.self.invariant.one_each c.requires.owner c.self.view_is c.index-2.ensures)
+    c.self.invariant.each))

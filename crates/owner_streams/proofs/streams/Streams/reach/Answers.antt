@@ -9,11 +9,15 @@ pub returns-clause-due : goal.returns-clause-due
 returns-clause-due c =
     by_owner (λ s packets. c.reach.result ≡ reach s c.args.owner packets)
     (is_owners (omega arith) c.self.invariant.one_each c.requires c.self.view_is c.index-2.ensures)
-    (λ packets is. c.reach.ensures ∙ reach_is_due c.self.inside.sizes c.args.owner c.index-2.result.now packets (is_kept (is_owners (omega arith) c.self.invariant.one_each c.requires c.self.view_is c.index-2.ensures) c.self.invariant.each) is)
+    (λ packets is. c.reach.ensures
+    ∙ reach_is_due c.self.inside.sizes c.args.owner c.index-2.result.now packets
+    (is_kept (is_owners (omega arith) c.self.invariant.one_each c.requires c.self.view_is c.index-2.ensures)
+    c.self.invariant.each) is)
 
 pub returns-clause-bound : goal.returns-clause-bound
 returns-clause-bound c =
     let kept : IsOwnerStream c.self.inside.sizes c.index-2.result.now =
-    is_kept (is_owners (omega arith) c.self.invariant.one_each c.requires c.self.view_is c.index-2.ensures) c.self.invariant.each in
+    is_kept (is_owners (omega arith) c.self.invariant.one_each c.requires c.self.view_is c.index-2.ensures)
+    c.self.invariant.each in
     let within = run_within c.index-2.result.now.places.items c.index-2.result.now.reach kept.run in
     omega (arith, kept.in_range)

@@ -10,7 +10,8 @@ invariant_of-self c =
     record {
       one_each = length-set c.self.inside.owners.items c.from-owner.result c.take.new.self ∙ c.self.invariant.one_each;
       each =
-          All-set (IsOwnerStream c.self.inside.sizes) c.self.inside.owners.items c.from-owner.result c.take.new.self c.take.ensures.kept c.self.invariant.each;
+          All-set (IsOwnerStream c.self.inside.sizes) c.self.inside.owners.items c.from-owner.result c.take.new.self
+          c.take.ensures.kept c.self.invariant.each;
     }
 
 pub returns-clause-due : goal.returns-clause-due

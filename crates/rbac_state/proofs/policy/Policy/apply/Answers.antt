@@ -9,7 +9,7 @@ pub returns-in-Assign-clause-applied : goal.returns-in-Assign-clause-applied
 returns-in-Assign-clause-applied c =
     let owned : owns c.self.inside.roles c.args.owner c.in-Assign.role ≡ true =
     ap (owns c.self.inside.roles c.args.owner) (sym (c.role.ensures ∙ ap role_of c.in-Assign.is))
-    ∙ sym c.is_owner.ensures ∙ c.if-not-is_owner.false in
+    ∙ sym c.is_owned_by.ensures.value ∙ c.if-not-is_owned_by.false in
     rw (
       c.in-Assign.is,
       ← c.self.view_is,
@@ -23,7 +23,7 @@ pub returns-in-Deassign-clause-applied : goal.returns-in-Deassign-clause-applied
 returns-in-Deassign-clause-applied c =
     let owned : owns c.self.inside.roles c.args.owner c.in-Deassign.role ≡ true =
     ap (owns c.self.inside.roles c.args.owner) (sym (c.role.ensures ∙ ap role_of c.in-Deassign.is))
-    ∙ sym c.is_owner.ensures ∙ c.if-not-is_owner.false in
+    ∙ sym c.is_owned_by.ensures.value ∙ c.if-not-is_owned_by.false in
     rw (
       c.in-Deassign.is,
       ← c.self.view_is,
@@ -37,7 +37,7 @@ pub returns-in-Grant-clause-applied : goal.returns-in-Grant-clause-applied
 returns-in-Grant-clause-applied c =
     let owned : owns c.self.inside.roles c.args.owner c.in-Grant.role ≡ true =
     ap (owns c.self.inside.roles c.args.owner) (sym (c.role.ensures ∙ ap role_of c.in-Grant.is))
-    ∙ sym c.is_owner.ensures ∙ c.if-not-is_owner.false in
+    ∙ sym c.is_owned_by.ensures.value ∙ c.if-not-is_owned_by.false in
     rw (c.in-Grant.is, ← c.self.view_is)
     (applied-Grant c.args.owner c.in-Grant.role c.in-Grant.operation c.in-Grant.object _ _ owned refl refl
     (λ operation object role. granted-put c.self.inside.granted.items _ (
@@ -49,7 +49,7 @@ pub returns-in-Revoke-clause-applied : goal.returns-in-Revoke-clause-applied
 returns-in-Revoke-clause-applied c =
     let owned : owns c.self.inside.roles c.args.owner c.in-Revoke.role ≡ true =
     ap (owns c.self.inside.roles c.args.owner) (sym (c.role.ensures ∙ ap role_of c.in-Revoke.is))
-    ∙ sym c.is_owner.ensures ∙ c.if-not-is_owner.false in
+    ∙ sym c.is_owned_by.ensures.value ∙ c.if-not-is_owned_by.false in
     rw (c.in-Revoke.is, ← c.self.view_is)
     (applied-Revoke c.args.owner c.in-Revoke.role c.in-Revoke.operation c.in-Revoke.object _ _ owned refl refl
     (λ operation object role.

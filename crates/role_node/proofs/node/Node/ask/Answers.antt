@@ -6,4 +6,5 @@ pub returns-clause-answer : goal.returns-clause-answer
 returns-clause-answer c =
     let a = c.self.inside in
     rw (← c.self.view_is)
-    (answered_after a.config.roles (events a.entries.items) a.state c.args.question c.ask.result c.self.invariant.state c.ask.ensures.answer)
+    (answered_after a.config.roles (events a.entries.items) a.state c.args.question c.ask.result c.self.invariant.state
+    c.ask.ensures.answer)

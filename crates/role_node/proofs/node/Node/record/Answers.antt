@@ -1,12 +1,12 @@
-use Rattle.std.proofs.Common.{◌≡◌, [], ◌∷◌, ◌++◌, refl, arith}
-use Rattle.std.proofs.lemmas.Grind.{common_steps}
+use Rattle.std.proofs.Common.{[], ◌∷◌, ◌++◌, refl, ◌∙◌}
 use Rattle.role_node.specs.Kept.{events}
 use Rattle.role_node.proofs.Entries.{legal, counted_with_room}
 use Rattle.role_node.proofs.Recording.{inside_stays, inside_grows, counts_inside, in_range, events_are_few}
 use Rattle.role_node.proofs.node.Node.record.Goals as goal
 
 pub invariant_of-self : goal.invariant_of-self
-invariant_of-self c = inside_stays c.self.inside _ c.self.invariant refl refl c.try_reserve.ensures.items (λ roles history h. h)
+invariant_of-self c =
+    inside_stays c.self.invariant refl refl c.try_reserve.ensures.items (λ roles history h. h)
 
 pub returns-in_err-try_reserve-clause-legal : goal.returns-in_err-try_reserve-clause-legal
 returns-in_err-try_reserve-clause-legal c =
@@ -21,7 +21,7 @@ answer-requires c =
 
 pub invariant_of-self-in_err-reply : goal.invariant_of-self-in_err-reply
 invariant_of-self-in_err-reply c =
-    inside_stays c.self.inside _ c.self.invariant refl refl c.try_reserve.ensures.items c.in_err-reply.ensures.err
+    inside_stays c.self.invariant refl refl c.try_reserve.ensures.items c.in_err-reply.ensures.err
 
 pub returns-in_err-reply-clause-legal : goal.returns-in_err-reply-clause-legal
 returns-in_err-reply-clause-legal c =
@@ -30,9 +30,11 @@ returns-in_err-reply-clause-legal c =
 pub invariant_of-self-2 : goal.invariant_of-self-2
 invariant_of-self-2 c =
     let counts = counts_inside c.self.inside c.args.self.now c.args.event c.self.view_is c.requires in
-    let pushed : c.push.new.self.items ≡ c.self.inside.entries.items ++ record { event = c.args.event; reply = c.in_ok-reply.reply } ∷ [] =
-    grind (arith, common_steps) in
-    inside_grows c.self.inside _ c.args.event c.in_ok-reply.reply c.self.invariant refl refl pushed c.in_ok-reply.ensures.ok counts c.in_ok-reply.ensures.reply
+    let pushed = c.push_within_capacity.ensures.items
+    ∙ (λ i. c.try_reserve.ensures.items i ++ c.new.ensures i ∷ []) in
+    inside_grows c.args.event c.in_ok-reply.reply c.self.invariant refl refl pushed
+    c.in_ok-reply.ensures.ok counts c.in_ok-reply.ensures.reply
 
 pub returns-clause-legal : goal.returns-clause-legal
-returns-clause-legal c = legal c.self.inside.config c.self.inside.me c.push.new.self.items (invariant_of-self-2 c).entries
+returns-clause-legal c =
+    legal c.self.inside.config c.self.inside.me c.push_within_capacity.new.items.items (invariant_of-self-2 c).entries

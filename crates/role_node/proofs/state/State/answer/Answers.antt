@@ -10,4 +10,5 @@ returns-in-Client-clause-reply c =
     rw c.in-Client.is (IfOk-weaker c.act.result _ _ (λ reply says. says c.args.me) c.act.ensures.reply)
 
 pub returns-in-Client-clause-memory : goal.returns-in-Client-clause-memory
-returns-in-Client-clause-memory c roles history h e = c.act.ensures.memory c.args.me roles history h (rw c.in-Client.is at e)
+returns-in-Client-clause-memory c roles history h e =
+    c.act.ensures.memory c.args.me roles history h (rw c.in-Client.is at e)

@@ -4,5 +4,6 @@ use Rattle.role_node.proofs.state.State.new.Goals as goal
 
 pub returns : goal.returns
 returns c =
-    parts_of_nothing c.args.roles _ c.new-2.ensures.items (c.in_ok-streams.ensures.sizes ∙ c.sizes.ensures.value) c.in_ok-streams.ensures.state
+    parts_of_nothing c.args.roles c.new-2.ensures.items (c.in_ok-streams.ensures.sizes
+    ∙ c.sizes.ensures.value) c.in_ok-streams.ensures.state
     c.new-3.ensures c.new-4.ensures.state c.new-4.ensures.kept

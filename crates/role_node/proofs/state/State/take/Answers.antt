@@ -9,18 +9,20 @@ use Rattle.role_node.proofs.state.State.take.Goals.{then-step, else-step}
 
 pub returns-in_err-make_room-clause-err : goal.returns-in_err-make_room-clause-err
 returns-in_err-make_room-clause-err c =
-    stays_on_err c.from_residual.result c.args.self.now _ refl refl c.make_room.ensures.same refl
+    stays_on_err c.from_residual.result refl refl c.make_room.ensures.same refl
 
 pub returns-in_err-step-clause-err : goal.returns-in_err-step-clause-err
 returns-in_err-step-clause-err c =
-    stays_on_err c.from_residual-in_err-step.result c.args.self.now _ refl c.in_err-step.ensures.err c.make_room.ensures.same refl
+    stays_on_err c.from_residual-in_err-step.result refl c.in_err-step.ensures.err
+    c.make_room.ensures.same refl
 
 pub returns-clause-reply : goal.returns-clause-reply
 returns-clause-reply c me roles history h =
     let due : step_due roles.sizes (packets history) c.args.packet.now ≡ Ok c.in_ok-step.step =
     rw (← h.sizes) (c.in_ok-step.ensures.due (packets history) h.streams h.sends) in
     c.counted_reply.ensures
-    ∙ ap (counted_reply c.args.packet.now) (sym (step_is_due roles.sizes (packets history) c.args.packet.now c.in_ok-step.step due))
+    ∙ ap (counted_reply c.args.packet.now)
+    (sym (step_is_due roles.sizes (packets history) c.args.packet.now c.in_ok-step.step due))
 
 pub returns-clause-ok : goal.returns-clause-ok
 returns-clause-ok c roles history h =
@@ -32,20 +34,21 @@ returns-clause-ok c roles history h =
     elim c.if-step.branch [
       | then-step w ↦
           rw w.self-is
-          (after_take roles history p c.args.self.now _ h c.message-message.ensures.kept.0 refl c.take.ensures.sizes
+          (after_take roles history p h c.message-message.ensures.kept.0 refl c.take.ensures.sizes
           (c.in_ok-step.ensures.state (packets history) h.streams)
           (w.obey.ensures.table ∙ c.make_room.ensures.same.table)
-          (policy_grown roles.sizes (packets history) p c.in_ok-step.step c.take.new.self.sizes c.message-message.result.owner
-          c.args.self.now.policy c.make_room.new.self w.obey.new.policy
-          (c.take.ensures.sizes ∙ h.sizes) (ap (λ m. m.owner) c.message-message.ensures.value) is h.policy c.make_room.ensures.same
+          (policy_grown roles.sizes (packets history) p
+          (c.take.ensures.sizes
+          ∙ h.sizes) (ap (λ m. m.owner) c.message-message.ensures.value) is h.policy c.make_room.ensures.same
           (w.obey.ensures.policy (packets history ++ p ∷ []) (c.in_ok-step.ensures.state (packets history) h.streams)))
           w.forget.ensures.state (none_kept (relations_of w.obey.new.policy) w.forget.new.self w.forget.ensures.kept))
       | else-step w ↦
           rw w.self-is
-          (after_take roles history p c.args.self.now _ h c.message-message.ensures.kept.0 refl c.take.ensures.sizes
+          (after_take roles history p h c.message-message.ensures.kept.0 refl c.take.ensures.sizes
           (c.in_ok-step.ensures.state (packets history) h.streams)
           c.make_room.ensures.same.table
-          (policy_stays roles.sizes (packets history) p c.in_ok-step.step c.args.self.now.policy c.make_room.new.self is
+          (policy_stays roles.sizes (packets history) p is
           (omega arith) h.policy c.make_room.ensures.same)
-          refl (kept_with_room c.args.self.now.policy c.make_room.new.self c.args.self.now.sessions c.make_room.ensures.same h.kept))
+          refl (kept_with_room c.args.self.now.sessions
+          c.make_room.ensures.same h.kept))
     ]

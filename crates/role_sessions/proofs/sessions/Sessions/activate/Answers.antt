@@ -5,5 +5,7 @@ use Rattle.role_sessions.proofs.sessions.Sessions.activate.Goals as goal
 
 pub returns-clause-ok : goal.returns-clause-ok
 returns-clause-ok c = λ events are.
-    then_activated c.self.inside.opened c.self.inside.open_sessions c.activate.new.self c.args.self.now.state (ap (λ v. v.state) c.self.view_is) events are
-    c.args.policy.now.table (relations_of c.args.policy.now) c.args.session c.args.user c.args.role c.in_ok-may_activate.ensures c.in-Ok.ensures.ok
+    then_activated c.self.inside.opened c.self.inside.open_sessions c.activate.new.self c.args.self.now.state
+    (ap (λ v. v.state) c.self.view_is) events are
+    c.args.policy.now.table (relations_of c.args.policy.now) c.args.session c.args.user c.args.role
+    c.in_ok-may_activate.ensures c.in-Ok.ensures.ok

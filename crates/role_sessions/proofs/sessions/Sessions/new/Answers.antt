@@ -7,5 +7,8 @@ use Rattle.role_sessions.proofs.sessions.Sessions.new.Goals as goal
 
 pub returns-clause-state : goal.returns-clause-state
 returns-clause-state c =
-    let family : map.FinMap nat_cmp Session → SessionState = λ sessions. record { opened = 0; open_sessions = sessions } in
+    let family : map.FinMap nat_cmp Session → SessionState = λ sessions. record {
+      opened = 0;
+      open_sessions = sessions;
+    } in
     ap family c.new.ensures ∙ state_of-none
