@@ -36,8 +36,13 @@ use Rattle.bracha_instance.proofs.StateOf.{none_of, state-echoers, state-readier
 
 pub new_instance : (echoers readiers : Names) (v : Tallied) → echoers ≡ sets.empty → readiers ≡ sets.empty → v ≡ no_votes
     → IsInstance (record {
-        echoed = None; readied = None; delivered = None; echoers = echoers; readiers = readiers; votes = v
-      })
+      echoed = None;
+      readied = None;
+      delivered = None;
+      echoers = echoers;
+      readiers = readiers;
+      votes = v;
+    })
 new_instance echoers readiers v no_echoers no_readiers none = record {
   echoers = λ _. ap (λ (w : Tallied). names_of w.echoes) none ∙ names_of-empty ∙ sym no_echoers;
   readiers = λ _. ap (λ (w : Tallied). names_of w.readies) none ∙ names_of-empty ∙ sym no_readiers;
@@ -50,8 +55,13 @@ new_instance echoers readiers v no_echoers no_readiers none = record {
 pub state-empty : (s : Counts) (echoers readiers : Names) (v : Tallied) → echoers ≡ sets.empty → readiers ≡ sets.empty
     → v ≡ no_votes
     → instance_state (record {
-        echoed = None; readied = None; delivered = None; echoers = echoers; readiers = readiers; votes = v
-      })
+      echoed = None;
+      readied = None;
+      delivered = None;
+      echoers = echoers;
+      readiers = readiers;
+      votes = v;
+    })
     ≡ state s []
 unfolding state echoed readied delivered voters votes at_first_prefix
 state-empty s echoers readiers v no_echoers no_readiers none = λ i.
@@ -154,16 +164,16 @@ echo_early s p c a due now echoers v early is more is_due is_now =
     let ready = is_now ∙ ap (λ b. option_or a.readied (only_if b c))
     (is_due ∙ ap (λ (w : Tallied). ready_now s c w.echoes w.readies) more) in
     let step : instance_state (record a { readied = now; echoers = echoers; votes = v })
-        ≡ after_echo s (instance_state a) p c None = λ i.
-        record {
-          echoed = a.echoed;
-          readied = ready i;
-          delivered = a.delivered;
-          echoers = is i;
-          readiers = a.readiers;
-          echo_votes = (more i).echoes;
-          ready_votes = (more i).readies;
-        } in
+    ≡ after_echo s (instance_state a) p c None = λ i.
+    record {
+      echoed = a.echoed;
+      readied = ready i;
+      delivered = a.delivered;
+      echoers = is i;
+      readiers = a.readiers;
+      echo_votes = (more i).echoes;
+      ready_votes = (more i).readies;
+    } in
     step ∙ ap (after_echo s (instance_state a) p c) (sym (none_of a.delivered early))
 
 pub ready_early : (s : Counts) (p : ℕ) (c : Command) (a : Inside) (due : Bool) (now : Option Command) (readiers : Names)
@@ -178,25 +188,25 @@ ready_early s p c a due now readiers v early is more is_due is_now not_yet =
     let deliver = not_yet ∙ ap (λ (w : Tallied). deliver_now s c w.readies) more in
     let none = none_of a.delivered early in
     let step : instance_state (record a { readied = now; readiers = readiers; votes = v })
-        ≡ after_ready s (instance_state a) p c None =
-        (λ i. record {
-          echoed = a.echoed;
-          readied = ready i;
-          delivered = none i;
-          echoers = a.echoers;
-          readiers = is i;
-          echo_votes = (more i).echoes;
-          ready_votes = (more i).readies;
-        })
-        ∙ (λ i. record {
-          echoed = a.echoed;
-          readied = option_or a.readied (only_if (ready_now s c a.votes.echoes (maps.insert a.votes.readies p c)) c);
-          delivered = only_if (deliver i) c;
-          echoers = a.echoers;
-          readiers = sets.insert a.readiers p;
-          echo_votes = kept (only_if (deliver i) c) a.votes.echoes;
-          ready_votes = kept (only_if (deliver i) c) (maps.insert a.votes.readies p c);
-        }) in
+    ≡ after_ready s (instance_state a) p c None =
+    (λ i. record {
+      echoed = a.echoed;
+      readied = ready i;
+      delivered = none i;
+      echoers = a.echoers;
+      readiers = is i;
+      echo_votes = (more i).echoes;
+      ready_votes = (more i).readies;
+    })
+    ∙ (λ i. record {
+      echoed = a.echoed;
+      readied = option_or a.readied (only_if (ready_now s c a.votes.echoes (maps.insert a.votes.readies p c)) c);
+      delivered = only_if (deliver i) c;
+      echoers = a.echoers;
+      readiers = sets.insert a.readiers p;
+      echo_votes = kept (only_if (deliver i) c) a.votes.echoes;
+      ready_votes = kept (only_if (deliver i) c) (maps.insert a.votes.readies p c);
+    }) in
     step ∙ ap (after_ready s (instance_state a) p c) (sym none)
 
 pub deliver_early : (s : Counts) (p : ℕ) (c : Command) (a : Inside) (due : Bool) (now : Option Command) (readiers : Names)
@@ -211,25 +221,25 @@ deliver_early s p c a due now readiers v w early is more is_due is_now is_delive
     let deliver = is_deliver ∙ ap (λ (w : Tallied). deliver_now s c w.readies) more in
     let none = none_of a.delivered early in
     let step : instance_state (record a { readied = now; delivered = Some c; readiers = readiers; votes = w })
-        ≡ after_ready s (instance_state a) p c None =
-        (λ i. record {
-          echoed = a.echoed;
-          readied = ready i;
-          delivered = Some c;
-          echoers = a.echoers;
-          readiers = is i;
-          echo_votes = (forgotten i).echoes;
-          ready_votes = (forgotten i).readies;
-        })
-        ∙ (λ i. record {
-          echoed = a.echoed;
-          readied = option_or a.readied (only_if (ready_now s c a.votes.echoes (maps.insert a.votes.readies p c)) c);
-          delivered = only_if (deliver i) c;
-          echoers = a.echoers;
-          readiers = sets.insert a.readiers p;
-          echo_votes = kept (only_if (deliver i) c) a.votes.echoes;
-          ready_votes = kept (only_if (deliver i) c) (maps.insert a.votes.readies p c);
-        }) in
+    ≡ after_ready s (instance_state a) p c None =
+    (λ i. record {
+      echoed = a.echoed;
+      readied = ready i;
+      delivered = Some c;
+      echoers = a.echoers;
+      readiers = is i;
+      echo_votes = (forgotten i).echoes;
+      ready_votes = (forgotten i).readies;
+    })
+    ∙ (λ i. record {
+      echoed = a.echoed;
+      readied = option_or a.readied (only_if (ready_now s c a.votes.echoes (maps.insert a.votes.readies p c)) c);
+      delivered = only_if (deliver i) c;
+      echoers = a.echoers;
+      readiers = sets.insert a.readiers p;
+      echo_votes = kept (only_if (deliver i) c) a.votes.echoes;
+      ready_votes = kept (only_if (deliver i) c) (maps.insert a.votes.readies p c);
+    }) in
     step ∙ ap (after_ready s (instance_state a) p c) (sym none)
 
 -- How many commands have a supporter.
@@ -252,19 +262,22 @@ counts_supported : (takes : List Take) (v : Tallied) (count : ℕ) → AreVoted 
     → v.readies ≡ votes Ready takes → length v.commands ≡ count → CountsSupported takes count
 counts_supported takes v count are echoes readies len =
     let same : (c : Command) → (support_of v c).echoes + (support_of v c).readies
-        ≡ sets.len (supporters Echo c takes) + sets.len (supporters Ready c takes) = λ c i.
-        supporters_of Echo c takes v.echoes echoes i + supporters_of Ready c takes v.readies readies i in
-    (v.commands, record {
-      once = are.once;
-      each = λ c. (
-        λ there.
-            let here : HasVote v (get_or v.commands there.0 c) = are.voted there.0 c there.1 in
-            let voted : HasVote v c = subst (HasVote v) there.2 here in
-            let n = same c in
-            omega arith,
-        λ supported. let n = same c in listed c v.commands (are.all c (omega arith)),
-      );
-    }, len)
+    ≡ sets.len (supporters Echo c takes) + sets.len (supporters Ready c takes) = λ c i.
+    supporters_of Echo c takes v.echoes echoes i + supporters_of Ready c takes v.readies readies i in (
+      v.commands,
+      record {
+        once = are.once;
+        each = λ c. (
+          λ there.
+              let here : HasVote v (get_or v.commands there.0 c) = are.voted there.0 c there.1 in
+              let voted : HasVote v c = subst (HasVote v) there.2 here in
+              let n = same c in
+              omega arith,
+          λ supported. let n = same c in listed c v.commands (are.all c (omega arith)),
+        );
+      },
+      len,
+    )
 
 pub kept_supported : (s : Counts) (takes : List Take) (a : Inside) (count : ℕ) → AreVoted a.votes
     → instance_state a ≡ state s takes → a.delivered ≡ None → length a.votes.commands ≡ count → CountsSupported takes count
@@ -298,8 +311,8 @@ pub kept_few : (s : Counts) (takes : List Take) (a : Inside) → length a.votes.
     → length a.votes.commands ≤ 2 * s.nodes
 kept_few s takes a few is below =
     let most : (kind : Kind) → sets.len (voters kind takes) ≤ s.nodes = λ kind.
-        len_below s.nodes (voters kind takes) (λ name has.
-        voter_below s.nodes kind takes below name (sym (contains-voters kind takes name) ∙ has)) in
+    len_below s.nodes (voters kind takes) (λ name has.
+    voter_below s.nodes kind takes below name (sym (contains-voters kind takes name) ∙ has)) in
     let echoers = ap (λ (st : State). sets.len st.echoers) is ∙ ap sets.len (state-echoers s takes) in
     let readiers = ap (λ (st : State). sets.len st.readiers) is ∙ ap sets.len (state-readiers s takes) in
     omega (arith, few, echoers, readiers, most Echo, most Ready)

@@ -172,7 +172,7 @@ pub support_in-set : (c : Command) (tallies : List Tally) (at : ℕ) (d t : Tall
     → support_in c (slice_set tallies at t) ≡ record { echoes = sets.len t.echoes; readies = sets.len t.readies }
 support_in-set c tallies at d t first read command =
     let same : is_tally_of c t ≡ true =
-        ap (same_command c) (command ∙ ap (λ (x : Tally). x.command) read) ∙ tally_at c tallies at d first in
+    ap (same_command c) (command ∙ ap (λ (x : Tally). x.command) read) ∙ tally_at c tallies at d first in
     let now = IsFirst-set c tallies at t first same in
     let there : get_or (slice_set tallies at t) at d ≡ t = get_or-set_same tallies at t d (within c tallies at first) in
     λ i. record {

@@ -297,6 +297,7 @@ impl Instance {
     {
         self.delivered
     }
+
     /// For how many commands votes are kept: until something is delivered those that have a supporter, and then
     /// none.
     pub fn kept(&self) -> u16
