@@ -4,7 +4,7 @@ use Rattle.bracha_instance.specs.Broadcast.{Take, vote}
 use Rattle.bracha_instance.specs.Taking.{SendsAreFrom}
 use Rattle.owner_streams.specs.Places.{take_of}
 use Rattle.owner_streams.specs.Slots.{slot_at, state_in}
-use Rattle.owner_streams.proofs.Keeping.{none_voted}
+use Rattle.owner_streams.proofs.Stepping.{none_voted}
 use Rattle.owner_streams.proofs.owner_stream.voted_at.Goals as goal
 
 pub returns-in-Some-clause-vote : goal.returns-in-Some-clause-vote

@@ -5,7 +5,9 @@ use Rattle.owner_streams.specs.Places.{window, takes_at}
 use Rattle.owner_streams.specs.Steps.{effect_due}
 use Rattle.owner_streams.specs.Slots.{slot_at, state_in}
 use Rattle.owner_streams.specs.declared.steps.StreamFault.TheVariants.{Beyond}
-use Rattle.owner_streams.proofs.Keeping.{reach_is_due, due_beyond, due_within, look_is, one_sender}
+use Rattle.owner_streams.proofs.Reaching.{reach_is_due}
+use Rattle.owner_streams.proofs.Stepping.{due_beyond, due_within, look_is}
+use Rattle.owner_streams.proofs.Senders.{one_sender}
 use Rattle.owner_streams.proofs.owner_stream.OwnerStream.look.Goals as goal
 
 pub returns-then-from-end-clause-due : goal.returns-then-from-end-clause-due

@@ -4,7 +4,9 @@ use Rattle.bracha_instance.specs.declared.instance.Effect.TheVariants.{Idle, Cou
 use Rattle.owner_streams.specs.Kept.{look_in}
 use Rattle.owner_streams.specs.Places.{take_of, reach, takes_at}
 use Rattle.owner_streams.specs.Slots.{slot_at, delivered_in}
-use Rattle.owner_streams.proofs.Keeping.{reach_is, states_push, still_run, still_states, same_states, at_each, due_within, step_is, idle_step_is, look_within, look_idle, voted_changes_nothing, effect_is, counts, run_within}
+use Rattle.owner_streams.proofs.Reaching.{reach_is, run_within}
+use Rattle.owner_streams.proofs.Keeping.{states_push, still_run, still_states, same_states, at_each}
+use Rattle.owner_streams.proofs.Stepping.{due_within, step_is, idle_step_is, look_within, look_idle, voted_changes_nothing, effect_is, counts}
 use Rattle.owner_streams.proofs.owner_stream.OwnerStream.take.Goals as goal
 
 pub returns-in-Idle-clause-due : goal.returns-in-Idle-clause-due

@@ -1,7 +1,7 @@
 use Rattle.std.proofs.Common.{◌≡◌, ◌∙◌, arith}
 use Rattle.owner_streams.specs.Steps.{again_due}
 use Rattle.owner_streams.specs.Slots.{slot_at}
-use Rattle.owner_streams.proofs.Keeping.{again_is}
+use Rattle.owner_streams.proofs.Reaching.{again_is}
 use Rattle.owner_streams.proofs.Owners.{is_owners, by_owner}
 use Rattle.owner_streams.proofs.streams.Streams.again.Goals as goal
 

@@ -1,7 +1,7 @@
 use Rattle.std.proofs.Common.{◌≡◌, ◌∙◌, arith}
 use Rattle.std.specs.Prelude.{slice_get}
 use Rattle.owner_streams.specs.Places.{stream}
-use Rattle.owner_streams.proofs.Keeping.{command_is_due}
+use Rattle.owner_streams.proofs.Reaching.{command_is_due}
 use Rattle.owner_streams.proofs.Owners.{is_owners, is_kept, by_owner}
 use Rattle.owner_streams.proofs.streams.Streams.command.Goals as goal
 
