@@ -1,5 +1,5 @@
 -- The streams of all owners, one of which takes a packet.
-use Rattle.std.proofs.Common.{◌≡◌, ◌≢◌, ℕ, ◌<◌, ⊎_elim, false, ◌&&◌, List, [], ◌∷◌, ◌++◌, length, map, get_or, Option, Some, None, Result, Ok, Err, refl, sym, ap, ◌∙◌, subst, arith}
+use Rattle.std.proofs.Common.{◌≡◌, ◌≢◌, ℕ, ◌<◌, ◌≤◌, ⊎_elim, false, ◌&&◌, List, [], ◌∷◌, ◌++◌, length, map, get_or, Option, Some, None, Result, Ok, Err, refl, sym, ap, ◌∙◌, subst, arith}
 use Rattle.std.specs.Prelude.{◌==◌, slice_get, slice_set, unwrap_or, slice_index_or, option_map, OnOk, OnErr, IfOk, All}
 use Rattle.std.specs.FinMap as maps
 use Rattle.std.specs.Ordering.{nat_cmp}
@@ -12,7 +12,7 @@ use Rattle.link_frames.specs.Packets.{PacketValue}
 use Rattle.bracha_instance.specs.States.{state}
 use Rattle.owner_streams.specs.Places.{window, takes_at}
 use Rattle.owner_streams.specs.Values.{StreamsValue, state_at, IsStateOf}
-use Rattle.owner_streams.specs.Slots.{slot_at, state_in, delivered_in}
+use Rattle.owner_streams.specs.Slots.{state_in, delivered_in}
 use Rattle.owner_streams.specs.Kept.{reach_in, held_in, held, IsOwnerStream, AreStatesOf, SamePlaces, instances_in}
 use Rattle.owner_streams.specs.declared.owner_stream.OwnerStream.{OwnerStream}
 use Rattle.owner_streams.proofs.Taken.{takes_at-other}

@@ -1,17 +1,17 @@
 -- What is kept at a place: a record below the reach, in the window an instance in the slot of the place, and beyond
 -- it nothing.
 use Rattle.std.proofs.Common.{◌≡◌, ◌≢◌, ℕ, zero, suc, ◌+◌, ◌%◌, ◌<◌, ◌≤◌, ⊎_elim, true, false, List, [], ◌∷◌, ◌++◌, length, length-append, map, Option, Some, None, refl, sym, ap, ◌∙◌, arith}
-use Rattle.std.specs.Prelude.{nat_lt, slice_get, slice_set}
+use Rattle.std.specs.Prelude.{nat_lt, slice_get, slice_set, IsSome, is_some}
 use Rattle.std.specs.List.{range_with_len}
 use Rattle.std.specs.FinMap as maps
 use Rattle.std.specs.Cmp.{nat_cmp_total}
-use Rattle.std.proofs.lemmas.List.{length-set, get_or_past, get_or-set_same, get_or-set_other}
+use Rattle.std.proofs.lemmas.List.{get_or_past, get_or-set_other}
 use Rattle.std.proofs.lemmas.List.FromFn.{length-map-range_with_len, get_or-map-range_with_len}
-use Rattle.std.proofs.lemmas.Bool.{cases_lt, cases_eq}
+use Rattle.std.proofs.lemmas.Bool.{cases_lt, cases_eq, both_ways}
 use Rattle.std.proofs.lemmas.Bool.Decides.{nat_tests}
 use Rattle.bracha_instance.specs.States.{State}
 use Rattle.owner_streams.specs.Places.{window}
-use Rattle.owner_streams.specs.Slots.{slot_at}
+use Rattle.owner_streams.specs.Slots.{slot_at, delivered_in}
 use Rattle.owner_streams.specs.Kept.{reach_in, held_in, held, instances_in}
 use Rattle.owner_streams.specs.declared.owner_stream.OwnerStream.{OwnerStream}
 use Rattle.owner_streams.proofs.Choices.{at_most, over}
@@ -57,19 +57,6 @@ slice_get-last : {A : Type 0} (xs : List A) (x : A) → slice_get (xs ++ x ∷ [
 slice_get-last [] x = refl
 slice_get-last (y ∷ xs) x = slice_get-last xs x
 
-slice_get-set_same : {A : Type 0} (xs : List A) (i : ℕ) (x : A) → i < length xs → slice_get (slice_set xs i x) i ≡ Some x
-slice_get-set_same [] i x h = absurd (omega arith)
-slice_get-set_same (y ∷ xs) zero x h = refl
-slice_get-set_same (y ∷ xs) (suc i) x h = slice_get-set_same xs i x (omega arith)
-
-slice_get-set_other : {A : Type 0} (xs : List A) (i j : ℕ) (x : A) → j ≢ i
-    → slice_get (slice_set xs i x) j ≡ slice_get xs j
-slice_get-set_other [] i j x apart = refl
-slice_get-set_other (y ∷ xs) zero zero x apart = absurd (apart refl)
-slice_get-set_other (y ∷ xs) zero (suc j) x apart = refl
-slice_get-set_other (y ∷ xs) (suc i) zero x apart = refl
-slice_get-set_other (y ∷ xs) (suc i) (suc j) x apart = slice_get-set_other xs i j x (λ e. apart (ap suc e))
-
 cleared : (ring : List (Option State)) (k : ℕ) → slot_at (slice_set ring k None) k ≡ None
 cleared [] k = refl
 cleared (slot ∷ ring) zero = refl
@@ -77,21 +64,18 @@ cleared (slot ∷ ring) (suc k) = cleared ring k
 
 -- A change at one place.
 
-pub held-set_record : (below : List State) (ring : List (Option State)) (here : ℕ) (st : State) → here < length below
-    → held_in (slice_set below here st) ring here ≡ Some st
-held-set_record below ring here st h =
-    let len = length-set below here st in
-    held-below (slice_set below here st) ring here (omega arith) ∙ slice_get-set_same below here st h
+pub held-record : (below now : List State) (ring : List (Option State)) (here : ℕ) → here < length below
+    → length now ≡ length below → held_in now ring here ≡ slice_get now here
+held-record below now ring here h len = held-below now ring here (omega arith)
 
-pub held-other_record : (below : List State) (ring : List (Option State)) (here : ℕ) (st : State) → here < length below
-    → (place : ℕ) → place ≢ here → held_in (slice_set below here st) ring place ≡ held_in below ring place
-held-other_record below ring here st h place apart =
-    let now = slice_set below here st in
-    let len : length now ≡ length below = length-set below here st in
+-- where one record changes, no other place does
+pub held-other_record : (below now : List State) (ring : List (Option State)) (here : ℕ) → here < length below
+    → length now ≡ length below → ((k : ℕ) → k ≢ here → slice_get now k ≡ slice_get below k)
+    → (place : ℕ) → place ≢ here → held_in now ring place ≡ held_in below ring place
+held-other_record below now ring here h len others place apart =
     ⊎_elim
     (λ (in_records : place < length below).
-    held-below now ring place (omega arith) ∙ slice_get-set_other below here place st apart
-    ∙ sym (held-below below ring place in_records))
+    held-below now ring place (omega arith) ∙ others place apart ∙ sym (held-below below ring place in_records))
     (λ (past : length below ≤ place).
     ⊎_elim
     (λ (in_window : place < length below + window).
@@ -101,18 +85,12 @@ held-other_record below ring here st h place apart =
     (cases_lt place (length below + window)))
     (cases_lt place (length below))
 
-pub held-set_slot : (below : List State) (ring : List (Option State)) (here : ℕ) (slot : Option State)
-    → length below ≤ here → here < length below + window → here % window < length ring
-    → held_in below (slice_set ring (here % window) slot) here ≡ slot
-held-set_slot below ring here slot past within there =
-    held-window below (slice_set ring (here % window) slot) here past within
-    ∙ get_or-set_same ring (here % window) slot None there
-
-pub held-other_slot : (below : List State) (ring : List (Option State)) (here : ℕ) (slot : Option State)
-    → length below ≤ here → here < length below + window → (place : ℕ) → place ≢ here
-    → held_in below (slice_set ring (here % window) slot) place ≡ held_in below ring place
-held-other_slot below ring here slot past within place apart =
-    let now = slice_set ring (here % window) slot in
+-- where one slot changes, no place changes but the one in the window that has it
+pub held-other_slot : (below : List State) (ring now : List (Option State)) (here : ℕ)
+    → length below ≤ here → here < length below + window
+    → ((k : ℕ) → k ≢ here % window → slot_at now k ≡ slot_at ring k)
+    → (place : ℕ) → place ≢ here → held_in below now place ≡ held_in below ring place
+held-other_slot below ring now here past within others place apart =
     ⊎_elim
     (λ (in_records : place < length below).
     held-below below now place in_records ∙ sym (held-below below ring place in_records))
@@ -124,7 +102,7 @@ held-other_slot below ring here slot past within place apart =
         (λ (after : here ≤ place). slots_apart here place (later here place after apart) (omega arith))
         (cases_lt place here) in
     held-window below now place open_from in_window
-    ∙ get_or-set_other ring (here % window) (place % window) slot None own
+    ∙ others (place % window) own
     ∙ sym (held-window below ring place open_from in_window))
     (λ (beyond : length below + window ≤ place).
     held-beyond below now place beyond ∙ sym (held-beyond below ring place beyond))
@@ -133,23 +111,6 @@ held-other_slot below ring here slot past within place apart =
   where
     later : (a b : ℕ) → a ≤ b → b ≢ a → a < b
     later a b h apart = omega arith
-
--- slots that hold the same make the places hold the same
-pub held-same_slots : (below : List State) (ring now : List (Option State))
-    → ((slot : ℕ) → slot_at now slot ≡ slot_at ring slot)
-    → (place : ℕ) → held_in below now place ≡ held_in below ring place
-held-same_slots below ring now same place =
-    ⊎_elim
-    (λ (in_records : place < length below).
-    held-below below now place in_records ∙ sym (held-below below ring place in_records))
-    (λ (past : length below ≤ place).
-    ⊎_elim
-    (λ (in_window : place < length below + window).
-    held-window below now place past in_window ∙ same (place % window) ∙ sym (held-window below ring place past in_window))
-    (λ (beyond : length below + window ≤ place).
-    held-beyond below now place beyond ∙ sym (held-beyond below ring place beyond))
-    (cases_lt place (length below + window)))
-    (cases_lt place (length below))
 
 -- The window moves on.
 
@@ -200,6 +161,38 @@ held-moved below ring st front place =
 
     further_on : (a b : ℕ) → a + window ≤ b → b ≢ a + window → {n : ℕ} → n ≡ a + 1 → n + window ≤ b
     further_on a b h apart e = omega arith
+
+-- a slot in which an instance is is one of the ring
+pub slot_within : (ring : List (Option State)) (k : ℕ) (st : State) → slot_at ring k ≡ Some st → k < length ring
+slot_within ring k st is =
+    ⊎_elim (λ (within : k < length ring). within)
+    (λ (past : length ring ≤ k). let none : Some st ≡ None = sym is ∙ get_or_past ring k None past in absurd cc)
+    (cases_lt k (length ring))
+
+-- what is delivered where the stream began to grow is within its window then
+pub front_within : (a b : OwnerStream) → ((place : ℕ) → held b place ≡ held a place) → reach_in b ≤ reach_in a + window
+    → IsSome (delivered_in (held b (reach_in b))) → reach_in b < reach_in a + window
+unfolding held
+front_within a b same few some =
+    ⊎_elim (λ (within : reach_in b < reach_in a + window). within)
+    (λ (past : reach_in a + window ≤ reach_in b).
+    let none : held_in b.below.items b.ring.items (reach_in b) ≡ None =
+        same (reach_in b) ∙ held-beyond a.below.items a.ring.items (reach_in b) past in
+    absurd (both_ways (is_some (delivered_in (held_in b.below.items b.ring.items (reach_in b))))
+    (ap (λ slot. is_some (delivered_in slot)) none) some))
+    (cases_lt (reach_in b) (reach_in a + window))
+
+-- one place more is delivered
+pub run_more : (a b : OwnerStream) → ((place : ℕ) → held b place ≡ held a place) → reach_in b ≡ reach_in a + 1
+    → ((place : ℕ) → place < reach_in a → IsSome (delivered_in (held a place)))
+    → IsSome (delivered_in (held a (reach_in a)))
+    → (place : ℕ) → place < reach_in b → IsSome (delivered_in (held b place))
+run_more a b same len run front place h =
+    ap (λ slot. is_some (delivered_in slot)) (same place)
+    ∙ ⊎_elim (λ (before : place < reach_in a). run place before)
+    (λ (past : reach_in a ≤ place).
+    let at : place ≡ reach_in a = omega arith in ap (λ k. is_some (delivered_in (held a k))) at ∙ front)
+    (cases_lt place (reach_in a))
 
 -- All places as one map.
 

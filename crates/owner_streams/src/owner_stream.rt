@@ -1,4 +1,4 @@
-ghost use Rattle.std.specs.Prelude.{◌≡◌, ◌≢◌, ℕ, ◌+◌, ◌<◌, ◌≤◌, List, [], ◌∷◌, ◌++◌, length, max, IsSome, IfOk, OnOk, OnErr, is_some, slice_get, vec_len, None};
+ghost use Rattle.std.specs.Prelude.{◌≡◌, ◌≢◌, ℕ, ◌+◌, ◌<◌, ◌≤◌, List, [], ◌∷◌, ◌++◌, length, max, IsSome, IfOk, OnOk, OnErr, is_some, slice_get, vec_len, vec_capacity, Some, None, IfSome};
 ghost use Rattle.std.specs.Option.{option_copied};
 ghost use Rattle.quorum_sizes.specs.Sizes.{Counts};
 ghost use Rattle.link_frames.specs.Packets.{PacketValue};
@@ -104,26 +104,24 @@ impl OwnerStream {
         self.below.reserve(WINDOW as usize)?;
         let place = usize::from(packet.place());
         if place < self.below.len() {
-            let record = &mut self.below[place];
-            return Ok(record.take(packet.kind(), packet.from(), packet.command()));
+            return Ok(take_record(&mut self.below, place, packet));
         }
-        let slot = place % WINDOW as usize;
-        make_room(&mut self.ring, slot + 1)?;
-        let alloc = *self.ring.allocator();
-        take_in(&mut self.ring[slot], alloc, sizes, packet)
+        take_slot(&mut self.ring, place % WINDOW as usize, sizes, packet)
     }
 
     /// Moves what is delivered at the front of the window to the records, until something is not delivered there.
     fn advance(&mut self)
         requires room { reach_in self.old + window ≤ vec_capacity self.old.below }
+        requires run { (place : ℕ) → place < reach_in self.old → IsSome (delivered_in (held self.old place)) }
+        ensures run { (place : ℕ) → place < reach_in self.new → IsSome (delivered_in (held self.new place)) }
         ensures same { SamePlaces self.old self.new }
         ensures run_ends { delivered_in (held self.new (reach_in self.new)) ≡ None }
         ensures onward { reach_in self.old ≤ reach_in self.new }
         ensures few { reach_in self.new ≤ reach_in self.old + window }
     {
-        while let Some(record) = self.front() {
+        while let Some(settled) = self.front() {
             let slot = self.below.len() % WINDOW as usize;
-            push_record(&mut self.below, record);
+            push_record(&mut self.below, settled);
             self.ring[slot] = None;
         }
     }
@@ -133,7 +131,10 @@ impl OwnerStream {
         ensures delivered { is_some result ≡ is_some (delivered_in (held self.now (reach_in self.now))) }
         ensures record { IfSome result (λ kept. held self.now (reach_in self.now) ≡ Some kept) }
     {
-        self.instance_at(self.below.len())?.record()
+        match self.instance_at(self.below.len()) {
+            Some(instance) => instance.record(),
+            None => None,
+        }
     }
 
     /// The effect that a packet of this owner would have, or its refusal.
@@ -165,11 +166,13 @@ impl OwnerStream {
             result ≡ is_some (vote packet.now.kind packet.now.from takes) }
     {
         let place = usize::from(packet.place());
+        let kind = packet.kind();
+        let from = packet.from();
         if place < self.below.len() {
-            return self.below[place].voted(packet.kind(), packet.from());
+            return self.record_at(place).voted(kind, from);
         }
         match self.instance_at(place) {
-            Some(instance) => instance.voted(packet.kind(), packet.from()),
+            Some(instance) => instance.voted(kind, from),
             None => false,
         }
     }
@@ -188,7 +191,7 @@ impl OwnerStream {
     {
         let place = usize::from(place);
         if place < self.below.len() {
-            Some(self.below[place].delivered())
+            Some(self.record_at(place).delivered())
         } else {
             None
         }
@@ -200,7 +203,7 @@ impl OwnerStream {
     {
         let place = usize::from(place);
         if place < self.below.len() {
-            let record = &self.below[place];
+            let record = self.record_at(place);
             return Again {
                 echo: record.echoed(),
                 ready: record.readied(),
@@ -226,8 +229,23 @@ impl OwnerStream {
         if place - self.below.len() >= WINDOW as usize {
             return None;
         }
-        self.ring.get(place % WINDOW as usize)?.as_ref()
+        instance_in(&self.ring, place % WINDOW as usize)
     }
+
+    /// The record of a place that the stream reaches beyond.
+    fn record_at(&self, place: usize) -> &Record
+        requires { place < reach_in self.now }
+        ensures { held self.now place ≡ Some result.now }
+    {
+        &self.below[place]
+    }
+}
+
+/// The instance in a slot.
+fn instance_in(ring: &[Option<Instance>], slot: usize) -> Option<&Instance>
+    ensures { option_copied result ≡ slot_at ring.now slot }
+{
+    ring.get(slot)?.as_ref()
 }
 
 /// Puts a record at the end, where there must be room for it. It takes no memory.
@@ -237,6 +255,41 @@ fn push_record(records: &mut Vec<Record>, record: Record)
     ensures capacity { vec_capacity records.old ≤ vec_capacity records.new }
 {
     let _within = records.push(record);
+}
+
+/// Takes a packet in its record. No other record is changed.
+fn take_record(records: &mut Vec<Record>, place: usize, packet: &Packet) -> Taken
+    requires { place < length records.old.items }
+    ensures len { length records.new.items ≡ length records.old.items }
+    ensures capacity { vec_capacity records.new ≡ vec_capacity records.old }
+    ensures others { (k : ℕ) → k ≢ place → slice_get records.new.items k ≡ slice_get records.old.items k }
+    ensures state { (s : Counts) →
+        GoesOn s (slice_get records.old.items place) (slice_get records.new.items place) (take_of packet.now) }
+    ensures taken { (s : Counts) → IsAnswerAt s (slice_get records.old.items place) (take_of packet.now) result }
+{
+    let record = &mut records[place];
+    record.take(packet.kind(), packet.from(), packet.command())
+}
+
+/// Takes a packet in its slot. No other slot is changed.
+fn take_slot(
+    ring: &mut Vec<Option<Instance>>,
+    slot: usize,
+    sizes: &Sizes,
+    packet: &Packet,
+) -> Result<Taken, AllocError>
+    requires from { packet.now.from < sizes.now.nodes }
+    requires slot { slot < window }
+    ensures others { (k : ℕ) → k ≢ slot → slot_at ring.new.items k ≡ slot_at ring.old.items k }
+    ensures state { OnOk result
+        (GoesOn sizes.now (slot_at ring.old.items slot) (slot_at ring.new.items slot) (take_of packet.now)) }
+    ensures taken { IfOk result
+        (λ taken. IsAnswerAt sizes.now (slot_at ring.old.items slot) (take_of packet.now) taken) }
+    ensures err { OnErr result (slot_at ring.new.items slot ≡ slot_at ring.old.items slot) }
+{
+    make_room(ring, slot + 1)?;
+    let alloc = *ring.allocator();
+    take_in(&mut ring[slot], alloc, sizes, packet)
 }
 
 /// Makes room for so many slots. What the slots hold stays.
