@@ -9,8 +9,10 @@ use Rattle.bracha_instance.proofs.Exported.{delivery_stays}
 use Rattle.bracha_instance.specs.Broadcast.{Take, delivered}
 use Rattle.bracha_instance.specs.States.{State, state}
 use Rattle.bracha_instance.specs.Next.{after}
-use Rattle.owner_streams.specs.Places.{take_of, takes_at}
-use Rattle.owner_streams.specs.Slots.{slot_at, state_in, delivered_in}
+use Rattle.owner_streams.specs.Places.{place_count, take_of, takes_at}
+use Rattle.owner_streams.specs.Slots.{state_in, delivered_in}
+use Rattle.owner_streams.specs.Kept.{reach_in, held, IsOwnerStream, SamePlaces}
+use Rattle.owner_streams.specs.declared.owner_stream.OwnerStream.{OwnerStream}
 use Rattle.owner_streams.proofs.Taken.{takes_at-own, takes_at-other}
 use Rattle.owner_streams.proofs.Reaching.{delivered_is}
 
@@ -95,3 +97,19 @@ pub at_each : (before after : ℕ → Option State) (here : ℕ)
 at_each before after here others same place =
     ⊎_elim (λ (e : place ≡ here). subst (λ k. after k ≡ before k) (sym e) same) (others place)
     (cases_eq place here)
+
+-- One more packet at its place, and then the window moves on: all that holds of an owner's stream still does.
+pub still_kept : (s : Counts) (a mid b : OwnerStream) (p : PacketValue) → IsOwnerStream s a → p.place < place_count →
+    ((place : ℕ) → place ≢ p.place → held mid place ≡ held a place) →
+    ((takes : List Take) → state_in s (held a p.place) ≡ state s takes
+    → state_in s (held mid p.place) ≡ state s (takes ++ take_of p ∷ [])) →
+    SamePlaces mid b → ((place : ℕ) → place < reach_in b → IsSome (delivered_in (held b place))) →
+    delivered_in (held b (reach_in b)) ≡ None → IsOwnerStream s b
+still_kept s a mid b p kept within others one same run ends = record {
+  states = same_states s (held mid) (held b) same.at_each_place
+      (still_states s (held a) (held mid) p others one kept.states);
+  run = run;
+  run_ends = ends;
+  in_range = λ place past.
+      same.at_each_place place ∙ others place (λ e. absurd (omega arith)) ∙ kept.in_range place past;
+}

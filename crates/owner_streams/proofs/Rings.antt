@@ -98,9 +98,9 @@ held-other_slot below ring now here past within others place apart =
     ⊎_elim
     (λ (in_window : place < length below + window).
     let own : place % window ≢ here % window =
-        ⊎_elim (λ (before : place < here). λ e. slots_apart place here before (omega arith) (sym e))
-        (λ (after : here ≤ place). slots_apart here place (later here place after apart) (omega arith))
-        (cases_lt place here) in
+    ⊎_elim (λ (before : place < here). λ e. slots_apart place here before (omega arith) (sym e))
+    (λ (after : here ≤ place). slots_apart here place (later here place after apart) (omega arith))
+    (cases_lt place here) in
     held-window below now place open_from in_window
     ∙ others (place % window) own
     ∙ sym (held-window below ring place open_from in_window))
@@ -177,7 +177,7 @@ front_within a b same few some =
     ⊎_elim (λ (within : reach_in b < reach_in a + window). within)
     (λ (past : reach_in a + window ≤ reach_in b).
     let none : held_in b.below.items b.ring.items (reach_in b) ≡ None =
-        same (reach_in b) ∙ held-beyond a.below.items a.ring.items (reach_in b) past in
+    same (reach_in b) ∙ held-beyond a.below.items a.ring.items (reach_in b) past in
     absurd (both_ways (is_some (delivered_in (held_in b.below.items b.ring.items (reach_in b))))
     (ap (λ slot. is_some (delivered_in slot)) none) some))
     (cases_lt (reach_in b) (reach_in a + window))

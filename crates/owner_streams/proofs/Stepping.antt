@@ -20,7 +20,7 @@ use Rattle.bracha_instance.specs.declared.instance.Effect.TheVariants.{Idle, Cou
 use Rattle.bracha_instance.specs.declared.instance.Taken.{Taken}
 use Rattle.owner_streams.specs.Places.{window, take_of, takes_at, reach}
 use Rattle.owner_streams.specs.Steps.{step_of, step_due, effect_due}
-use Rattle.owner_streams.specs.Slots.{slot_at, state_in, voted_in, IsTaken}
+use Rattle.owner_streams.specs.Slots.{state_in, voted_in, IsTaken}
 use Rattle.owner_streams.specs.Kept.{reach_in, held, look_in}
 use Rattle.owner_streams.specs.declared.owner_stream.OwnerStream.{OwnerStream}
 use Rattle.owner_streams.specs.declared.steps.StreamFault.TheVariants.{Beyond}

@@ -1,4 +1,4 @@
-ghost use Rattle.std.specs.Prelude.{◌≡◌, ◌≢◌, ℕ, ◌+◌, ◌<◌, ◌≤◌, List, [], ◌∷◌, ◌++◌, length, max, IsSome, IfOk, OnOk, OnErr, is_some, slice_get, vec_len, vec_capacity, Some, None, IfSome};
+ghost use Rattle.std.specs.Prelude.{◌≡◌, ◌≢◌, ℕ, ◌+◌, ◌<◌, ◌≤◌, List, [], ◌∷◌, ◌++◌, length, max, IsSome, IfOk, OnOk, OnErr, is_some, slice_get, slice_set, vec_len, vec_capacity, Some, None, IfSome};
 ghost use Rattle.std.specs.Option.{option_copied};
 ghost use Rattle.quorum_sizes.specs.Sizes.{Counts};
 ghost use Rattle.link_frames.specs.Packets.{PacketValue};
@@ -101,8 +101,8 @@ impl OwnerStream {
             (λ taken. IsAnswerAt sizes.now (held self.old here) (take_of packet.now) taken) }
         ensures err { let here = packet.now.place in OnErr result (held self.new here ≡ held self.old here) }
     {
-        self.below.reserve(WINDOW as usize)?;
         let place = usize::from(packet.place());
+        self.below.reserve(WINDOW as usize)?;
         if place < self.below.len() {
             return Ok(take_record(&mut self.below, place, packet));
         }
@@ -120,10 +120,21 @@ impl OwnerStream {
         ensures few { reach_in self.new ≤ reach_in self.old + window }
     {
         while let Some(settled) = self.front() {
-            let slot = self.below.len() % WINDOW as usize;
-            push_record(&mut self.below, settled);
-            self.ring[slot] = None;
+            self.settle(settled);
         }
+    }
+
+    /// Keeps the front of the window as this record, and frees its slot.
+    fn settle(&mut self, settled: Record)
+        requires room { reach_in self.old < vec_capacity self.old.below }
+        requires front { held self.old (reach_in self.old) ≡ Some settled }
+        ensures same { SamePlaces self.old self.new }
+        ensures reach { reach_in self.new ≡ reach_in self.old + 1 }
+        ensures capacity { vec_capacity self.old.below ≤ vec_capacity self.new.below }
+    {
+        let slot = self.below.len() % WINDOW as usize;
+        push_record(&mut self.below, settled);
+        free_slot(&mut self.ring, slot);
     }
 
     /// The record of the first place of the window, if it is delivered.
@@ -255,6 +266,14 @@ fn push_record(records: &mut Vec<Record>, record: Record)
     ensures capacity { vec_capacity records.old ≤ vec_capacity records.new }
 {
     let _within = records.push(record);
+}
+
+/// Frees a slot.
+fn free_slot(ring: &mut Vec<Option<Instance>>, slot: usize)
+    requires { slot < length ring.old.items }
+    ensures { ring.new.items ≡ slice_set ring.old.items slot None }
+{
+    ring[slot] = None;
 }
 
 /// Takes a packet in its record. No other record is changed.

@@ -1,6 +1,5 @@
-use Rattle.std.proofs.Common.{◌≡◌, Option, Some, None, sym, ap, ◌∙◌, arith, subst}
+use Rattle.std.proofs.Common.{◌≡◌, Option, Some, None, sym, ap, ◌∙◌, arith}
 use Rattle.std.specs.Prelude.{is_some, IfSome}
-use Rattle.bracha_instance.specs.States.{State}
 use Rattle.owner_streams.specs.Slots.{delivered_in}
 use Rattle.owner_streams.specs.Kept.{reach_in, held}
 use Rattle.owner_streams.proofs.owner_stream.OwnerStream.front.Goals as goal

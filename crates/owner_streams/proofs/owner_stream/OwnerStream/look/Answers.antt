@@ -1,5 +1,4 @@
-use Rattle.std.proofs.Common.{◌≡◌, ◌∙◌, ◌+◌, ◌<◌, ◌≤◌, List, Option, Err, sym, ap, subst, cond, arith}
-use Rattle.bracha_instance.specs.States.{State, state}
+use Rattle.std.proofs.Common.{◌∙◌, ◌+◌, ◌<◌, ◌≤◌, Err, sym, ap, cond, arith}
 use Rattle.bracha_instance.specs.declared.instance.Effect.TheVariants.{Idle, Counted}
 use Rattle.owner_streams.specs.Places.{window, takes_at}
 use Rattle.owner_streams.specs.Steps.{effect_due}
@@ -14,7 +13,7 @@ pub returns-then-from-end-clause-due : goal.returns-then-from-end-clause-due
 returns-then-from-end-clause-due c s packets kept is sent =
     let e = ap (λ m. m.place) c.message-place.ensures.value in
     let beyond : reach_in c.args.self.now + window ≤ c.args.packet.now.place = omega arith in
-    (λ i. Err (Beyond (e i) (c.reach.ensures i + 64)))
+    (λ i. Err (Beyond (e i) (c.reach-end.ensures i + 64)))
     ∙ sym
     (ap effect_due (due_beyond s packets c.args.packet.now (reach_in c.args.self.now)
     (sym (reach_is_due s c.args.packet.now.owner c.args.self.now packets kept is)) beyond))

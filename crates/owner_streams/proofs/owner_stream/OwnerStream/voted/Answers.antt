@@ -1,4 +1,4 @@
-use Rattle.std.proofs.Common.{◌≡◌, ◌∙◌, Some, [], ◌∷◌, ◌++◌, sym, ap, subst, arith}
+use Rattle.std.proofs.Common.{◌≡◌, ◌∙◌, [], ◌∷◌, ◌++◌, sym, ap, subst, arith}
 use Rattle.std.specs.Prelude.{is_some}
 use Rattle.bracha_instance.specs.Broadcast.{Take, vote}
 use Rattle.bracha_instance.specs.Taking.{SendsAreFrom, has_voted}
@@ -22,7 +22,7 @@ returns-then-place-len-clause-vote c s takes owner is from =
     let command = c.args.packet.now.command in
     let t : Take = record { kind = c.kind-kind.result; from = c.from-from.result; command = command } in
     let same : t ≡ take_of c.args.packet.now =
-        λ i. record { kind = c.kind-kind.ensures i; from = c.from-from.ensures i; command = command } in
+    λ i. record { kind = c.kind-kind.ensures i; from = c.from-from.ensures i; command = command } in
     let OneSender : Take → Type 0 = λ u. SendsAreFrom owner (takes ++ u ∷ []) in
     c.voted.ensures.vote s takes owner command
     (ap (state_in s) (sym c.record_at.ensures ∙ ap (held c.args.self.now) at) ∙ is)
@@ -35,7 +35,7 @@ returns-in-Some-clause-vote c s takes owner is from =
     let command = c.args.packet.now.command in
     let t : Take = record { kind = c.kind-kind.result; from = c.from-from.result; command = command } in
     let same : t ≡ take_of c.args.packet.now =
-        λ i. record { kind = c.kind-kind.ensures i; from = c.from-from.ensures i; command = command } in
+    λ i. record { kind = c.kind-kind.ensures i; from = c.from-from.ensures i; command = command } in
     let OneSender : Take → Type 0 = λ u. SendsAreFrom owner (takes ++ u ∷ []) in
     c.voted-in-Some.ensures.vote s takes owner command
     (ap (state_in s) (c.in-Some.ensures ∙ ap (held c.args.self.now) at) ∙ is)

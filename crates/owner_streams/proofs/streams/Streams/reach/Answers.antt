@@ -1,6 +1,5 @@
 use Rattle.std.proofs.Common.{◌≡◌, ◌∙◌, arith}
 use Rattle.owner_streams.specs.Places.{reach}
-use Rattle.owner_streams.specs.Kept.{IsOwnerStream}
 use Rattle.owner_streams.proofs.Reaching.{reach_is_due, reach_within}
 use Rattle.owner_streams.proofs.Owners.{is_owners, is_kept, by_owner}
 use Rattle.owner_streams.proofs.streams.Streams.reach.Goals as goal
