@@ -1,141 +1,18 @@
 -- What the code of an instance shows of each of its steps.
 use Rattle.std.proofs.Common.{◌≡◌, ℕ, Bool, true, false, cond, List, [], ◌∷◌, ◌++◌, All, is_some, Option, Some, None, refl, sym, ap, ◌∙◌, ◌==◌, ◌&&◌, find, option_map, zero, suc, zero-le, suc-le-suc, le_of_suc-le-suc, not-suc-le-zero, eq-eqb}
-use Rattle.std.specs.Option.{option_or}
-use Rattle.std.specs.FinMap as maps
-use Rattle.std.specs.FinSet as sets
 use Rattle.quorum_sizes.specs.Sizes.{Counts}
 use Rattle.role_commands.specs.declared.command.Command.{Command}
 use Rattle.link_frames.specs.Kinds.{same_kind}
 use Rattle.link_frames.specs.declared.kind.Kind.{Kind}
 use Rattle.link_frames.specs.declared.kind.Kind.TheVariants.{Send, Echo, Ready}
 use Rattle.bracha_instance.specs.declared.instance.Effect.TheVariants.{Idle, Counted}
-use Rattle.bracha_instance.specs.declared.instance.Instance.TheInside.{Inside}
-use Rattle.bracha_instance.specs.Prefixes.{at_first_prefix}
-use Rattle.bracha_instance.specs.Broadcast.{Take, command_of, is_of_kind, is_vote_of, vote, voters, echoed, readied, delivered}
-use Rattle.bracha_instance.specs.States.{Votes, State, votes, state}
-use Rattle.bracha_instance.specs.Kept.{names_of, seen}
+use Rattle.bracha_instance.specs.Broadcast.{Take, command_of, is_of_kind, is_vote_of, vote, echoed}
+use Rattle.bracha_instance.specs.States.{State, state}
 use Rattle.bracha_instance.specs.Taking.{SendsAreFrom, effect_of, newly, sent_for, newly_sent, newly_delivered, has_voted}
-use Rattle.bracha_instance.specs.Next.{ready_now, deliver_now, only_if, after_echo, after_ready, after_kind, after}
-use Rattle.bracha_instance.proofs.VoteMaps.{contains-names_of, names_of-insert, names_of-empty}
+use Rattle.bracha_instance.specs.Next.{after_kind, after}
 use Rattle.bracha_instance.proofs.Same.{same_kind-true}
 use Rattle.bracha_instance.proofs.Voting.{contains-voters}
-use Rattle.bracha_instance.proofs.StateSteps.{IsEchoStep, IsReadyStep, echo_step, ready_step}
-use Rattle.bracha_instance.proofs.StateOf.{state_push, none_of}
-
--- nothing was taken
-pub state-empty : (s : Counts) (echoes readies : Votes) → echoes ≡ maps.empty → readies ≡ maps.empty
-    → seen None None None echoes readies ≡ state s []
-unfolding state echoed readied delivered voters votes at_first_prefix
-state-empty s echoes readies no_echoes no_readies = λ i.
-    record {
-      echoed = None;
-      readied = None;
-      delivered = None;
-      echoers = (ap names_of no_echoes ∙ names_of-empty) i;
-      readiers = (ap names_of no_readies ∙ names_of-empty) i;
-      echo_votes = no_echoes i;
-      ready_votes = no_readies i;
-    }
-
--- a name without a vote
-pub no_vote : (v : Votes) (p : ℕ) → sets.contains (names_of v) p ≡ false → maps.get v p ≡ None
-no_vote v p is = none_of (maps.get v p) (sym (contains-names_of v p) ∙ is)
-
-late_or_not : (o : Option Command) (P : Type 0) → o ≡ None → is_some o ≡ true → P
-late_or_not None P e f = absurd cc
-late_or_not (Some c) P e f = absurd cc
-
--- what an instance with these fields keeps, with all votes
-abbrev all_of : Inside → State
-all_of a =
-    record {
-      echoed = a.echoed;
-      readied = a.readied;
-      delivered = a.delivered;
-      echoers = names_of a.echoes;
-      readiers = names_of a.readies;
-      echo_votes = a.echoes;
-      ready_votes = a.readies;
-    }
-
-abbrev pub seen_of : Inside → State
-seen_of a = seen a.echoed a.readied a.delivered a.echoes a.readies
-
--- an ECHO after a delivery
-pub echo_late : (s : Counts) (p : ℕ) (c : Command) (a : Inside) (more : Votes) → is_some a.delivered ≡ true →
-    more ≡ maps.insert a.echoes p c → seen_of (record a { echoes = more }) ≡ after_echo s (seen_of a) p c a.delivered
-echo_late s p c a more late inserted =
-    let step : IsEchoStep s p c (all_of a) (all_of (record a { echoes = more })) = record {
-      echoed = refl;
-      early = λ before. late_or_not a.delivered _ before late;
-      late = λ _. refl;
-      delivered = refl;
-      echoers = ap names_of inserted ∙ names_of-insert a.echoes p c;
-      readiers = refl;
-      echo_votes = inserted;
-      ready_votes = refl;
-    } in
-    echo_step step
-
--- an ECHO before it
-pub echo_early : (s : Counts) (p : ℕ) (c : Command) (a : Inside) (more : Votes) (due : Bool) (now : Option Command) →
-    is_some a.delivered ≡ false → more ≡ maps.insert a.echoes p c →
-    due ≡ ready_now s c more a.readies → now ≡ option_or a.readied (only_if due c) →
-    seen_of (record a { echoes = more; readied = now }) ≡ after_echo s (seen_of a) p c a.delivered
-echo_early s p c a more due now early inserted is_due is_now =
-    let step : IsEchoStep s p c (all_of a) (all_of (record a { echoes = more; readied = now })) = record {
-      echoed = refl;
-      early = λ _.
-          is_now
-          ∙ ap (λ b. option_or a.readied (only_if b c)) (is_due ∙ ap (λ v. ready_now s c v a.readies) inserted);
-      late = λ late. late_or_not a.delivered _ (none_of a.delivered early) late;
-      delivered = refl;
-      echoers = ap names_of inserted ∙ names_of-insert a.echoes p c;
-      readiers = refl;
-      echo_votes = inserted;
-      ready_votes = refl;
-    } in
-    echo_step step
-
--- a READY after a delivery
-pub ready_late : (s : Counts) (p : ℕ) (c : Command) (a : Inside) (more : Votes) → is_some a.delivered ≡ true →
-    more ≡ maps.insert a.readies p c → seen_of (record a { readies = more }) ≡ after_ready s (seen_of a) p c a.delivered
-ready_late s p c a more late inserted =
-    let step : IsReadyStep s p c (all_of a) (all_of (record a { readies = more })) = record {
-      echoed = refl;
-      early = λ before. late_or_not a.delivered _ before late;
-      late = λ _. refl;
-      delivered_early = λ before. late_or_not a.delivered _ before late;
-      delivered_late = λ _. refl;
-      echoers = refl;
-      readiers = ap names_of inserted ∙ names_of-insert a.readies p c;
-      echo_votes = refl;
-      ready_votes = inserted;
-    } in
-    ready_step step
-
--- a READY before it
-pub ready_early : (s : Counts) (p : ℕ) (c : Command) (a : Inside) (more : Votes) (due deliver : Bool) (now
-    then : Option Command) →
-    is_some a.delivered ≡ false → more ≡ maps.insert a.readies p c →
-    due ≡ ready_now s c a.echoes more → now ≡ option_or a.readied (only_if due c) →
-    deliver ≡ deliver_now s c more → then ≡ only_if deliver c →
-    seen_of (record a { readies = more; readied = now; delivered = then }) ≡ after_ready s (seen_of a) p c a.delivered
-ready_early s p c a more due deliver now then early inserted is_due is_now is_deliver is_then =
-    let later : Inside = record a { readies = more; readied = now; delivered = then } in
-    let step : IsReadyStep s p c (all_of a) (all_of later) = record {
-      echoed = refl;
-      early = λ _.
-          is_now ∙ ap (λ b. option_or a.readied (only_if b c)) (is_due ∙ ap (ready_now s c a.echoes) inserted);
-      late = λ late. late_or_not a.delivered _ (none_of a.delivered early) late;
-      delivered_early = λ _. is_then ∙ ap (λ b. only_if b c) (is_deliver ∙ ap (deliver_now s c) inserted);
-      delivered_late = λ late. late_or_not a.delivered _ (none_of a.delivered early) late;
-      echoers = refl;
-      readiers = ap names_of inserted ∙ names_of-insert a.readies p c;
-      echo_votes = refl;
-      ready_votes = inserted;
-    } in
-    ready_step step
+use Rattle.bracha_instance.proofs.StateOf.{state_push}
 
 -- The answers of `take`.
 

@@ -1,98 +1,111 @@
--- The map that a list of votes is.
-use Rattle.std.proofs.Common.{◌≡◌, ℕ, ◌+◌, ◌<◌, ◌==◌, ◌≢◌, Bool, true, false, cond, ◌||◌, List, [], ◌∷◌, ◌++◌, map, length, get_or, count_by, is_some, Option, Some, None, refl, sym, ap, ◌∙◌, arith, zero, suc, zero-le, suc-le-suc, le_of_suc-le-suc, eq-eqb}
-use Rattle.std.proofs.lemmas.Bool.{or_parts, both_ways, ne_eqb}
-use Rattle.std.proofs.lemmas.List.{map-append}
-use Rattle.std.proofs.lemmas.List.Sums.{sum_by-cons}
-use Rattle.std.proofs.lemmas.List.Quantifiers.{all_pairs_push}
-use Rattle.std.specs.List.{list_any}
-use Rattle.std.specs.Ordering.{nat_cmp, eq_by_cmp}
-use Rattle.std.specs.Cmp.{nat_cmp_total, nat_eq_equiv, unsigned_tied}
+-- The names and the supporters in a map of votes.
+use Rattle.std.proofs.Common.{◌≡◌, ℕ, ◌+◌, ◌==◌, Bool, true, false, cond, ◌&&◌, ◌||◌, is_some, Option, Some, None, refl, sym, ap, ◌∙◌, inl, inr, arith, eqb-true}
+use Rattle.std.proofs.lemmas.Bool.{cases_Bool}
+use Rattle.std.specs.Ordering.{nat_cmp}
+use Rattle.std.specs.Cmp.{nat_cmp_total, unsigned_tied}
 use Rattle.std.specs.FinMap as maps
 use Rattle.std.specs.FinSet as sets
 use Rattle.role_commands.specs.declared.command.Command.{Command}
 use Rattle.role_commands.specs.Same.{same_command}
-use Rattle.bracha_instance.specs.Kept.{entry_of, votes_in, EachNameOnce}
+use Rattle.bracha_instance.specs.Broadcast.{Names, is_for}
+use Rattle.bracha_instance.specs.States.{Votes}
+use Rattle.bracha_instance.specs.Kept.{names_of}
 use Rattle.bracha_instance.specs.Next.{supporters_in}
-use Rattle.bracha_instance.specs.declared.votes.Vote.{Vote}
-use Rattle.bracha_instance.proofs.VoteMaps.{len_supporters_in-insert, supporters_in-empty}
 
-pub get-votes_in : (xs : List Vote) (q : ℕ) → maps.get (votes_in xs) q ≡ maps.find nat_cmp q (map entry_of xs)
-unfolding votes_in
-get-votes_in xs q = maps.get-from_entries nat_cmp_total (map entry_of xs) q
+-- two sets with the same members are the same
+pub same_names : (s t : Names) → ((q : ℕ) → sets.contains s q ≡ sets.contains t q) → s ≡ t
+same_names s t is = sets.same_set nat_cmp_total maps.nat_cmp-IsAntisymmetric s t is
 
-is_some_cond : (b : Bool) (c : Command) (o : Option Command) (r : Bool) → is_some o ≡ r
-    → is_some (cond b (Some c) o) ≡ (b || r)
-is_some_cond true c o r e = refl
-is_some_cond false c o r e = e
+-- two maps that answer alike are the same
+pub same_votes : (v w : Votes) → ((q : ℕ) → maps.get v q ≡ maps.get w q) → v ≡ w
+same_votes v w is = maps.same_map nat_cmp_total maps.nat_cmp-IsAntisymmetric v w is
 
-pub has_name : (xs : List Vote) (q : ℕ) → list_any (λ (v : Vote). v.name == q) xs ≡ maps.contains_key (votes_in xs) q
-has_name xs q = sym (ap is_some (get-votes_in xs q) ∙ by_entries xs)
+pub get-insert : (v : Votes) (p : ℕ) (c : Command) (q : ℕ)
+    → maps.get (maps.insert v p c) q ≡ cond (q == p) (Some c) (maps.get v q)
+get-insert v p c q = maps.get-insert nat_cmp_total v p c q
+    ∙ ap (λ b. cond b (Some c) (maps.get v q)) (unsigned_tied q p)
+
+pub contains-insert : (s : Names) (p q : ℕ) → sets.contains (sets.insert s p) q ≡ ((q == p) || sets.contains s q)
+contains-insert s p q = sets.contains-insert nat_cmp_total s p q ∙ ap (λ b. b || sets.contains s q) (unsigned_tied q p)
+
+pub contains-names_of : (v : Votes) (q : ℕ) → sets.contains (names_of v) q ≡ maps.contains_key v q
+unfolding names_of
+contains-names_of v q = sets.contains-from_list nat_cmp_total (maps.keys v) q ∙ sym (maps.contains_key-keys v q)
+
+some_or : (b : Bool) (c : Command) (o : Option Command) → is_some (cond b (Some c) o) ≡ (b || is_some o)
+some_or true c o = refl
+some_or false c o = refl
+
+pub names_of-insert : (v : Votes) (p : ℕ) (c : Command) → names_of (maps.insert v p c) ≡ sets.insert (names_of v) p
+names_of-insert v p c = same_names _ _ (λ q.
+    contains-names_of (maps.insert v p c) q ∙ ap is_some (get-insert v p c q) ∙ some_or (q == p) c (maps.get v q)
+    ∙ sym (contains-insert (names_of v) p q ∙ ap (λ b. (q == p) || b) (contains-names_of v q)))
+
+pub names_of-empty : names_of maps.empty ≡ sets.empty
+names_of-empty = same_names _ _ (λ q.
+    contains-names_of maps.empty q ∙ ap is_some (maps.get-empty nat_cmp q) ∙ sym (sets.contains-empty nat_cmp q))
+
+some_and : (c : Command) (o : Option Command) → (is_some o && is_for c o) ≡ is_for c o
+some_and c None = refl
+some_and c (Some d) = refl
+
+pub contains-supporters_in : (c : Command) (v : Votes) (q : ℕ)
+    → sets.contains (supporters_in c v) q ≡ is_for c (maps.get v q)
+unfolding supporters_in
+contains-supporters_in c v q =
+    sets.contains-retain (names_of v) (λ name. is_for c (maps.get v name)) q (λ x tie.
+    ap (is_for c) (maps.get_tied nat_cmp_total v q x tie))
+    ∙ ap (λ b. b && is_for c (maps.get v q)) (contains-names_of v q)
+    ∙ some_and c (maps.get v q)
+
+pub supporters_in-empty : (c : Command) → supporters_in c maps.empty ≡ sets.empty
+supporters_in-empty c = same_names _ _ (λ q.
+    contains-supporters_in c maps.empty q ∙ ap (is_for c) (maps.get-empty nat_cmp q)
+    ∙ sym (sets.contains-empty nat_cmp q))
+
+for_same : (c d : Command) → same_command c d ≡ true → (b : Bool) (o : Option Command)
+    → is_for c (cond b (Some d) o) ≡ (b || is_for c o)
+for_same c d same true o = same
+for_same c d same false o = refl
+
+-- a first vote for c is one name more
+pub supporters_in-insert_same : (c d : Command) (v : Votes) (p : ℕ) → same_command c d ≡ true
+    → supporters_in c (maps.insert v p d) ≡ sets.insert (supporters_in c v) p
+supporters_in-insert_same c d v p same = same_names _ _ (λ q.
+    contains-supporters_in c (maps.insert v p d) q ∙ ap (is_for c) (get-insert v p d q)
+    ∙ for_same c d same (q == p) (maps.get v q)
+    ∙ sym (contains-insert (supporters_in c v) p q ∙ ap (λ b. (q == p) || b) (contains-supporters_in c v q)))
+
+for_other : (c d : Command) → same_command c d ≡ false → (v : Votes) (p q : ℕ) → maps.get v p ≡ None → (b : Bool)
+    → (q == p) ≡ b
+    → is_for c (cond b (Some d) (maps.get v q)) ≡ is_for c (maps.get v q)
+for_other c d other v p q none true e = other ∙ sym (ap (is_for c) (ap (maps.get v) (eqb-true q p e) ∙ none))
+for_other c d other v p q none false e = refl
+
+-- a first vote for another command changes nothing for c
+pub supporters_in-insert_other : (c d : Command) (v : Votes) (p : ℕ) → same_command c d ≡ false → maps.get v p ≡ None
+    → supporters_in c (maps.insert v p d) ≡ supporters_in c v
+supporters_in-insert_other c d v p other none = same_names _ _ (λ q.
+    contains-supporters_in c (maps.insert v p d) q ∙ ap (is_for c) (get-insert v p d q)
+    ∙ for_other c d other v p q none (q == p) refl
+    ∙ sym (contains-supporters_in c v q))
+
+pub len_supporters_in-insert : (c d : Command) (v : Votes) (p : ℕ) → maps.get v p ≡ None
+    → sets.len (supporters_in c (maps.insert v p d)) ≡ cond (same_command c d) 1 0 + sets.len (supporters_in c v)
+len_supporters_in-insert c d v p none =
+    elim (cases_Bool (same_command c d)) [
+      | inl same ↦ rw same
+          (ap sets.len (supporters_in-insert_same c d v p same)
+          ∙ sets.len-insert nat_cmp_total (supporters_in c v) p
+          ∙ ap (λ b. cond b (sets.len (supporters_in c v)) (sets.len (supporters_in c v) + 1))
+          (contains-supporters_in c v p ∙ ap (is_for c) none)
+          ∙ one_more (sets.len (supporters_in c v)))
+      | inr other ↦ rw other (ap sets.len (supporters_in-insert_other c d v p other none)
+          ∙ none_more (sets.len (supporters_in c v)))
+    ]
   where
-    turned : (m n : ℕ) → eq_by_cmp nat_cmp m n ≡ (n == m)
-    turned m n = unsigned_tied m n ∙ nat_eq_equiv.symm m n
+    one_more : (n : ℕ) → n + 1 ≡ 1 + n
+    one_more n = omega arith
 
-    by_entries : (xs : List Vote) → is_some (maps.find nat_cmp q (map entry_of xs))
-        ≡ list_any (λ (v : Vote). v.name == q) xs
-    by_entries [] = refl
-    by_entries (x ∷ xs) =
-        ap (λ b. is_some (cond b (Some x.command) (maps.find nat_cmp q (map entry_of xs)))) (turned q x.name)
-        ∙ is_some_cond (x.name == q) x.command _ _ (by_entries xs)
-
--- a name that has no vote is nobody's
-pub apart : (xs : List Vote) (q : ℕ) → list_any (λ (v : Vote). v.name == q) xs ≡ false → (k : ℕ) (d : Vote)
-    → k < length xs
-    → (get_or xs k d).name ≡ q → ⊥
-apart [] q none k d within is = absurd (omega arith)
-apart (x ∷ xs) q none zero d within is = both_ways (x.name == q) (or_parts _ _ none).0 (eq-eqb x.name q is)
-apart (x ∷ xs) q none (suc k) d within is = apart xs q (or_parts _ _ none).1 k d (le_of_suc-le-suc within) is
-
--- one more vote, of a name that has none
-pub EachNameOnce_push : (xs : List Vote) (x : Vote) → EachNameOnce xs → maps.get (votes_in xs) x.name ≡ None
-    → EachNameOnce (xs ++ x ∷ [])
-EachNameOnce_push xs x once none =
-    all_pairs_push (λ (v : Vote) (w : Vote).
-    v.name ≢ w.name) xs x once (apart xs x.name (has_name xs x.name ∙ ap is_some none))
-
-EachNameOnce_rest : (x : Vote) (xs : List Vote) → EachNameOnce (x ∷ xs) → EachNameOnce xs
-EachNameOnce_rest x xs once i j d before within = once (suc i) (suc j) d (suc-le-suc before) (suc-le-suc within)
-
-nobody : (xs : List Vote) (q : ℕ) → ((k : ℕ) (d : Vote) → k < length xs → q ≡ (get_or xs k d).name → ⊥)
-    → maps.find nat_cmp q (map entry_of xs) ≡ None
-nobody [] q each = refl
-nobody (x ∷ xs) q each =
-    ap (λ b. cond b (Some x.command) (maps.find nat_cmp q (map entry_of xs))) (unsigned_tied q x.name
-    ∙ ne_eqb q x.name (each zero x (suc-le-suc zero-le)))
-    ∙ nobody xs q (λ k d within. each (suc k) d (suc-le-suc within))
-
-first_is_new : (x : Vote) (xs : List Vote) → EachNameOnce (x ∷ xs) → maps.get (votes_in xs) x.name ≡ None
-first_is_new x xs once =
-    get-votes_in xs x.name
-    ∙ nobody xs x.name (λ k d within. once zero (suc k) d (suc-le-suc zero-le) (suc-le-suc within))
-
-pub votes_in_push : (xs : List Vote) (x : Vote) → maps.get (votes_in xs) x.name ≡ None
-    → votes_in (xs ++ x ∷ []) ≡ maps.insert (votes_in xs) x.name x.command
-unfolding votes_in
-votes_in_push xs x none =
-    ap maps.from_entries (map-append entry_of xs (x ∷ []))
-    ∙ maps.from_entries_push nat_cmp_total maps.nat_cmp-IsAntisymmetric (map entry_of xs) x.name x.command
-    (sym (get-votes_in xs x.name) ∙ none)
-
-pub votes_in-empty : votes_in [] ≡ maps.empty
-unfolding votes_in
-votes_in-empty = refl
-
-votes_in-cons : (x : Vote) (xs : List Vote) → votes_in (x ∷ xs) ≡ maps.insert (votes_in xs) x.name x.command
-unfolding votes_in
-votes_in-cons x xs = refl
-
--- as many votes are for c as nodes have it
-pub count-supporters_in : (c : Command) (xs : List Vote) → EachNameOnce xs
-    → count_by (λ (v : Vote). same_command c v.command) xs ≡ sets.len (supporters_in c (votes_in xs))
-count-supporters_in c [] once =
-    sym (ap (λ v. sets.len (supporters_in c v)) votes_in-empty ∙ ap sets.len (supporters_in-empty c)
-    ∙ sets.len-empty nat_cmp)
-count-supporters_in c (x ∷ xs) once =
-    sum_by-cons (λ (v : Vote). cond (same_command c v.command) 1 0) x xs
-    ∙ ap (λ n. cond (same_command c x.command) 1 0 + n) (count-supporters_in c xs (EachNameOnce_rest x xs once))
-    ∙ sym (ap (λ v. sets.len (supporters_in c v)) (votes_in-cons x xs)
-    ∙ len_supporters_in-insert c x.command (votes_in xs) x.name (first_is_new x xs once))
+    none_more : (n : ℕ) → n ≡ 0 + n
+    none_more n = omega arith

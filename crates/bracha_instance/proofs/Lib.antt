@@ -1,11 +1,13 @@
 pub mod Same
 pub mod FirstPrefix
-pub mod VoteMaps
 pub mod KeptVotes
+pub mod RowLemmas
+pub mod TallyLemmas
 pub mod Voting
 pub mod FirstDue
 pub mod Due
 pub mod StateSteps
 pub mod StateOf
 pub mod Counting
+pub mod KeptInstances
 pub mod Exported

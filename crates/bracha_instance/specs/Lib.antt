@@ -5,3 +5,6 @@ pub mod Taking
 pub mod Laws
 pub mod Kept
 pub mod Next
+pub mod Tallies
+pub mod Supported
+pub mod Instances

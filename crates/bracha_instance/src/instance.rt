@@ -1,15 +1,17 @@
-ghost use Rattle.std.specs.Prelude.{◌≡◌, ℕ, ◌<◌, List, [], ◌∷◌, ◌++◌, false, is_some, IfOk, OnOk, OnErr};
+ghost use Rattle.std.specs.Prelude.{◌≡◌, ℕ, ◌<◌, ◌≤◌, ◌*◌, ◌||◌, nat_le, List, [], ◌∷◌, ◌++◌, All, false, is_some, IfOk, IfSome, IsSome, OnOk, OnErr, None};
 ghost use Rattle.std.specs.Option.{option_or};
-ghost use Rattle.quorum_sizes.specs.Sizes.{Counts};
+ghost use Rattle.quorum_sizes.specs.Sizes.{Counts, echo_quorum_of, amplify_of, deliver_of};
 ghost use Rattle.role_commands.specs.declared.command.Command.{Command};
 ghost use Rattle.bracha_instance.specs.Broadcast.{Take, vote};
 ghost use Rattle.bracha_instance.specs.States.{state};
 ghost use Rattle.bracha_instance.specs.Taking.{SendsAreFrom, has_voted, effect_of, newly, sent_for, newly_sent, newly_delivered};
-ghost use Rattle.bracha_instance.specs.Next.{ready_now, deliver_now, only_if, after_send, after_echo, after_ready, after_kind};
+ghost use Rattle.bracha_instance.specs.Next.{only_if, after_send, after_echo, after_ready, after_kind};
+ghost use Rattle.bracha_instance.specs.Supported.{CountsSupported};
 
-use crate::votes::Votes;
+use crate::record::Record;
+use crate::tallies::{Support, Tallies};
 use link_frames::Kind;
-use quorum_sizes::{NodeName, Sizes};
+use quorum_sizes::{NodeName, NodeSet, Sizes};
 use role_commands::Command;
 use std::alloc::{AllocError, Global};
 use std::marker::Model;
@@ -35,7 +37,7 @@ pub struct Taken {
 }
 
 /// One instance of authenticated double-echo broadcast (Bracha 1987): what was echoed, readied and
-/// delivered, and the votes so far.
+/// delivered, who has voted, and until something is delivered the votes.
 ///
 /// Contracts see it as its `State`, whatever keeps the votes.
 #[derive(Drop)]
@@ -43,23 +45,28 @@ pub struct Instance {
     echoed: Option<Command>,
     readied: Option<Command>,
     delivered: Option<Command>,
-    echoes: Votes,
-    readies: Votes,
+    echoers: NodeSet,
+    readiers: NodeSet,
+    votes: Tallies,
 }
 
 impl Model for Instance {
     ghost use Rattle.bracha_instance.specs.States.{State};
-    ghost use Rattle.bracha_instance.specs.Kept.{state_code, seen};
+    ghost use Rattle.bracha_instance.specs.Kept.{state_code};
 
     ghost Value = { State };
 
     ghost coded = { state_code };
 
-    ghost view = { λ a. seen a.echoed a.readied a.delivered a.echoes a.readies };
+    ghost use Rattle.bracha_instance.specs.Instances.{instance_state, IsInstance};
+
+    ghost view = { instance_state };
+
+    ghost invariant = { IsInstance };
 }
 
 /// What was due, or else this command where it is due now.
-fn first_of(before: Option<Command>, due: bool, command: Command) -> Option<Command>
+pub(crate) fn first_of(before: Option<Command>, due: bool, command: Command) -> Option<Command>
     ensures { result ≡ option_or before (only_if due command) }
 {
     if before.is_none() && due {
@@ -70,7 +77,7 @@ fn first_of(before: Option<Command>, due: bool, command: Command) -> Option<Comm
 }
 
 /// What there is now and was not before.
-fn newly_of(before: Option<Command>, now: Option<Command>) -> Option<Command>
+pub(crate) fn newly_of(before: Option<Command>, now: Option<Command>) -> Option<Command>
     ensures { result ≡ newly before now }
 {
     match before {
@@ -80,7 +87,10 @@ fn newly_of(before: Option<Command>, now: Option<Command>) -> Option<Command>
 }
 
 /// The message for what was newly echoed or readied.
-fn message_for(echoed: Option<Command>, readied: Option<Command>) -> Option<(Kind, Command)>
+pub(crate) fn message_for(
+    echoed: Option<Command>,
+    readied: Option<Command>,
+) -> Option<(Kind, Command)>
     ensures { result ≡ sent_for echoed readied }
 {
     match (echoed, readied) {
@@ -90,21 +100,19 @@ fn message_for(echoed: Option<Command>, readied: Option<Command>) -> Option<(Kin
     }
 }
 
-/// Whether so many votes are for the command that the node may be ready for it.
-#[tactic(auto, unfolding(crate::specs::Next::ready_now))]
-fn may_ready(sizes: &Sizes, echoes: &Votes, readies: &Votes, command: Command) -> bool
-    ensures { result ≡ ready_now sizes.now command echoes.now readies.now }
+/// Whether a command with this support may be readied.
+fn may_ready(sizes: &Sizes, support: Support) -> bool
+    ensures { result ≡ (nat_le (echo_quorum_of sizes.now) support.echoes || nat_le (amplify_of sizes.now) support.readies) }
 {
-    usize::from(sizes.echo_quorum()) <= echoes.supporters(command)
-        || usize::from(sizes.amplify()) <= readies.supporters(command)
+    usize::from(sizes.echo_quorum()) <= support.echoes
+        || usize::from(sizes.amplify()) <= support.readies
 }
 
-/// Whether so many votes are for the command that the node may deliver it.
-#[tactic(auto, unfolding(crate::specs::Next::deliver_now))]
-fn may_deliver(sizes: &Sizes, readies: &Votes, command: Command) -> bool
-    ensures { result ≡ deliver_now sizes.now command readies.now }
+/// Whether a command with this support may be delivered.
+fn may_deliver(sizes: &Sizes, support: Support) -> bool
+    ensures { result ≡ nat_le (deliver_of sizes.now) support.readies }
 {
-    usize::from(sizes.deliver()) <= readies.supporters(command)
+    usize::from(sizes.deliver()) <= support.readies
 }
 
 impl Instance {
@@ -116,8 +124,9 @@ impl Instance {
             echoed: None,
             readied: None,
             delivered: None,
-            echoes: Votes::new(alloc),
-            readies: Votes::new(alloc),
+            echoers: NodeSet::new(),
+            readiers: NodeSet::new(),
+            votes: Tallies::new(alloc),
         }
     }
 
@@ -216,12 +225,13 @@ impl Instance {
         ensures ok { OnOk result (self.new ≡ after_echo sizes.now self.old from command self.old.delivered) }
         ensures err { OnErr result (self.new ≡ self.old) }
     {
-        self.echoes.insert(from, command)?;
         if self.delivered.is_some() {
+            self.echoers.insert(from);
             return Ok(());
         }
-        let due = may_ready(sizes, &self.echoes, &self.readies, command);
-        self.readied = first_of(self.readied, due, command);
+        let support = self.votes.count_echo(from, command)?;
+        self.echoers.insert(from);
+        self.readied = first_of(self.readied, may_ready(sizes, support), command);
         Ok(())
     }
 
@@ -236,14 +246,18 @@ impl Instance {
         ensures ok { OnOk result (self.new ≡ after_ready sizes.now self.old from command self.old.delivered) }
         ensures err { OnErr result (self.new ≡ self.old) }
     {
-        self.readies.insert(from, command)?;
         if self.delivered.is_some() {
+            self.readiers.insert(from);
             return Ok(());
         }
-        let ready = may_ready(sizes, &self.echoes, &self.readies, command);
-        self.readied = first_of(self.readied, ready, command);
-        let deliver = may_deliver(sizes, &self.readies, command);
-        self.delivered = first_of(None, deliver, command);
+        let support = self.votes.count_ready(from, command)?;
+        self.readiers.insert(from);
+        self.readied = first_of(self.readied, may_ready(sizes, support), command);
+        if may_deliver(sizes, support) {
+            self.delivered = Some(command);
+            self.votes.forget();
+            return Ok(());
+        }
         Ok(())
     }
 
@@ -258,8 +272,8 @@ impl Instance {
     {
         match kind {
             Kind::Send => self.echoed.is_some(),
-            Kind::Echo => self.echoes.has(from),
-            Kind::Ready => self.readies.has(from),
+            Kind::Echo => self.echoers.contains(from),
+            Kind::Ready => self.readiers.contains(from),
         }
     }
 
@@ -282,5 +296,32 @@ impl Instance {
         ensures { result ≡ self.now.delivered }
     {
         self.delivered
+    }
+
+    /// For how many commands votes are kept: until something is delivered those that have a supporter, and then
+    /// none.
+    pub fn kept(&self) -> u16
+        ensures supported { (s : Counts) (takes : List Take) →
+            self.now ≡ state s takes → self.now.delivered ≡ None → CountsSupported takes result }
+        ensures forgotten { IsSome self.now.delivered → result ≡ 0 }
+        ensures most { (s : Counts) (takes : List Take) →
+            self.now ≡ state s takes → All (λ (t : Take). t.from < s.nodes) takes → result ≤ 2 * s.nodes }
+    {
+        self.votes.len() as u16
+    }
+
+    /// What stays of it once something is delivered.
+    pub fn record(&self) -> Option<Record>
+        ensures delivered { is_some result ≡ is_some self.now.delivered }
+        ensures record { IfSome result (λ kept. kept ≡ self.now) }
+    {
+        let delivered = self.delivered?;
+        Some(Record::new(
+            self.echoed,
+            self.readied,
+            delivered,
+            self.echoers,
+            self.readiers,
+        ))
     }
 }

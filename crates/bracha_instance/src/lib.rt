@@ -6,9 +6,11 @@
 
 mod instance;
 pub mod laws;
-mod votes;
+mod record;
+mod tallies;
 
 pub use instance::{Effect, Instance, Taken};
+pub use record::Record;
 
 #[cfg(test)]
 mod tests;

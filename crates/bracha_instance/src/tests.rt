@@ -106,3 +106,42 @@ fn a_late_send_causes_an_echo(rt: HostRuntime) -> Result<(), Fail> {
     }
     Ok(())
 }
+
+#[test]
+fn votes_are_kept_until_the_delivery(rt: HostRuntime) -> Result<(), Fail> {
+    let mut instance = Instance::new(rt.alloc());
+    for (kind, from, command, kept) in [
+        (Kind::Send, 0, ASSIGN, 0),
+        (Kind::Echo, 0, ASSIGN, 1),
+        (Kind::Echo, 1, ASSIGN, 1),
+        (Kind::Echo, 1, GRANT, 1),
+        (Kind::Echo, 2, ASSIGN, 1),
+        (Kind::Echo, 3, GRANT, 2),
+        (Kind::Ready, 0, ASSIGN, 2),
+        (Kind::Ready, 1, ASSIGN, 2),
+        (Kind::Ready, 2, ASSIGN, 0),
+    ] {
+        assert!(rt; instance.record().is_none());
+        taken(&mut instance, kind, from, command)?;
+        assert_eq!(rt; instance.kept(), kept, "{kind:?} from {from}");
+    }
+    Ok(())
+}
+
+#[test]
+fn a_record_takes_what_comes_late(rt: HostRuntime) -> Result<(), Fail> {
+    let mut instance = Instance::new(rt.alloc());
+    for from in 0..3 {
+        taken(&mut instance, Kind::Ready, from, ASSIGN)?;
+    }
+    let mut record = instance.record().ok_or("nothing is delivered")?;
+    let name = Sizes::new(4, 1)?.name(3).ok_or("no such node")?;
+    assert!(rt; !record.voted(Kind::Ready, name));
+    assert_eq!(rt; record.take(Kind::Ready, name, GRANT), COUNTED);
+    assert_eq!(rt; record.take(Kind::Ready, name, GRANT), IDLE);
+    assert_eq!(rt; record.take(Kind::Send, name, ASSIGN), sends(Kind::Echo));
+    assert_eq!(rt; record.echoed(), Some(ASSIGN));
+    assert_eq!(rt; record.readied(), Some(ASSIGN));
+    assert_eq!(rt; record.delivered(), ASSIGN);
+    Ok(())
+}

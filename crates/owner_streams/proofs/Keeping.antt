@@ -9,8 +9,10 @@ use Rattle.bracha_instance.proofs.Exported.{delivery_stays}
 use Rattle.bracha_instance.specs.Broadcast.{Take, delivered}
 use Rattle.bracha_instance.specs.States.{State, state}
 use Rattle.bracha_instance.specs.Next.{after}
-use Rattle.owner_streams.specs.Places.{take_of, takes_at}
-use Rattle.owner_streams.specs.Slots.{slot_at, state_in, delivered_in}
+use Rattle.owner_streams.specs.Places.{place_count, take_of, takes_at}
+use Rattle.owner_streams.specs.Slots.{state_in, delivered_in}
+use Rattle.owner_streams.specs.Kept.{reach_in, held, IsOwnerStream, SamePlaces}
+use Rattle.owner_streams.specs.declared.owner_stream.OwnerStream.{OwnerStream}
 use Rattle.owner_streams.proofs.Taken.{takes_at-own, takes_at-other}
 use Rattle.owner_streams.proofs.Reaching.{delivered_is}
 
@@ -25,73 +27,89 @@ not_there : (owner a b : ℕ) → b ≢ a → ((owner == owner) && (a == b)) ≡
 not_there owner a b apart = let turned : a ≢ b = λ e. apart (sym e) in grind (arith, nat_tests)
 
 -- the places that hold the messages of the packets hold those of one more
-pub states_push : (s : Counts) (before after : List (Option State)) (packets : List PacketValue) (p : PacketValue) →
-    ((place : ℕ) → place ≢ p.place → slot_at after place ≡ slot_at before place) →
-    ((takes : List Take) → state_in s (slot_at before p.place) ≡ state s takes
-    → state_in s (slot_at after p.place) ≡ state s (takes ++ take_of p ∷ [])) →
-    ((place : ℕ) → state_in s (slot_at before place) ≡ state s (takes_at p.owner place packets)) →
-    (place : ℕ) → state_in s (slot_at after place) ≡ state s (takes_at p.owner place (packets ++ p ∷ []))
+pub states_push : (s : Counts) (before after : ℕ → Option State) (packets : List PacketValue) (p : PacketValue) →
+    ((place : ℕ) → place ≢ p.place → after place ≡ before place) →
+    ((takes : List Take) → state_in s (before p.place) ≡ state s takes
+    → state_in s (after p.place) ≡ state s (takes ++ take_of p ∷ [])) →
+    ((place : ℕ) → state_in s (before place) ≡ state s (takes_at p.owner place packets)) →
+    (place : ℕ) → state_in s (after place) ≡ state s (takes_at p.owner place (packets ++ p ∷ []))
 states_push s before after packets p others one is place =
     ⊎_elim
     (λ (e : place ≡ p.place).
-    let here : state_in s (slot_at after p.place) ≡ state s (takes_at p.owner p.place (packets ++ p ∷ [])) =
+    let here : state_in s (after p.place) ≡ state s (takes_at p.owner p.place (packets ++ p ∷ [])) =
     one (takes_at p.owner p.place packets) (is p.place) ∙ ap (state s) (sym (takes_at-own packets p)) in
-    subst (λ k. state_in s (slot_at after k) ≡ state s (takes_at p.owner k (packets ++ p ∷ []))) (sym e) here)
+    subst (λ k. state_in s (after k) ≡ state s (takes_at p.owner k (packets ++ p ∷ []))) (sym e) here)
     (λ (apart : place ≢ p.place).
     ap (state_in s) (others place apart) ∙ is place
     ∙ ap (state s) (sym (takes_at-other p.owner place packets p (not_there p.owner p.place place apart))))
     (cases_eq place p.place)
 
 -- what a packet does at its place keeps all that holds of the owner's stream
-pub still_run : (s : Counts) (before after : List (Option State)) (p : PacketValue) (n : ℕ) →
-    ((place : ℕ) → place ≢ p.place → slot_at after place ≡ slot_at before place) →
-    ((takes : List Take) → state_in s (slot_at before p.place) ≡ state s takes
-    → state_in s (slot_at after p.place) ≡ state s (takes ++ take_of p ∷ [])) →
-    ((place : ℕ) → (takes : List Take) × (state_in s (slot_at before place) ≡ state s takes)) →
-    ((place : ℕ) → place < n → IsSome (delivered_in (slot_at before place))) →
-    (place : ℕ) → place < n → IsSome (delivered_in (slot_at after place))
+pub still_run : (s : Counts) (before after : ℕ → Option State) (p : PacketValue) (n : ℕ) →
+    ((place : ℕ) → place ≢ p.place → after place ≡ before place) →
+    ((takes : List Take) → state_in s (before p.place) ≡ state s takes
+    → state_in s (after p.place) ≡ state s (takes ++ take_of p ∷ [])) →
+    ((place : ℕ) → (takes : List Take) × (state_in s (before place) ≡ state s takes)) →
+    ((place : ℕ) → place < n → IsSome (delivered_in (before place))) →
+    (place : ℕ) → place < n → IsSome (delivered_in (after place))
 still_run s before after p n others one states run place h =
     ⊎_elim
     (λ (e : place ≡ p.place).
     let known = states p.place in
-    let there : IsSome (delivered_in (slot_at before p.place)) =
-    subst (λ k. IsSome (delivered_in (slot_at before k))) e (run place h) in
+    let there : IsSome (delivered_in (before p.place)) =
+    subst (λ k. IsSome (delivered_in (before k))) e (run place h) in
     let c = the_some _ there in
-    let first : delivered s known.0 ≡ Some c.0 = sym (delivered_is s (slot_at before p.place) known.0 known.1) ∙ c.1 in
-    let now : delivered_in (slot_at after p.place) ≡ Some c.0 =
-    delivered_is s (slot_at after p.place) (known.0 ++ take_of p ∷ []) (one known.0 known.1)
+    let first : delivered s known.0 ≡ Some c.0 = sym (delivered_is s (before p.place) known.0 known.1) ∙ c.1 in
+    let now : delivered_in (after p.place) ≡ Some c.0 =
+    delivered_is s (after p.place) (known.0 ++ take_of p ∷ []) (one known.0 known.1)
     ∙ delivery_stays s known.0 (take_of p ∷ []) c.0 first in
-    subst (λ k. IsSome (delivered_in (slot_at after k))) (sym e) (some_of _ c.0 now))
+    subst (λ k. IsSome (delivered_in (after k))) (sym e) (some_of _ c.0 now))
     (λ (apart : place ≢ p.place). subst (λ slot. IsSome (delivered_in slot)) (sym (others place apart)) (run place h))
     (cases_eq place p.place)
 
-pub still_states : (s : Counts) (before after : List (Option State)) (p : PacketValue) →
-    ((place : ℕ) → place ≢ p.place → slot_at after place ≡ slot_at before place) →
-    ((takes : List Take) → state_in s (slot_at before p.place) ≡ state s takes
-    → state_in s (slot_at after p.place) ≡ state s (takes ++ take_of p ∷ [])) →
-    ((place : ℕ) → (takes : List Take) × (state_in s (slot_at before place) ≡ state s takes)) →
-    (place : ℕ) → (takes : List Take) × (state_in s (slot_at after place) ≡ state s takes)
+pub still_states : (s : Counts) (before after : ℕ → Option State) (p : PacketValue) →
+    ((place : ℕ) → place ≢ p.place → after place ≡ before place) →
+    ((takes : List Take) → state_in s (before p.place) ≡ state s takes
+    → state_in s (after p.place) ≡ state s (takes ++ take_of p ∷ [])) →
+    ((place : ℕ) → (takes : List Take) × (state_in s (before place) ≡ state s takes)) →
+    (place : ℕ) → (takes : List Take) × (state_in s (after place) ≡ state s takes)
 still_states s before after p others one states place =
     ⊎_elim
     (λ (e : place ≡ p.place).
     let known = states p.place in
-    let now : state_in s (slot_at after place) ≡ state s (known.0 ++ take_of p ∷ []) =
-    subst (λ k. state_in s (slot_at after k) ≡ state s (known.0 ++ take_of p ∷ [])) (sym e) (one known.0 known.1) in
+    let now : state_in s (after place) ≡ state s (known.0 ++ take_of p ∷ []) =
+    subst (λ k. state_in s (after k) ≡ state s (known.0 ++ take_of p ∷ [])) (sym e) (one known.0 known.1) in
     (known.0 ++ take_of p ∷ [], now))
     (λ (apart : place ≢ p.place). let known = states place in (known.0, ap (state_in s) (others place apart) ∙ known.1))
     (cases_eq place p.place)
 
-pub same_states : (s : Counts) (before after : List (Option State))
-    → ((place : ℕ) → slot_at after place ≡ slot_at before place) →
-    ((place : ℕ) → (takes : List Take) × (state_in s (slot_at before place) ≡ state s takes)) →
-    (place : ℕ) → (takes : List Take) × (state_in s (slot_at after place) ≡ state s takes)
+pub same_states : (s : Counts) (before after : ℕ → Option State)
+    → ((place : ℕ) → after place ≡ before place) →
+    ((place : ℕ) → (takes : List Take) × (state_in s (before place) ≡ state s takes)) →
+    (place : ℕ) → (takes : List Take) × (state_in s (after place) ≡ state s takes)
 same_states s before after same states place = let known = states place in
     (known.0, ap (state_in s) (same place) ∙ known.1)
 
 -- what holds at the packet's place and at all others holds at each
-pub at_each : (before after : List (Option State)) (here : ℕ)
-    → ((place : ℕ) → place ≢ here → slot_at after place ≡ slot_at before place) →
-    slot_at after here ≡ slot_at before here → (place : ℕ) → slot_at after place ≡ slot_at before place
+pub at_each : (before after : ℕ → Option State) (here : ℕ)
+    → ((place : ℕ) → place ≢ here → after place ≡ before place) →
+    after here ≡ before here → (place : ℕ) → after place ≡ before place
 at_each before after here others same place =
-    ⊎_elim (λ (e : place ≡ here). subst (λ k. slot_at after k ≡ slot_at before k) (sym e) same) (others place)
+    ⊎_elim (λ (e : place ≡ here). subst (λ k. after k ≡ before k) (sym e) same) (others place)
     (cases_eq place here)
+
+-- One more packet at its place, and then the window moves on: all that holds of an owner's stream still does.
+pub still_kept : (s : Counts) (a mid b : OwnerStream) (p : PacketValue) → IsOwnerStream s a → p.place < place_count →
+    ((place : ℕ) → place ≢ p.place → held mid place ≡ held a place) →
+    ((takes : List Take) → state_in s (held a p.place) ≡ state s takes
+    → state_in s (held mid p.place) ≡ state s (takes ++ take_of p ∷ [])) →
+    SamePlaces mid b → ((place : ℕ) → place < reach_in b → IsSome (delivered_in (held b place))) →
+    delivered_in (held b (reach_in b)) ≡ None → IsOwnerStream s b
+still_kept s a mid b p kept within others one same run ends = record {
+  states = same_states s (held mid) (held b) same.at_each_place
+      (still_states s (held a) (held mid) p others one kept.states);
+  run = run;
+  run_ends = ends;
+  in_range = λ place past.
+      same.at_each_place place ∙ others place (λ e. absurd (omega arith)) ∙ kept.in_range place past;
+}

@@ -1,11 +1,13 @@
 pub mod Answers
 pub mod Taken
 pub mod StreamLaws
+pub mod Choices
 pub mod Senders
 pub mod Reaching
 pub mod Keeping
 pub mod Stepping
 pub mod OneTake
 pub mod Slots
+pub mod Rings
 pub mod Owners
 pub mod Exported

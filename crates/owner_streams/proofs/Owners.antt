@@ -1,23 +1,22 @@
 -- The streams of all owners, one of which takes a packet.
-use Rattle.std.proofs.Common.{◌≡◌, ◌≢◌, ℕ, ◌<◌, ⊎_elim, false, ◌&&◌, List, [], ◌∷◌, ◌++◌, length, map, get_or, Option, Some, None, Result, refl, sym, ap, ◌∙◌, subst, arith}
-use Rattle.std.specs.Prelude.{◌==◌, slice_get, slice_set, unwrap_or, slice_index_or, option_map, OnOk, All}
+use Rattle.std.proofs.Common.{◌≡◌, ◌≢◌, ℕ, ◌<◌, ◌≤◌, ⊎_elim, false, ◌&&◌, List, [], ◌∷◌, ◌++◌, length, map, get_or, Option, Some, None, Result, Ok, Err, refl, sym, ap, ◌∙◌, subst, arith}
+use Rattle.std.specs.Prelude.{◌==◌, slice_get, slice_set, unwrap_or, slice_index_or, option_map, OnOk, OnErr, IfOk, All}
 use Rattle.std.specs.FinMap as maps
 use Rattle.std.specs.Ordering.{nat_cmp}
-use Rattle.std.proofs.lemmas.Bool.{cases_eq}
-use Rattle.std.proofs.lemmas.Result.{on_ok_weaker}
+use Rattle.std.proofs.lemmas.Bool.{cases_eq, cases_lt}
 use Rattle.std.proofs.lemmas.Bool.Decides.{nat_tests}
 use Rattle.std.proofs.lemmas.List.{map-set, set-get_or, get_or-set_same, get_or-set_other, length-set}
 use Rattle.std.proofs.lemmas.Option.{slice_get-map, unwrap_or-slice_get, slice_get_within, get_or_from_slice_get, slice_get-get_or, slice_get_read}
 use Rattle.quorum_sizes.specs.Sizes.{Counts}
 use Rattle.link_frames.specs.Packets.{PacketValue}
 use Rattle.bracha_instance.specs.States.{state}
-use Rattle.owner_streams.specs.Places.{takes_at}
+use Rattle.owner_streams.specs.Places.{window, takes_at}
 use Rattle.owner_streams.specs.Values.{StreamsValue, state_at, IsStateOf}
-use Rattle.owner_streams.specs.Slots.{slot_at, state_in, delivered_in}
-use Rattle.owner_streams.specs.Kept.{IsOwnerStream, AreStatesOf, SamePlaces, instances_in}
+use Rattle.owner_streams.specs.Slots.{state_in, delivered_in}
+use Rattle.owner_streams.specs.Kept.{reach_in, held_in, held, IsOwnerStream, AreStatesOf, SamePlaces, instances_in}
 use Rattle.owner_streams.specs.declared.owner_stream.OwnerStream.{OwnerStream}
 use Rattle.owner_streams.proofs.Taken.{takes_at-other}
-use Rattle.owner_streams.proofs.Slots.{get-instances_from, same_instances}
+use Rattle.owner_streams.proofs.Rings.{held-window, held-beyond, get-instances_in, same_instances_in}
 
 -- what contracts see of these streams
 abbrev pub seen : Counts → List OwnerStream → StreamsValue
@@ -31,10 +30,10 @@ instances_are rows owner row e =
 -- the state at an owner's place is what the owner's stream holds there
 pub state_at_is : (s : Counts) (rows : List OwnerStream) (owner : ℕ) (row : OwnerStream)
     → slice_get rows owner ≡ Some row →
-    (place : ℕ) → state_at (seen s rows) owner place ≡ state_in s (slot_at row.places.items place)
+    (place : ℕ) → state_at (seen s rows) owner place ≡ state_in s (held row place)
 state_at_is s rows owner row e place =
     ap (λ m. unwrap_or (maps.get m place) (state s [])) (instances_are rows owner row e)
-    ∙ ap (λ slot. unwrap_or slot (state s [])) (get-instances_from row.places.items place)
+    ∙ ap (λ slot. unwrap_or slot (state s [])) (get-instances_in row place)
 
 pub are_states_of : (s : Counts) (rows : List OwnerStream) (owner : ℕ) (row : OwnerStream)
     → slice_get rows owner ≡ Some row →
@@ -89,7 +88,7 @@ pub same_seen : (s : Counts) (rows : List OwnerStream) (owner : ℕ) (row new : 
     seen s (slice_set rows owner new) ≡ seen s rows
 same_seen s rows owner row new e same =
     let one : instances_in new ≡ instances_in row =
-    same_instances row.places.items new.places.items same.at_each_place in
+    same_instances_in row new same.at_each_place in
     let kept : get_or (map instances_in rows) owner maps.empty ≡ instances_in row =
     sym (unwrap_or-slice_get (map instances_in rows) owner maps.empty) ∙ instances_are rows owner row e in
     let all : map instances_in (slice_set rows owner new) ≡ map instances_in rows =
@@ -99,18 +98,22 @@ same_seen s rows owner row new e same =
 
 -- a stream of which nothing was taken
 abbrev pub IsFresh : OwnerStream → Type 0
-IsFresh row = (row.places.items ≡ []) × (row.reach ≡ 0)
+IsFresh row = (row.below.items ≡ []) × (row.ring.items ≡ [])
 
-empty_slot : (row : OwnerStream) → IsFresh row → (place : ℕ) → slot_at row.places.items place ≡ None
-empty_slot row fresh place = ap (λ items. slot_at items place) fresh.0
+empty_slot : (row : OwnerStream) → IsFresh row → (place : ℕ) → held row place ≡ None
+unfolding held
+empty_slot row fresh place =
+    (λ i. held_in (fresh.0 i) (fresh.1 i) place)
+    ∙ ⊎_elim (λ (within : place < window). held-window [] [] place (omega arith) (omega arith))
+    (λ (past : window ≤ place). held-beyond [] [] place (omega arith))
+    (cases_lt place window)
 
 pub fresh_is_kept : (s : Counts) (row : OwnerStream) → IsFresh row → IsOwnerStream s row
 fresh_is_kept s row fresh = record {
   states = λ place. ([], ap (state_in s) (empty_slot row fresh place));
-  run = λ place h. absurd (omega arith);
-  run_ends = ap delivered_in (empty_slot row fresh row.reach);
-  in_window = let e : length row.places.items ≡ 0 = ap length fresh.0 in omega arith;
-  in_range = let e : length row.places.items ≡ 0 = ap length fresh.0 in omega arith;
+  run = λ place h. let e : reach_in row ≡ 0 = ap length fresh.0 in absurd (omega arith);
+  run_ends = ap delivered_in (empty_slot row fresh (reach_in row));
+  in_range = λ place past. empty_slot row fresh place;
 }
 
 fresh_at : (s : Counts) (rows : List OwnerStream) (owner place : ℕ) → All IsFresh rows → (o : Option OwnerStream)
@@ -131,6 +134,19 @@ pub fresh_state : (s : Counts) (rows : List OwnerStream) → All IsFresh rows �
 unfolding takes_at
 fresh_state s rows fresh =
     record { at_each_place = λ owner place. fresh_at s rows owner place fresh (slice_get rows owner) refl }
+
+-- the contract of one owner's stream, as the contract of all
+pub on_ok : {A B : Type 0} (r : Result A B) {P Q : Type 0} → (P → Q) → OnOk r P → OnOk r Q
+on_ok (Ok x) f p = f p
+on_ok (Err e) f p = p
+
+pub on_err : {A B : Type 0} (r : Result A B) {P Q : Type 0} → (P → Q) → OnErr r P → OnErr r Q
+on_err (Ok x) f p = p
+on_err (Err e) f p = f p
+
+pub if_ok : {A B : Type 0} (r : Result A B) {P Q : A → Type 0} → ((x : A) → P x → Q x) → IfOk r P → IfOk r Q
+if_ok (Ok x) f p = f x p
+if_ok (Err e) f p = p
 
 -- of the streams that contracts see as v, the one at index i is that of the owner
 pub record IsOwners (s : Counts) (rows : List OwnerStream) (i owner : ℕ) (row : OwnerStream) (v : StreamsValue) : Type 0
@@ -179,7 +195,7 @@ states_go_on {s = s} {rows = rows} {i = i} {row = row} {v = v} p new r o one =
     λ k w. OnOk r ((packets : List PacketValue) → IsStateOf w packets
     → IsStateOf (seen s (slice_set rows k new)) (packets ++ p ∷ [])) in
     let all : GoesOn p.owner (seen s rows) =
-    on_ok_weaker r (λ take packets known.
+    on_ok r (λ take packets known.
     state_push s rows row new p o.here packets known
     (take packets (are_states_of s rows p.owner row o.here packets known))) one in
     subst (GoesOn i) o.is (subst (λ k. GoesOn k (seen s rows)) (sym o.at) all)

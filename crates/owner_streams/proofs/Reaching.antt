@@ -1,7 +1,6 @@
 -- How far an owner's stream reaches, and what is delivered and sent at its places, by the places that are kept.
-use Rattle.std.proofs.Common.{◌≡◌, ℕ, zero, suc, ◌<◌, ◌≤◌, ⊎_elim, le_refl, true, false, List, [], ◌∷◌, length, Option, Some, None, sym, ap, ◌∙◌, arith, refl}
+use Rattle.std.proofs.Common.{◌≡◌, ℕ, zero, suc, ◌<◌, ◌≤◌, ⊎_elim, le_refl, true, false, List, [], ◌∷◌, length, Option, Some, None, sym, ap, ◌∙◌, arith}
 use Rattle.std.specs.Prelude.{nat_lt, option_and_then, slice_get, IsSome}
-use Rattle.std.proofs.lemmas.List.{get_or_past}
 use Rattle.std.proofs.lemmas.Bool.{cases_lt}
 use Rattle.std.proofs.lemmas.Bool.Decides.{nat_tests}
 use Rattle.std.proofs.lemmas.Option.{slice_get_past}
@@ -9,13 +8,14 @@ use Rattle.quorum_sizes.specs.Sizes.{Counts}
 use Rattle.link_frames.specs.Packets.{PacketValue}
 use Rattle.bracha_instance.specs.Broadcast.{Take, delivered, echoed, readied}
 use Rattle.bracha_instance.specs.States.{State, state}
-use Rattle.owner_streams.specs.Places.{takes_at, stream, reach}
+use Rattle.owner_streams.specs.Places.{place_count, takes_at, stream, reach}
 use Rattle.owner_streams.specs.Steps.{again_due}
 use Rattle.owner_streams.specs.Slots.{slot_at, state_in, delivered_in, again_in}
-use Rattle.owner_streams.specs.Kept.{IsOwnerStream, AreStatesOf, command_in}
+use Rattle.owner_streams.specs.Kept.{reach_in, held, IsOwnerStream, AreStatesOf, command_in}
 use Rattle.owner_streams.specs.declared.owner_stream.OwnerStream.{OwnerStream}
 use Rattle.owner_streams.proofs.Taken.{echoed-none, readied-none, delivered-none}
 use Rattle.owner_streams.proofs.StreamLaws.{stream_is_exact_lem}
+use Rattle.owner_streams.proofs.Choices.{at_most, over}
 
 -- what is delivered at a place is what the messages there deliver
 pub delivered_is : (s : Counts) (slot : Option State) (takes : List Take) → state_in s slot ≡ state s takes
@@ -51,25 +51,31 @@ ends_agree xs n ask is run ends =
     (cases_lt (length xs) n)
 
 -- A place up to which all is delivered, and which is not delivered, is the end of the stream.
+pub reach_of_run : (s : Counts) (owner : ℕ) (places : ℕ → Option State) (packets : List PacketValue) (n : ℕ) →
+    ((place : ℕ) → state_in s (places place) ≡ state s (takes_at owner place packets)) →
+    ((place : ℕ) → place < n → IsSome (delivered_in (places place))) → delivered_in (places n) ≡ None →
+    reach s owner packets ≡ n
+reach_of_run s owner places packets n is run ends =
+    ends_agree (stream s owner packets) n (λ place. delivered_in (places place))
+    (λ place h. delivered_is s (places place) (takes_at owner place packets) (is place)
+    ∙ stream_is_exact_lem s owner packets place h) run ends
+
+-- the same of a list of places
 pub reach_is : (s : Counts) (owner : ℕ) (places : List (Option State)) (packets : List PacketValue) (n : ℕ) →
     ((place : ℕ) → state_in s (slot_at places place) ≡ state s (takes_at owner place packets)) →
     ((place : ℕ) → place < n → IsSome (delivered_in (slot_at places place))) → delivered_in (slot_at places n) ≡ None →
     reach s owner packets ≡ n
 reach_is s owner places packets n is run ends =
-    ends_agree (stream s owner packets) n (λ place. delivered_in (slot_at places place))
-    (λ place h. delivered_is s (slot_at places place) (takes_at owner place packets) (is place)
-    ∙ stream_is_exact_lem s owner packets place h) run ends
+    reach_of_run s owner (λ place. slot_at places place) packets n is run ends
 
--- what is delivered is among the places
-pub run_within : (places : List (Option State)) (n : ℕ)
-    → ((place : ℕ) → place < n → IsSome (delivered_in (slot_at places place))) → n ≤ length places
-run_within places n run =
+-- the reach is no more than there are places
+pub reach_within : (s : Counts) (a : OwnerStream) → IsOwnerStream s a → reach_in a ≤ place_count
+reach_within s a kept =
     ⊎_elim
-    (λ (past : length places < n).
-    absurd (none_or_some _ (ap delivered_in (get_or_past places (length places) None (le_refl _)))
-    (run (length places) past)))
-    (λ (within : n ≤ length places). within)
-    (cases_lt (length places) n)
+    (λ (past : place_count < reach_in a).
+    absurd (none_or_some _ (ap delivered_in (kept.in_range place_count (le_refl _))) (kept.run place_count past)))
+    (λ (within : reach_in a ≤ place_count). within)
+    (cases_lt place_count (reach_in a))
 
 echo_is : (s : Counts) (slot : Option State) (takes : List Take) → state_in s slot ≡ state s takes
     → option_and_then (λ st. st.echoed) slot ≡ echoed takes
@@ -94,23 +100,23 @@ again_is s owner place slot packets e =
 
 pub reach_is_due : (s : Counts) (owner : ℕ) (a : OwnerStream) (packets : List PacketValue) → IsOwnerStream s a
     → AreStatesOf s owner a packets →
-    a.reach ≡ reach s owner packets
+    (reach_in a) ≡ reach s owner packets
 reach_is_due s owner a packets kept is =
-    sym (reach_is s owner a.places.items packets a.reach is.at_each_place kept.run kept.run_ends)
+    sym (reach_of_run s owner (held a) packets (reach_in a) is.at_each_place kept.run kept.run_ends)
 
 -- the command at a place before the reach is the stream's
 pub command_is_due : (s : Counts) (owner place : ℕ) (a : OwnerStream) (packets : List PacketValue) → IsOwnerStream s a
     → AreStatesOf s owner a packets →
     command_in a place ≡ slice_get (stream s owner packets) place
 command_is_due s owner place a packets kept is =
-    let end : a.reach ≡ reach s owner packets = reach_is_due s owner a packets kept is in
+    let end : (reach_in a) ≡ reach s owner packets = reach_is_due s owner a packets kept is in
     ⊎_elim
-    (λ (before : place < a.reach).
-    let test : nat_lt place a.reach ≡ true = grind (arith, nat_tests) in
-    rw test refl
-    ∙ delivered_is s (slot_at a.places.items place) (takes_at owner place packets) (is.at_each_place place)
+    (λ (before : place < (reach_in a)).
+    let test : nat_lt place (reach_in a) ≡ true = grind (arith, nat_tests) in
+    at_most _ _ _ test
+    ∙ delivered_is s (held a place) (takes_at owner place packets) (is.at_each_place place)
     ∙ stream_is_exact_lem s owner packets place (omega arith))
-    (λ (past : a.reach ≤ place).
-    let test : nat_lt place a.reach ≡ false = grind (arith, nat_tests) in
-    rw test refl ∙ sym (slice_get_past (stream s owner packets) place (omega arith)))
-    (cases_lt place a.reach)
+    (λ (past : (reach_in a) ≤ place).
+    let test : nat_lt place (reach_in a) ≡ false = grind (arith, nat_tests) in
+    over _ _ _ test ∙ sym (slice_get_past (stream s owner packets) place (omega arith)))
+    (cases_lt place (reach_in a))

@@ -1,5 +1,5 @@
 -- The map of an owner's instances against the places that hold them.
-use Rattle.std.proofs.Common.{◌≡◌, ◌≢◌, ℕ, zero, suc, ◌+◌, ◌<◌, true, false, cond, List, [], ◌∷◌, Option, Some, None, refl, sym, ap, ◌∙◌, arith}
+use Rattle.std.proofs.Common.{◌≡◌, ◌≢◌, ℕ, zero, suc, ◌+◌, ◌<◌, true, false, cond, List, [], ◌∷◌, Option, Some, None, refl, ap, ◌∙◌, arith}
 use Rattle.std.specs.Ordering.{nat_cmp, eq_by_cmp}
 use Rattle.std.specs.Cmp.{nat_cmp_total}
 use Rattle.std.specs.FinMap as maps
@@ -54,10 +54,3 @@ pub get-instances_from : (places : List (Option State)) (place : ℕ)
 get-instances_from places place =
     let e : place ≡ 0 + place = omega arith in ap (λ q. maps.get (instances_from 0 places) q) e
     ∙ from_first 0 places place
-
--- places that hold the same are one map
-pub same_instances : (before after : List (Option State)) → ((place : ℕ) → slot_at after place ≡ slot_at before place) →
-    instances_from 0 after ≡ instances_from 0 before
-same_instances before after same =
-    maps.same_map nat_cmp_total maps.nat_cmp-IsAntisymmetric _ _ (λ q. get-instances_from after q ∙ same q
-    ∙ sym (get-instances_from before q))

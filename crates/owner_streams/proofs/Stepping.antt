@@ -20,11 +20,12 @@ use Rattle.bracha_instance.specs.declared.instance.Effect.TheVariants.{Idle, Cou
 use Rattle.bracha_instance.specs.declared.instance.Taken.{Taken}
 use Rattle.owner_streams.specs.Places.{window, take_of, takes_at, reach}
 use Rattle.owner_streams.specs.Steps.{step_of, step_due, effect_due}
-use Rattle.owner_streams.specs.Slots.{slot_at, state_in, voted_in, IsTaken}
-use Rattle.owner_streams.specs.Kept.{look_in}
+use Rattle.owner_streams.specs.Slots.{state_in, voted_in, IsTaken}
+use Rattle.owner_streams.specs.Kept.{reach_in, held, look_in}
 use Rattle.owner_streams.specs.declared.owner_stream.OwnerStream.{OwnerStream}
 use Rattle.owner_streams.specs.declared.steps.StreamFault.TheVariants.{Beyond}
 use Rattle.owner_streams.proofs.Taken.{takes_at-own}
+use Rattle.owner_streams.proofs.Choices.{at_most, over}
 
 -- a packet beyond the window is refused ..
 pub due_beyond : (s : Counts) (packets : List PacketValue) (p : PacketValue) (n : ℕ) → reach s p.owner packets ≡ n
@@ -34,7 +35,7 @@ unfolding step_due
 due_beyond s packets p n e h =
     let refused : nat_le (n + window) p.place ≡ true = grind (arith, nat_tests) in
     ap (λ m. cond (nat_le (m + window) p.place) (Err (Beyond p.place (m + window))) (Ok (step_of s packets p))) e
-    ∙ rw refused refl
+    ∙ at_most _ _ _ refused
 
 -- .. and each other one is not
 pub due_within : (s : Counts) (packets : List PacketValue) (p : PacketValue) (n : ℕ) → reach s p.owner packets ≡ n
@@ -44,7 +45,7 @@ unfolding step_due
 due_within s packets p n e h =
     let taken : nat_le (n + window) p.place ≡ false = grind (arith, nat_tests) in
     ap (λ m. cond (nat_le (m + window) p.place) (Err (Beyond p.place (m + window))) (Ok (step_of s packets p))) e
-    ∙ rw taken refl
+    ∙ over _ _ _ taken
 
 -- the step that is due, from what the instance answers and how far the stream reaches
 pub step_is : (s : Counts) (packets : List PacketValue) (p : PacketValue) (taken : Taken) (from to : ℕ) →
@@ -95,14 +96,14 @@ idle_step_is s packets p n idle same f e =
     λ i. record { effect = idle i; broadcast = broadcast i; delivered = delivery i; from = f i; to = e i }
 
 -- a packet that is not refused is before the end of the window
-pub look_within : (a : OwnerStream) (p : PacketValue) (e : Effect) → Ok e ≡ look_in a p → p.place < a.reach + window
+pub look_within : (a : OwnerStream) (p : PacketValue) (e : Effect) → Ok e ≡ look_in a p → p.place < reach_in a + window
 look_within a p e is =
-    ⊎_elim (λ (within : p.place < a.reach + window). within)
-    (λ (past : a.reach + window ≤ p.place).
-    let test : nat_le (a.reach + window) p.place ≡ true = grind (arith, nat_tests) in
-    let refused : Ok e ≡ Err (Beyond p.place (a.reach + window)) = is ∙ rw test refl in
+    ⊎_elim (λ (within : p.place < reach_in a + window). within)
+    (λ (past : reach_in a + window ≤ p.place).
+    let test : nat_le (reach_in a + window) p.place ≡ true = grind (arith, nat_tests) in
+    let refused : Ok e ≡ Err (Beyond p.place (reach_in a + window)) = is ∙ at_most _ _ _ test in
     absurd cc)
-    (cases_lt p.place (a.reach + window))
+    (cases_lt p.place (reach_in a + window))
 
 idle_test : (b : Bool) → Idle ≡ cond b Idle Counted → b ≡ true
 idle_test true e = refl
@@ -113,11 +114,11 @@ same_ok x y e = cc
 
 -- one that is idle changes nothing at its place
 pub look_idle : (a : OwnerStream) (p : PacketValue) → Ok Idle ≡ look_in a p
-    → voted_in (slot_at a.places.items p.place) p.kind p.from ≡ true
+    → voted_in (held a p.place) p.kind p.from ≡ true
 look_idle a p is =
-    let within : p.place < a.reach + window = look_within a p Idle is in
-    let test : nat_le (a.reach + window) p.place ≡ false = grind (arith, nat_tests) in
-    idle_test _ (same_ok _ _ (is ∙ rw test refl))
+    let within : p.place < reach_in a + window = look_within a p Idle is in
+    let test : nat_le (reach_in a + window) p.place ≡ false = grind (arith, nat_tests) in
+    idle_test _ (same_ok _ _ (is ∙ over _ _ _ test))
 
 pub voted_changes_nothing : (s : Counts) (slot : Option State) (t : Take) → voted_in slot t.kind t.from ≡ true
     → (takes : List Take) → state_in s slot ≡ state s takes →

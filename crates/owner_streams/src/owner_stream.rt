@@ -1,4 +1,4 @@
-ghost use Rattle.std.specs.Prelude.{◌≡◌, ◌≢◌, ℕ, ◌+◌, ◌<◌, ◌≤◌, List, [], ◌∷◌, ◌++◌, length, max, IsSome, IfOk, OnOk, OnErr, is_some, slice_get, vec_len, None};
+ghost use Rattle.std.specs.Prelude.{◌≡◌, ◌≢◌, ℕ, ◌+◌, ◌<◌, ◌≤◌, List, [], ◌∷◌, ◌++◌, length, max, IsSome, IfOk, OnOk, OnErr, is_some, slice_get, slice_set, vec_len, vec_capacity, Some, None, IfSome};
 ghost use Rattle.std.specs.Option.{option_copied};
 ghost use Rattle.quorum_sizes.specs.Sizes.{Counts};
 ghost use Rattle.link_frames.specs.Packets.{PacketValue};
@@ -9,10 +9,10 @@ ghost use Rattle.bracha_instance.specs.declared.instance.Effect.TheVariants.{Idl
 ghost use Rattle.owner_streams.specs.Places.{place_count, window, take_of, stream, reach as reach_of};
 ghost use Rattle.owner_streams.specs.Steps.{SendsAreOwners, step_due, IsAnswer, effect_due};
 ghost use Rattle.owner_streams.specs.Slots.{slot_at, state_in, delivered_in, again_in, voted_in, GoesOn, IsAnswerAt};
-ghost use Rattle.owner_streams.specs.Kept.{IsOwnerStream, AreStatesOf, SamePlaces, command_in, look_in};
+ghost use Rattle.owner_streams.specs.Kept.{reach_in, held, IsOwnerStream, AreStatesOf, SamePlaces, command_in, look_in};
 
 use crate::steps::{Again, StreamFault, StreamStep};
-use bracha_instance::{Effect, Instance, Taken};
+use bracha_instance::{Effect, Instance, Record, Taken};
 use link_frames::{Packet, Place};
 use quorum_sizes::Sizes;
 use role_commands::Command;
@@ -26,23 +26,26 @@ const _: () = prove!(PLACES == Place::MAX as u32 + 1);
 /// So many places from the reach of a stream on are taken. A packet further away is refused.
 pub const WINDOW: u32 = 64;
 
-/// The instances of an owner's stream by place, each made when its first message is counted, and the reach of
-/// the stream.
+/// An owner's stream: of the places that it reaches beyond a compact record each, and of the others the instances,
+/// each made when its first message is counted.
+///
+/// The instances stand in a ring: the window is as long as the ring, so each of its places has the slot of its
+/// remainder. When the stream grows, what it grows by moves to the records and frees its slot.
 #[derive(Drop)]
 pub(crate) struct OwnerStream {
-    reach: u32,
-    places: Vec<Option<Instance>>,
+    below: Vec<Record>,
+    ring: Vec<Option<Instance>>,
 }
 
 impl OwnerStream {
     /// A stream of which nothing was taken. Takes no memory.
     pub(crate) fn new(alloc: Global) -> Self
-        ensures places { result.places.items ≡ [] }
-        ensures reach { result.reach ≡ 0 }
+        ensures below { result.below.items ≡ [] }
+        ensures ring { result.ring.items ≡ [] }
     {
         OwnerStream {
-            reach: 0,
-            places: Vec::new(alloc),
+            below: Vec::new(alloc),
+            ring: Vec::new(alloc),
         }
     }
 
@@ -63,60 +66,143 @@ impl OwnerStream {
         ensures idle { IfOk result (λ step. step.effect ≡ Idle → SamePlaces self.old self.new) }
         ensures err { OnErr result (SamePlaces self.old self.new) }
     {
+        let from = self.reach();
         if let Effect::Idle = self.look(packet)? {
             return Ok(StreamStep {
                 effect: Effect::Idle,
                 broadcast: None,
                 delivered: None,
-                from: self.reach,
-                to: self.reach,
+                from,
+                to: from,
             });
         }
-        let taken = take_at(&mut self.places, sizes, packet)?;
-        let from = self.reach;
-        self.reach = run_end(&self.places, from);
+        let taken = self.take_at(sizes, packet)?;
+        self.advance();
         Ok(StreamStep {
             effect: Effect::Counted,
             broadcast: taken.broadcast,
             delivered: taken.delivered,
             from,
-            to: self.reach,
+            to: self.reach(),
         })
+    }
+
+    /// Takes a packet at its place. No other place is changed, and there is room for a whole window of records.
+    fn take_at(&mut self, sizes: &Sizes, packet: &Packet) -> Result<Taken, AllocError>
+        requires from { packet.now.from < sizes.now.nodes }
+        requires window { packet.now.place < reach_in self.old + window }
+        ensures reach { reach_in self.new ≡ reach_in self.old }
+        ensures room { OnOk result (reach_in self.new + window ≤ vec_capacity self.new.below) }
+        ensures others { (place : ℕ) → place ≢ packet.now.place → held self.new place ≡ held self.old place }
+        ensures in_range { packet.now.place < place_count }
+        ensures state { let here = packet.now.place in OnOk result
+            (GoesOn sizes.now (held self.old here) (held self.new here) (take_of packet.now)) }
+        ensures taken { let here = packet.now.place in IfOk result
+            (λ taken. IsAnswerAt sizes.now (held self.old here) (take_of packet.now) taken) }
+        ensures err { let here = packet.now.place in OnErr result (held self.new here ≡ held self.old here) }
+    {
+        let place = usize::from(packet.place());
+        self.below.reserve(WINDOW as usize)?;
+        if place < self.below.len() {
+            return Ok(take_record(&mut self.below, place, packet));
+        }
+        take_slot(&mut self.ring, place % WINDOW as usize, sizes, packet)
+    }
+
+    /// Moves what is delivered at the front of the window to the records, until something is not delivered there.
+    fn advance(&mut self)
+        requires room { reach_in self.old + window ≤ vec_capacity self.old.below }
+        requires run { (place : ℕ) → place < reach_in self.old → IsSome (delivered_in (held self.old place)) }
+        ensures run { (place : ℕ) → place < reach_in self.new → IsSome (delivered_in (held self.new place)) }
+        ensures same { SamePlaces self.old self.new }
+        ensures run_ends { delivered_in (held self.new (reach_in self.new)) ≡ None }
+        ensures onward { reach_in self.old ≤ reach_in self.new }
+        ensures few { reach_in self.new ≤ reach_in self.old + window }
+    {
+        while let Some(settled) = self.front() {
+            self.settle(settled);
+        }
+    }
+
+    /// Keeps the front of the window as this record, and frees its slot.
+    fn settle(&mut self, settled: Record)
+        requires room { reach_in self.old < vec_capacity self.old.below }
+        requires front { held self.old (reach_in self.old) ≡ Some settled }
+        ensures same { SamePlaces self.old self.new }
+        ensures reach { reach_in self.new ≡ reach_in self.old + 1 }
+        ensures capacity { vec_capacity self.old.below ≤ vec_capacity self.new.below }
+    {
+        let slot = self.below.len() % WINDOW as usize;
+        push_record(&mut self.below, settled);
+        free_slot(&mut self.ring, slot);
+    }
+
+    /// The record of the first place of the window, if it is delivered.
+    fn front(&self) -> Option<Record>
+        ensures delivered { is_some result ≡ is_some (delivered_in (held self.now (reach_in self.now))) }
+        ensures record { IfSome result (λ kept. held self.now (reach_in self.now) ≡ Some kept) }
+    {
+        match self.instance_at(self.below.len()) {
+            Some(instance) => instance.record(),
+            None => None,
+        }
     }
 
     /// The effect that a packet of this owner would have, or its refusal.
     pub(crate) fn look(&self, packet: &Packet) -> Result<Effect, StreamFault>
-        requires { self.now.reach ≤ place_count }
+        requires { reach_in self.now ≤ place_count }
         ensures seen { result ≡ look_in self.now packet.now }
         ensures due { (s : Counts) (packets : List PacketValue) → IsOwnerStream s self.now →
             AreStatesOf s packet.now.owner self.now packets → SendsAreOwners packets →
             result ≡ effect_due (step_due s packets packet.now) }
     {
         let place = packet.message().place;
-        let end = self.reach + WINDOW;
+        let end = self.reach() + WINDOW;
         if u32::from(place) >= end {
             return Err(StreamFault::Beyond { place, end });
         }
-        if voted_at(&self.places, packet) {
+        if self.voted(packet) {
             Ok(Effect::Idle)
         } else {
             Ok(Effect::Counted)
         }
     }
 
+    /// Whether a packet changes nothing at its place.
+    fn voted(&self, packet: &Packet) -> bool
+        ensures seen { result ≡ voted_in (held self.now packet.now.place) packet.now.kind packet.now.from }
+        ensures vote { (s : Counts) (takes : List Take) (owner : ℕ) →
+            state_in s (held self.now packet.now.place) ≡ state s takes →
+            SendsAreFrom owner (takes ++ take_of packet.now ∷ []) →
+            result ≡ is_some (vote packet.now.kind packet.now.from takes) }
+    {
+        let place = usize::from(packet.place());
+        let kind = packet.kind();
+        let from = packet.from();
+        if place < self.below.len() {
+            return self.record_at(place).voted(kind, from);
+        }
+        match self.instance_at(place) {
+            Some(instance) => instance.voted(kind, from),
+            None => false,
+        }
+    }
+
     /// How far the stream reaches.
     pub(crate) fn reach(&self) -> u32
-        ensures { result ≡ self.now.reach }
+        requires { reach_in self.now ≤ place_count }
+        ensures { result ≡ reach_in self.now }
     {
-        self.reach
+        self.below.len() as u32
     }
 
     /// The command at a place before the reach.
     pub(crate) fn command(&self, place: Place) -> Option<Command>
         ensures { result ≡ command_in self.now place }
     {
-        if u32::from(place) < self.reach {
-            delivered_at(&self.places, usize::from(place))
+        let place = usize::from(place);
+        if place < self.below.len() {
+            Some(self.record_at(place).delivered())
         } else {
             None
         }
@@ -124,9 +210,17 @@ impl OwnerStream {
 
     /// What was sent to all at a place.
     pub(crate) fn again(&self, place: Place) -> Again
-        ensures { result ≡ again_in (slot_at self.now.places.items place) }
+        ensures { result ≡ again_in (held self.now place) }
     {
-        match instance_at(&self.places, usize::from(place)) {
+        let place = usize::from(place);
+        if place < self.below.len() {
+            let record = self.record_at(place);
+            return Again {
+                echo: record.echoed(),
+                ready: record.readied(),
+            };
+        }
+        match self.instance_at(place) {
             Some(instance) => Again {
                 echo: instance.echoed(),
                 ready: instance.readied(),
@@ -137,40 +231,93 @@ impl OwnerStream {
             },
         }
     }
+
+    /// The instance at a place that the stream doesn't reach beyond.
+    fn instance_at(&self, place: usize) -> Option<&Instance>
+        requires { reach_in self.now ≤ place }
+        ensures { option_copied result ≡ held self.now place }
+    {
+        if place - self.below.len() >= WINDOW as usize {
+            return None;
+        }
+        instance_in(&self.ring, place % WINDOW as usize)
+    }
+
+    /// The record of a place that the stream reaches beyond.
+    fn record_at(&self, place: usize) -> &Record
+        requires { place < reach_in self.now }
+        ensures { held self.now place ≡ Some result.now }
+    {
+        &self.below[place]
+    }
 }
 
-/// Takes a packet at its place. No other place is changed.
-fn take_at(
-    places: &mut Vec<Option<Instance>>,
+/// The instance in a slot.
+fn instance_in(ring: &[Option<Instance>], slot: usize) -> Option<&Instance>
+    ensures { option_copied result ≡ slot_at ring.now slot }
+{
+    ring.get(slot)?.as_ref()
+}
+
+/// Puts a record at the end, where there must be room for it. It takes no memory.
+fn push_record(records: &mut Vec<Record>, record: Record)
+    requires { vec_len records.old < vec_capacity records.old }
+    ensures items { records.new.items ≡ records.old.items ++ «record» ∷ [] }
+    ensures capacity { vec_capacity records.old ≤ vec_capacity records.new }
+{
+    let _within = records.push(record);
+}
+
+/// Frees a slot.
+fn free_slot(ring: &mut Vec<Option<Instance>>, slot: usize)
+    requires { slot < length ring.old.items }
+    ensures { ring.new.items ≡ slice_set ring.old.items slot None }
+{
+    ring[slot] = None;
+}
+
+/// Takes a packet in its record. No other record is changed.
+fn take_record(records: &mut Vec<Record>, place: usize, packet: &Packet) -> Taken
+    requires { place < length records.old.items }
+    ensures len { length records.new.items ≡ length records.old.items }
+    ensures capacity { vec_capacity records.new ≡ vec_capacity records.old }
+    ensures others { (k : ℕ) → k ≢ place → slice_get records.new.items k ≡ slice_get records.old.items k }
+    ensures state { (s : Counts) →
+        GoesOn s (slice_get records.old.items place) (slice_get records.new.items place) (take_of packet.now) }
+    ensures taken { (s : Counts) → IsAnswerAt s (slice_get records.old.items place) (take_of packet.now) result }
+{
+    let record = &mut records[place];
+    record.take(packet.kind(), packet.from(), packet.command())
+}
+
+/// Takes a packet in its slot. No other slot is changed.
+fn take_slot(
+    ring: &mut Vec<Option<Instance>>,
+    slot: usize,
     sizes: &Sizes,
     packet: &Packet,
 ) -> Result<Taken, AllocError>
-    requires { packet.now.from < sizes.now.nodes }
-    ensures others { (place : ℕ) → place ≢ packet.now.place →
-        slot_at places.new.items place ≡ slot_at places.old.items place }
-    ensures most { vec_len places.new ≤ max (vec_len places.old) (packet.now.place + 1) }
-    ensures in_range { packet.now.place < place_count }
-    ensures state { let here = packet.now.place in OnOk result
-        (GoesOn sizes.now (slot_at places.old.items here) (slot_at places.new.items here) (take_of packet.now)) }
-    ensures taken { let here = packet.now.place in IfOk result
-        (λ taken. IsAnswerAt sizes.now (slot_at places.old.items here) (take_of packet.now) taken) }
-    ensures err { let here = packet.now.place in OnErr result
-        (slot_at places.new.items here ≡ slot_at places.old.items here) }
+    requires from { packet.now.from < sizes.now.nodes }
+    requires slot { slot < window }
+    ensures others { (k : ℕ) → k ≢ slot → slot_at ring.new.items k ≡ slot_at ring.old.items k }
+    ensures state { OnOk result
+        (GoesOn sizes.now (slot_at ring.old.items slot) (slot_at ring.new.items slot) (take_of packet.now)) }
+    ensures taken { IfOk result
+        (λ taken. IsAnswerAt sizes.now (slot_at ring.old.items slot) (take_of packet.now) taken) }
+    ensures err { OnErr result (slot_at ring.new.items slot ≡ slot_at ring.old.items slot) }
 {
-    let place = usize::from(packet.place());
-    make_room(places, place + 1)?;
-    let alloc = *places.allocator();
-    take_in(&mut places[place], alloc, sizes, packet)
+    make_room(ring, slot + 1)?;
+    let alloc = *ring.allocator();
+    take_in(&mut ring[slot], alloc, sizes, packet)
 }
 
-/// Makes room for so many places. What the places hold stays.
-fn make_room(places: &mut Vec<Option<Instance>>, count: usize) -> Result<(), AllocError>
-    ensures same { (place : ℕ) → slot_at places.new.items place ≡ slot_at places.old.items place }
-    ensures room { OnOk result (count ≤ vec_len places.new) }
-    ensures most { vec_len places.new ≤ max (vec_len places.old) count }
+/// Makes room for so many slots. What the slots hold stays.
+fn make_room(slots: &mut Vec<Option<Instance>>, count: usize) -> Result<(), AllocError>
+    ensures same { (slot : ℕ) → slot_at slots.new.items slot ≡ slot_at slots.old.items slot }
+    ensures room { OnOk result (count ≤ vec_len slots.new) }
 {
-    while places.len() < count {
-        places.push(None)?;
+    while slots.len() < count {
+        slots.push(None)?;
     }
     Ok(())
 }
@@ -194,48 +341,4 @@ fn take_in(
     let taken = instance.take(sizes, packet.kind(), packet.from(), packet.command())?;
     *slot = Some(instance);
     Ok(taken)
-}
-
-/// The first place from `start` on that is not delivered, if all before it are.
-fn run_end(places: &[Option<Instance>], start: u32) -> u32
-    requires run { (place : ℕ) → place < start → IsSome (delivered_in (slot_at places.now place)) }
-    requires in_range { length places.now ≤ place_count }
-    ensures run { (place : ℕ) → place < result → IsSome (delivered_in (slot_at places.now place)) }
-    ensures run_ends { delivered_in (slot_at places.now result) ≡ None }
-    ensures onward { start ≤ result }
-{
-    let mut reach = start;
-    while delivered_at(places, reach as usize).is_some() {
-        reach += 1;
-    }
-    reach
-}
-
-/// The command that is delivered at a place.
-fn delivered_at(places: &[Option<Instance>], place: usize) -> Option<Command>
-    ensures { result ≡ delivered_in (slot_at places.now place) }
-{
-    instance_at(places, place)?.delivered()
-}
-
-/// Whether a packet changes nothing at its place.
-fn voted_at(places: &[Option<Instance>], packet: &Packet) -> bool
-    ensures seen { result ≡ voted_in (slot_at places.now packet.now.place) packet.now.kind packet.now.from }
-    ensures vote { (s : Counts) (takes : List Take) (owner : ℕ) →
-        state_in s (slot_at places.now packet.now.place) ≡ state s takes →
-        SendsAreFrom owner (takes ++ take_of packet.now ∷ []) →
-        result ≡ is_some (vote packet.now.kind packet.now.from takes) }
-{
-    let place = usize::from(packet.place());
-    match instance_at(places, place) {
-        Some(instance) => instance.voted(packet.kind(), packet.from()),
-        None => false,
-    }
-}
-
-/// The instance at a place.
-fn instance_at(places: &[Option<Instance>], place: usize) -> Option<&Instance>
-    ensures { option_copied result ≡ slot_at places.now place }
-{
-    places.get(place)?.as_ref()
 }

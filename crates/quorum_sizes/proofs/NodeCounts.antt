@@ -137,6 +137,16 @@ len-count (suc n) names below = at_last n names below (sets.contains names n) re
         rest names (λ name h. smaller n name (below name h) (λ e. true≢false (sym h ∙ ap (sets.contains names) e ∙ lacks)))
         ∙ ap (λ b. cond b (suc (count (sets.contains names) n)) (count (sets.contains names) n)) (sym lacks)
 
+count-most : (p : ℕ → Bool) (n : ℕ) → count p n ≤ n
+count-most p zero = omega arith
+count-most p (suc n) =
+    let below = count-most p n in
+    elim (p n) as (λ b. cond b (suc (count p n)) (count p n) ≤ suc n) [ true ↦ omega arith | false ↦ omega arith ]
+
+-- there are no more numbers below n than n
+pub len_below : (n : ℕ) (names : Nodes) → AreBelow n names → sets.len names ≤ n
+len_below n names below = omega (arith, len-count n names below, count-most (sets.contains names) n)
+
 -- Two quorums of echoes.
 
 pub quorums_share : (s : Counts) → AreSizes s → (a b : Nodes) → AreNodes s a → AreNodes s b

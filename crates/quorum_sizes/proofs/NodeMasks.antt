@@ -1,6 +1,6 @@
 -- What is done to a machine word, and what that does to the names that it holds.
 use Rattle.std.proofs.Common.{◌≡◌, ℕ, zero, suc, ◌+◌, ◌-◌, ◌*◌, ◌/◌, ◌%◌, ◌^◌, ◌==◌, ◌<◌, ◌≤◌, Bool, true, false, cond, not, ◌&&◌, ◌||◌, refl, sym, ◌∙◌, ap, arith, nat_lt, bit_and, bit_or, min, w64, Bor}
-use Rattle.std.proofs.lemmas.Bool.{lt-ltb, le-ltb, eqb-true, eqb-false, eq-eqb, ltb-true}
+use Rattle.std.proofs.lemmas.Bool.{ltb-true, and_parts, lt-ltb, le-ltb, eqb-true, eqb-false, eq-eqb, ltb-true}
 use Rattle.std.proofs.lemmas.Nat.{and_mask, ones_cat, or_lt, pow_pos}
 use Rattle.std.proofs.lemmas.Nat.Bits.{bit_at-lt, bit_at_and, bit_at_set_same, bit_at_set_other, bit_at-zero, ones_shr}
 use Rattle.std.proofs.Math.Nat.{mod-eq_of_lt, mod-lt}
@@ -12,7 +12,7 @@ use Rattle.std.specs.FinSet as sets
 use Rattle.quorum_sizes.specs.Sizes.{Counts, most_nodes}
 use Rattle.quorum_sizes.specs.NodeSets.{Nodes, nodes_among}
 use Rattle.quorum_sizes.specs.NodeWords.{has_bit, names_below, names_in, contains-names_below, bits_more}
-use Rattle.quorum_sizes.proofs.NodeCounts.{same_names, contains-insert, contains-nodes_among}
+use Rattle.quorum_sizes.proofs.NodeCounts.{len_below, same_names, contains-insert, contains-nodes_among}
 
 contains-names_in : (word name : ℕ) → sets.contains (names_in word) name ≡ (nat_lt name most_nodes && has_bit word name)
 contains-names_in word name = contains-names_below word most_nodes name
@@ -176,3 +176,9 @@ len-among s word n few same =
     ∙ ap ones (and_mask word s.nodes)
     ∙ sym (len-names_below word s.nodes)
     ∙ ap sets.len (names_below-among s word few)
+
+-- a word holds no more names than there may be nodes
+pub len-most : (word : ℕ) → sets.len (names_in word) ≤ most_nodes
+len-most word =
+    len_below most_nodes (names_in word) (λ name has.
+    ltb-true name most_nodes (and_parts (nat_lt name most_nodes) (has_bit word name) (sym (contains-names_in word name) ∙ has)).0)

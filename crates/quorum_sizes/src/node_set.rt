@@ -1,6 +1,6 @@
 ghost use Rattle.std.specs.Prelude.{◌≡◌, ◌<◌, ◌≤◌, ◌==◌, not};
 ghost use Rattle.std.specs.FinSet as sets;
-ghost use Rattle.quorum_sizes.specs.Sizes.{echo_quorum_of};
+ghost use Rattle.quorum_sizes.specs.Sizes.{most_nodes, echo_quorum_of};
 ghost use Rattle.quorum_sizes.specs.NodeSets.{AreNodes, nodes_among};
 
 use crate::name::NodeName;
@@ -49,6 +49,7 @@ impl NodeSet {
     pub fn insert(&mut self, name: NodeName) -> bool
         ensures set { self.new ≡ sets.insert self.old name }
         ensures fresh { result ≡ not (sets.contains self.old name) }
+        ensures most { sets.len self.new ≤ most_nodes }
     {
         let fresh = !self.contains(name);
         self.word |= 1 << name.index();

@@ -1,13 +1,9 @@
-use Rattle.std.proofs.Common.{◌≡◌, ℕ, ◌≤◌, ◌-◌, vec_len}
-use Rattle.std.specs.Prelude.{max}
+use Rattle.std.proofs.Common.{◌≡◌, ℕ, ◌-◌, vec_len}
 use Rattle.owner_streams.specs.Slots.{slot_at}
 use Rattle.owner_streams.proofs.owner_stream.make_room.Given as goal
 
-abbrev pub invariant-loop-places : goal.invariant-loop-places
-invariant-loop-places l = record {
-  same : (place : ℕ) → slot_at l.places.items place ≡ slot_at l.initial.places.items place;
-  most : vec_len l.places ≤ max (vec_len l.initial.places) l.count;
-}
+abbrev pub invariant-loop-slots : goal.invariant-loop-slots
+invariant-loop-slots l = (slot : ℕ) → slot_at l.slots.items slot ≡ slot_at l.initial.slots.items slot
 
-abbrev pub decreases-loop-places : goal.decreases-loop-places
-decreases-loop-places l = l.count - vec_len l.places
+abbrev pub decreases-loop-slots : goal.decreases-loop-slots
+decreases-loop-slots l = l.count - vec_len l.slots

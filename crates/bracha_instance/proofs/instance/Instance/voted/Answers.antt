@@ -2,7 +2,6 @@ use Rattle.std.proofs.Common.{ap, sym, ◌∙◌}
 use Rattle.link_frames.specs.declared.kind.Kind.TheVariants.{Send, Echo, Ready}
 use Rattle.bracha_instance.specs.Taking.{has_voted}
 use Rattle.bracha_instance.proofs.Counting.{voted_at}
-use Rattle.bracha_instance.proofs.VoteMaps.{contains-names_of}
 use Rattle.bracha_instance.proofs.instance.Instance.voted.Goals as goal
 
 pub returns-in-Send-clause-vote : goal.returns-in-Send-clause-vote
@@ -12,24 +11,16 @@ returns-in-Send-clause-vote c = λ s takes owner command.
     ∙ ap (λ st. has_voted st Send c.args.from) c.self.view_is
     ∙ ap (λ kind. has_voted c.args.self.now kind c.args.from) (sym c.in-Send.is))
 
-pub returns-in-Echo-clause-seen : goal.returns-in-Echo-clause-seen
-returns-in-Echo-clause-seen c =
-    c.has.ensures
-    ∙ sym (contains-names_of c.self.inside.echoes c.args.from)
-    ∙ ap (λ st. has_voted st Echo c.args.from) c.self.view_is
-    ∙ ap (λ kind. has_voted c.args.self.now kind c.args.from) (sym c.in-Echo.is)
-
 pub returns-in-Echo-clause-vote : goal.returns-in-Echo-clause-vote
 returns-in-Echo-clause-vote c = λ s takes owner command.
-    voted_at s takes owner c.args.kind c.args.from command c.args.self.now _ (returns-in-Echo-clause-seen c)
-
-pub returns-in-Ready-clause-seen : goal.returns-in-Ready-clause-seen
-returns-in-Ready-clause-seen c =
-    c.has-in-Ready.ensures
-    ∙ sym (contains-names_of c.self.inside.readies c.args.from)
-    ∙ ap (λ st. has_voted st Ready c.args.from) c.self.view_is
-    ∙ ap (λ kind. has_voted c.args.self.now kind c.args.from) (sym c.in-Ready.is)
+    voted_at s takes owner c.args.kind c.args.from command c.args.self.now _
+    (c.contains.ensures
+    ∙ ap (λ st. has_voted st Echo c.args.from) c.self.view_is
+    ∙ ap (λ kind. has_voted c.args.self.now kind c.args.from) (sym c.in-Echo.is))
 
 pub returns-in-Ready-clause-vote : goal.returns-in-Ready-clause-vote
 returns-in-Ready-clause-vote c = λ s takes owner command.
-    voted_at s takes owner c.args.kind c.args.from command c.args.self.now _ (returns-in-Ready-clause-seen c)
+    voted_at s takes owner c.args.kind c.args.from command c.args.self.now _
+    (c.contains-in-Ready.ensures
+    ∙ ap (λ st. has_voted st Ready c.args.from) c.self.view_is
+    ∙ ap (λ kind. has_voted c.args.self.now kind c.args.from) (sym c.in-Ready.is))

@@ -1,6 +1,6 @@
 use Rattle.std.proofs.Common.{◌≡◌, ◌∙◌, arith}
 use Rattle.owner_streams.specs.Steps.{again_due}
-use Rattle.owner_streams.specs.Slots.{slot_at}
+use Rattle.owner_streams.specs.Kept.{held}
 use Rattle.owner_streams.proofs.Reaching.{again_is}
 use Rattle.owner_streams.proofs.Owners.{is_owners, by_owner}
 use Rattle.owner_streams.proofs.streams.Streams.again.Goals as goal
@@ -11,4 +11,4 @@ returns c =
     (is_owners (omega arith) c.self.invariant.one_each c.requires c.self.view_is c.index-2.ensures)
     (λ packets is. c.again.ensures
     ∙ again_is c.self.inside.sizes c.args.owner c.args.place
-    (slot_at c.index-2.result.now.places.items c.args.place) packets (is.at_each_place c.args.place))
+    (held c.index-2.result.now c.args.place) packets (is.at_each_place c.args.place))

@@ -1,0 +1,10 @@
+use Rattle.std.proofs.Common.{sym, ap, ◌∙◌, subst}
+use Rattle.bracha_instance.specs.Tallies.{tallied, AreTallies}
+use Rattle.bracha_instance.proofs.TallyLemmas.{tallied-none, AreTallies-none}
+use Rattle.bracha_instance.proofs.tallies.Tallies.forget.Goals as goal
+
+pub invariant_of-self : goal.invariant_of-self
+invariant_of-self c = subst AreTallies (sym c.new.ensures.items) AreTallies-none
+
+pub returns : goal.returns
+returns c = ap tallied c.new.ensures.items ∙ tallied-none

@@ -1,0 +1,133 @@
+-- How an instance keeps its votes: for each command that has one, the names of those that echoed it and of those
+-- that are ready for it. Serves the models of the code, and no contract.
+use Rattle.std.specs.Prelude.{◌≡◌, ◌≢◌, ◌<◌, ℕ, zero, suc, ◌+◌, Bool, true, false, if◌then◌else◌, List, [], ◌∷◌, ◌++◌, map, All, AllPairs, refl}
+use Rattle.std.specs.Coded.{Coded, code_by, coded×, coded_list}
+use Rattle.std.specs.List.{list_any}
+use Rattle.std.specs.FinMap as maps
+use Rattle.std.specs.FinSet as sets
+use Rattle.role_commands.specs.Same.{same_command}
+use Rattle.role_commands.specs.declared.command.Command.{Command}
+use Rattle.bracha_instance.specs.Broadcast.{Names}
+use Rattle.bracha_instance.specs.States.{Votes}
+use Rattle.bracha_instance.specs.Kept.{command_code, votes_code}
+use Rattle.bracha_instance.specs.Next.{supporters_in}
+use Rattle.bracha_instance.specs.declared.tallies.Tally.{Tally}
+use Rattle.bracha_instance.specs.declared.tallies.Support.{Support}
+
+-- the votes of both kinds, and the commands that have one, in the order of their first votes
+pub record Tallied : Type 0 where
+  pub echoes : Votes
+  pub readies : Votes
+  pub commands : List Command
+
+abbrev pub no_votes : Tallied
+no_votes = record { echoes = maps.empty; readies = maps.empty; commands = [] }
+
+-- the commands, with this one
+unfoldable pub with_command : Command → List Command → List Command
+with_command c commands = if list_any (same_command c) commands then commands else commands ++ c ∷ []
+
+abbrev pub with_echo : Tallied → ℕ → Command → Tallied
+with_echo v name c =
+    record { echoes = maps.insert v.echoes name c; readies = v.readies; commands = with_command c v.commands }
+
+abbrev pub with_ready : Tallied → ℕ → Command → Tallied
+with_ready v name c =
+    record { echoes = v.echoes; readies = maps.insert v.readies name c; commands = with_command c v.commands }
+
+-- how many nodes support c
+abbrev pub support_of : Tallied → Command → Support
+support_of v c =
+    record { echoes = sets.len (supporters_in c v.echoes); readies = sets.len (supporters_in c v.readies) }
+
+-- the command has a vote
+abbrev pub HasVote : Tallied → Command → Type 0
+HasVote v c = 0 < (support_of v c).echoes + (support_of v c).readies
+
+-- its commands are those that have a vote, each once
+pub record AreVoted (v : Tallied) : Type 0 where
+  pub once : AllPairs ◌≢◌ v.commands
+  pub voted : All (HasVote v) v.commands
+  pub all : (c : Command) → HasVote v c → list_any (same_command c) v.commands ≡ true
+
+-- a command with the names of its votes of one kind
+abbrev pub Row : Type 0
+Row = Command × Names
+
+abbrev pub echo_row : Tally → Row
+echo_row t = (t.command, t.echoes)
+
+abbrev pub ready_row : Tally → Row
+ready_row t = (t.command, t.readies)
+
+-- each of the names votes for c
+unfoldable pub vote_all : Command → List ℕ → Votes → Votes
+vote_all c [] v = v
+vote_all c (name ∷ names) v = maps.insert (vote_all c names v) name c
+
+-- the votes that these rows keep
+unfoldable pub votes_in : List Row → Votes
+votes_in [] = maps.empty
+votes_in (row ∷ rows) = vote_all row.0 (sets.items row.1) (votes_in rows)
+
+-- the names in the row of c
+unfoldable pub names_for : Command → List Row → Names
+names_for c [] = sets.empty
+names_for c (row ∷ rows) = if same_command c row.0 then row.1 else names_for c rows
+
+-- the supporters of each command are those in its row
+abbrev pub RowsAgree : List Row → Type 0
+RowsAgree rows = (c : Command) → supporters_in c (votes_in rows) ≡ names_for c rows
+
+abbrev pub command_in : Tally → Command
+command_in t = t.command
+
+abbrev pub is_tally_of : Command → Tally → Bool
+is_tally_of c t = same_command c t.command
+
+-- the first tally of c is at this place
+abbrev pub IsFirst : Command → List Tally → ℕ → Type 0
+IsFirst c [] at = ⊥
+IsFirst c (t ∷ tallies) zero = is_tally_of c t ≡ true
+IsFirst c (t ∷ tallies) (suc at) = (is_tally_of c t ≡ false) × IsFirst c tallies at
+
+-- the tallies, with a change of that of c, which is new where there is none
+unfoldable pub with_tally : (Tally → Tally) → Command → List Tally → List Tally
+with_tally change c [] = change (record { command = c; echoes = sets.empty; readies = sets.empty }) ∷ []
+with_tally change c (t ∷ tallies) =
+    if is_tally_of c t then change t ∷ tallies else t ∷ with_tally change c tallies
+
+abbrev pub echoed_by : ℕ → Tally → Tally
+echoed_by name t = record t { echoes = sets.insert t.echoes name }
+
+abbrev pub ready_by : ℕ → Tally → Tally
+ready_by name t = record t { readies = sets.insert t.readies name }
+
+-- how many names the tally of c has
+abbrev pub support_in : Command → List Tally → Support
+support_in c tallies =
+    record {
+      echoes = sets.len (names_for c (map echo_row tallies));
+      readies = sets.len (names_for c (map ready_row tallies));
+    }
+
+unfoldable pub tallied : List Tally → Tallied
+tallied tallies =
+    record {
+      echoes = votes_in (map echo_row tallies);
+      readies = votes_in (map ready_row tallies);
+      commands = map command_in tallies;
+    }
+
+pub record AreTallies (tallies : List Tally) : Type 0 where
+  pub echoes : RowsAgree (map echo_row tallies)
+  pub readies : RowsAgree (map ready_row tallies)
+  pub voted : AreVoted (tallied tallies)
+
+-- they are stored as their fields
+abbrev pub tallied_code : Coded Tallied
+tallied_code =
+    code_by (Votes × (Votes × List Command)) (coded× votes_code (coded× votes_code (coded_list command_code)))
+    (λ v. (v.echoes, (v.readies, v.commands)))
+    (λ p. record { echoes = p.0; readies = p.1.0; commands = p.1.1 })
+    (λ _. refl)

@@ -1,0 +1,151 @@
+ghost use Rattle.std.specs.Prelude.{◌≡◌, List, [], ◌∷◌, ◌++◌, ℕ, is_some, Some};
+ghost use Rattle.std.specs.FinMap as maps;
+ghost use Rattle.quorum_sizes.specs.Sizes.{Counts};
+ghost use Rattle.bracha_instance.specs.Broadcast.{Take, vote};
+ghost use Rattle.bracha_instance.specs.States.{state};
+ghost use Rattle.bracha_instance.specs.Taking.{SendsAreFrom, has_voted, effect_of, newly_sent, newly_delivered};
+ghost use Rattle.bracha_instance.specs.Next.{after_kind};
+
+use crate::instance::{Effect, Taken, first_of, message_for, newly_of};
+use link_frames::Kind;
+use quorum_sizes::{NodeName, NodeSet};
+use role_commands::Command;
+use std::marker::Model;
+
+/// What stays of an instance that has delivered: who has voted, and what was echoed, readied and delivered. It
+/// takes further messages, none of which can make it readier or deliver again, and never takes memory.
+///
+/// Contracts see it as its `State`, in which something is delivered.
+#[derive(Drop)]
+pub struct Record {
+    echoed: Option<Command>,
+    readied: Option<Command>,
+    delivered: Command,
+    echoers: NodeSet,
+    readiers: NodeSet,
+}
+
+impl Model for Record {
+    ghost use Rattle.bracha_instance.specs.States.{State};
+    ghost use Rattle.bracha_instance.specs.Kept.{state_code};
+
+    ghost Value = { State };
+
+    ghost coded = { state_code };
+
+    ghost use Rattle.bracha_instance.specs.Instances.{record_state};
+
+    ghost view = { record_state };
+}
+
+impl Record {
+    pub(crate) fn new(
+        echoed: Option<Command>,
+        readied: Option<Command>,
+        delivered: Command,
+        echoers: NodeSet,
+        readiers: NodeSet,
+    ) -> Self
+        ensures { result ≡ record {
+          echoed = echoed;
+          readied = readied;
+          delivered = Some delivered;
+          echoers = echoers;
+          readiers = readiers;
+          echo_votes = maps.empty;
+          ready_votes = maps.empty;
+        } }
+    {
+        Record {
+            echoed,
+            readied,
+            delivered,
+            echoers,
+            readiers,
+        }
+    }
+
+    /// Takes a message, as [`Instance::take`](crate::Instance::take) does.
+    pub fn take(&mut self, kind: Kind, from: NodeName, command: Command) -> Taken
+        ensures state { let t : Take = record { kind = kind; from = from; command = command } in
+            (s : Counts) (takes : List Take) →
+            self.old ≡ state s takes → self.new ≡ state s (takes ++ t ∷ []) }
+        ensures effect { let t : Take = record { kind = kind; from = from; command = command } in
+            (s : Counts) (takes : List Take) (owner : ℕ) →
+            self.old ≡ state s takes → SendsAreFrom owner (takes ++ t ∷ []) →
+            result.effect ≡ effect_of takes t }
+        ensures broadcast { let t : Take = record { kind = kind; from = from; command = command } in
+            (s : Counts) (takes : List Take) →
+            self.old ≡ state s takes → result.broadcast ≡ newly_sent s takes (takes ++ t ∷ []) }
+        ensures delivered { let t : Take = record { kind = kind; from = from; command = command } in
+            (s : Counts) (takes : List Take) →
+            self.old ≡ state s takes → result.delivered ≡ newly_delivered s takes (takes ++ t ∷ []) }
+        ensures idle { result.effect ≡ Effect.Idle → self.new ≡ self.old }
+    {
+        if self.voted(kind, from) {
+            return Taken {
+                effect: Effect::Idle,
+                broadcast: None,
+                delivered: None,
+            };
+        }
+        let echoed = self.echoed();
+        self.count(kind, from, command);
+        Taken {
+            effect: Effect::Counted,
+            broadcast: message_for(newly_of(echoed, self.echoed()), None),
+            delivered: None,
+        }
+    }
+
+    fn count(&mut self, kind: Kind, from: NodeName, command: Command)
+        ensures state { (s : Counts) → self.new ≡ after_kind s self.old kind from command }
+        ensures readied { self.new.readied ≡ self.old.readied }
+        ensures delivered { self.new.delivered ≡ self.old.delivered }
+    {
+        match kind {
+            Kind::Send => self.echoed = first_of(self.echoed, true, command),
+            Kind::Echo => {
+                self.echoers.insert(from);
+            }
+            Kind::Ready => {
+                self.readiers.insert(from);
+            }
+        }
+    }
+
+    /// Whether that node's message of that kind was taken: [`take`](Self::take) would answer that it is idle.
+    pub fn voted(&self, kind: Kind, from: NodeName) -> bool
+        ensures seen { result ≡ has_voted self.now kind from }
+        ensures vote { (s : Counts) (takes : List Take) (owner : ℕ) (command : Command) →
+            let t : Take = record { kind = kind; from = from; command = command } in
+            self.now ≡ state s takes → SendsAreFrom owner (takes ++ t ∷ []) → result ≡ is_some (vote kind from takes) }
+    {
+        match kind {
+            Kind::Send => self.echoed.is_some(),
+            Kind::Echo => self.echoers.contains(from),
+            Kind::Ready => self.readiers.contains(from),
+        }
+    }
+
+    /// The command for which this node sent ECHO.
+    pub fn echoed(&self) -> Option<Command>
+        ensures { result ≡ self.now.echoed }
+    {
+        self.echoed
+    }
+
+    /// The command for which this node sent READY.
+    pub fn readied(&self) -> Option<Command>
+        ensures { result ≡ self.now.readied }
+    {
+        self.readied
+    }
+
+    /// The command that this node delivered.
+    pub fn delivered(&self) -> Command
+        ensures { Some result ≡ self.now.delivered }
+    {
+        self.delivered
+    }
+}
