@@ -10,4 +10,8 @@ pub mod Safety
 pub mod Policy
 pub mod Counts
 pub mod Rest
+pub mod Computed
+pub mod Example
+pub mod Stepping
+pub mod Headline
 pub mod Exported

@@ -54,7 +54,7 @@ sent_before config liars run m node owner place t cluster from correct =
 
 -- First votes.
 
-abbrev IsFound : Kind → ℕ → List Take → Command → Type 0
+abbrev pub IsFound : Kind → ℕ → List Take → Command → Type 0
 IsFound kind name takes c = (t : Take) × IsIn takes t × (t.kind ≡ kind) × (t.from ≡ name) × (t.command ≡ c)
 
 vote_by : (kind : Kind) (name : ℕ) (takes : List Take) (c : Command) (o : Option Take)
@@ -66,7 +66,7 @@ vote_by kind name takes c (Some t) is e =
     let parts = and_parts _ _ found.1 in
     (t, found.0, sym (same_kind-true kind t.kind parts.0), sym (eqb-true name t.from parts.1), cc)
 
-vote_found : (kind : Kind) (name : ℕ) (takes : List Take) (c : Command) → vote kind name takes ≡ Some c
+pub vote_found : (kind : Kind) (name : ℕ) (takes : List Take) (c : Command) → vote kind name takes ≡ Some c
     → IsFound kind name takes c
 unfolding vote
 vote_found kind name takes c e = vote_by kind name takes c _ refl e

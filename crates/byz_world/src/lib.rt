@@ -9,5 +9,5 @@ pub mod laws;
 mod step;
 
 pub use faults::WorldFault;
-pub use laws::{law_at_rest, law_consistency, law_integrity, law_same_policy};
+pub use laws::{law_at_rest, law_consistency, law_headline, law_integrity, law_same_policy};
 pub use step::{Step, StepReply};
