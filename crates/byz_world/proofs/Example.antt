@@ -29,16 +29,17 @@ use Rattle.role_node.specs.declared.event.Event.{Event}
 use Rattle.role_node.specs.declared.event.Event.TheVariants.{Issue, Take}
 use Rattle.role_node.specs.declared.faults.NodeFault.TheVariants as fault
 use Rattle.byz_world.specs.Runs.{Run, history_of, is_correct, of_kind, has_sent, IsClusterRun}
-use Rattle.byz_world.specs.Example.{four, four_nodes, three_lies, user_seven, told_in_order, AnExample}
+use Rattle.byz_world.specs.Example.{four, four_nodes, three_lies, user_seven, told_in_order, example_run}
+use Rattle.byz_world.specs.Laws.{delivered_by}
 use Rattle.byz_world.proofs.Computed.{names_end, readied_now, readied-now, delivered-now}
 use Rattle.byz_world.proofs.Growing.{cluster_run_push, empty_run}
 
 -- Who is correct.
 
-abbrev honest : ℕ → Bool
+abbrev pub honest : ℕ → Bool
 honest name = nat_lt name 4 && not (list_any (λ y. nat_eq y name) (3 ∷ []))
 
-honest-is : (name : ℕ) → is_correct four three_lies name ≡ honest name
+pub honest-is : (name : ℕ) → is_correct four three_lies name ≡ honest name
 honest-is name = λ i. nat_lt name 4 && not (sets.contains-from_list_nat (3 ∷ []) name i)
 
 one_of_four : ((name : ℕ) → sets.contains (nodes_among four three_lies) name
@@ -46,16 +47,17 @@ one_of_four : ((name : ℕ) → sets.contains (nodes_among four three_lies) name
     → count (sets.contains (nodes_among four three_lies)) 4 ≡ 1
 one_of_four each = λ i. count (λ name. each name i) 4
 
-one_lies : sets.len (nodes_among four three_lies) ≤ 1
-one_lies =
+liars_counted : sets.len (nodes_among four three_lies) ≡ 1
+liars_counted =
     let each : (name : ℕ) → sets.contains (nodes_among four three_lies) name
     ≡ (list_any (λ y. nat_eq y name) (3 ∷ []) && nat_lt name 4) =
     λ name. contains-nodes_among four three_lies name
     ∙ (λ i. sets.contains-from_list_nat (3 ∷ []) name i && nat_lt name 4) in
-    let counted : sets.len (nodes_among four three_lies) ≡ 1 =
     len-count 4 (nodes_among four three_lies) (λ name is. ltb-true name 4 (and_parts _ _ (sym (each name) ∙ is)).1)
-    ∙ one_of_four each in
-    omega arith
+    ∙ one_of_four each
+
+one_lies : sets.len (nodes_among four three_lies) ≤ 1
+one_lies = omega (arith, liars_counted)
 
 -- The first event.
 
@@ -186,11 +188,10 @@ all_told : all_follow ((0, Issue user_seven) ∷ []) told_in_order ≡ true
 unfolding all_follow history_of issued packets takes_at vote echoed at_first_prefix names_end
 all_told = refl
 
-pub an_example : AnExample
+pub example_is_run : IsClusterRun four_nodes three_lies example_run
+example_is_run = goes_on ((0, Issue user_seven) ∷ []) told_in_order first_run all_told
+
+pub example_delivers : (delivered_by four_nodes example_run 0 0 0 ≡ Some user_seven)
+    × (delivered_by four_nodes example_run 1 0 0 ≡ Some user_seven)
 unfolding history_of packets takes_at vote at_first_prefix names_end
-an_example = (
-  goes_on ((0, Issue user_seven) ∷ []) told_in_order first_run all_told,
-  delivered-now four _
-      ∙ refl,
-  delivered-now four _ ∙ refl,
-)
+example_delivers = (delivered-now four _ ∙ refl, delivered-now four _ ∙ refl)

@@ -12,6 +12,7 @@ pub mod Counts
 pub mod Rest
 pub mod Computed
 pub mod Example
+pub mod ExampleRests
 pub mod Stepping
 pub mod Headline
 pub mod Exported

@@ -32,6 +32,9 @@ some_value : {A : Type 0} (o : Option A) → IsSome o → (x : A) × (o ≡ Some
 some_value None is = absurd cc
 some_value (Some x) is = (x, refl)
 
+some_same : {A : Type 0} (o : Option A) (x y : A) → o ≡ Some x → x ≡ y → o ≡ Some y
+some_same o x y e same = e ∙ ap Some same
+
 -- answers are one where each says what the other does
 same_answer : {A : Type 0} (a b : Option A) → ((x : A) → a ≡ Some x → b ≡ Some x) → ((x : A) → b ≡ Some x → a ≡ Some x)
     → a ≡ b
@@ -180,7 +183,7 @@ module _ (config : ConfigValue) (liars : Nodes) (run : Run) (cluster : IsCluster
       ))
       (omega arith) in
       let now = deliver_now j owner place c correct ready in
-      now.1 ∙ ap Some (deliver_one config liars run cluster j i owner place now.0 c now.1 e)
+      some_same _ now.0 c now.1 (deliver_one config liars run cluster j i owner place now.0 c now.1 e)
 
   -- A correct owner's command.
 

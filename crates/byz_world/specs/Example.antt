@@ -13,6 +13,7 @@ use Rattle.link_frames.specs.Packets.{PacketValue}
 use Rattle.role_node.specs.Configs.{ConfigValue}
 use Rattle.role_node.specs.declared.event.Event.TheVariants.{Issue, Take}
 use Rattle.byz_world.specs.Laws.{delivered_by}
+use Rattle.byz_world.specs.Resting.{IsAtRest}
 use Rattle.byz_world.specs.Runs.{Run, IsClusterRun}
 
 abbrev pub four : Counts
@@ -49,9 +50,9 @@ told_in_order =
 abbrev pub example_run : Run
 example_run = (0, Issue user_seven) ∷ map (λ p. (p.to, Take p)) told_in_order
 
--- It is a run of a cluster, and two correct nodes deliver the command.
-abbrev pub AnExample : Type 0
-AnExample =
-    IsClusterRun four_nodes three_lies example_run
-    × (delivered_by four_nodes example_run 0 0 0 ≡ Some user_seven)
-    × (delivered_by four_nodes example_run 1 0 0 ≡ Some user_seven)
+-- It is a run of a cluster, which is at rest, and two correct nodes deliver the command.
+pub record AnExample : Type 0 where
+  pub is_run : IsClusterRun four_nodes three_lies example_run
+  pub rests : IsAtRest four_nodes three_lies example_run
+  pub delivered_at_zero : delivered_by four_nodes example_run 0 0 0 ≡ Some user_seven
+  pub delivered_at_one : delivered_by four_nodes example_run 1 0 0 ≡ Some user_seven

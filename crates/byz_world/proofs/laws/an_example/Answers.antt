@@ -1,4 +1,4 @@
-use Rattle.byz_world.proofs.Example.{an_example}
+use Rattle.byz_world.proofs.ExampleRests.{an_example}
 use Rattle.byz_world.proofs.laws.an_example.Goals as goal
 
 pub returns : goal.returns
