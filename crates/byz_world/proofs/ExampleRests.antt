@@ -1,5 +1,5 @@
 -- The run of four nodes is at rest: each message that a correct node has sent, each correct node has taken.
-use Rattle.std.proofs.Common.{◌≡◌, ℕ, zero, suc, ◌<◌, Bool, true, false, ◌==◌, ◌&&◌, if◌then◌else◌, List, [], ◌∷◌, length, slice_get, Contains, Option, Some, None, refl, sym, ap, ◌∙◌, subst, arith, ltb-true, eqb-true}
+use Rattle.std.proofs.Common.{◌≡◌, ℕ, zero, suc, ◌<◌, Bool, true, ◌==◌, ◌&&◌, List, [], ◌∷◌, length, slice_get, Contains, Option, Some, None, refl, sym, ap, ◌∙◌, subst, arith, ltb-true, eqb-true}
 use Rattle.std.specs.List.{list_all}
 use Rattle.std.proofs.lemmas.Bool.{and_parts}
 use Rattle.role_commands.specs.declared.command.Command.{Command}
@@ -20,7 +20,7 @@ use Rattle.byz_world.proofs.Computed.{names_end, readied-now}
 use Rattle.byz_world.proofs.Example.{honest, honest-is, example_is_run, example_delivers}
 use Rattle.byz_world.proofs.Histories.{taken_by, taken_whole, IsTakenIn, taken_in}
 use Rattle.byz_world.proofs.Pooled.{pooled_is_sent, has_sent_is}
-use Rattle.byz_world.proofs.Votes.{said_by}
+use Rattle.byz_world.proofs.Votes.{said_by, if_own}
 
 -- a correct node is one of three
 by_name : (P : ℕ → Type 0) → P 0 → P 1 → P 2 → (name : ℕ) → honest name ≡ true → P name
@@ -64,10 +64,6 @@ instance_by node owner place (t ∷ ts) is some =
 
 -- What each correct node has sent: it echoed the command and is ready for it, and node 0 published it.
 
-abbrev SaidOnly : ℕ → Kind → ℕ → ℕ → Command → Type 0
-SaidOnly name kind owner place c =
-    said_by four example_run name kind owner place ≡ Some c → (owner ≡ 0) × (place ≡ 0) × (c ≡ user_seven)
-
 nothing : (A : Type 0) (o : Option Command) (c : Command) → o ≡ None → o ≡ Some c → A
 nothing A o c e f = absurd cc
 
@@ -103,10 +99,6 @@ issued_by name is =
     (λ place c e. let once = issued_once place c e in (refl, once.0, once.1))
     (λ place c e. absurd cc) (λ place c e. absurd cc) name is
 
-own_by : (b : Bool) (o : Option Command) (c : Command) → (if b then o else None) ≡ Some c → (b ≡ true) × (o ≡ Some c)
-own_by true o c e = (refl, e)
-own_by false o c e = absurd cc
-
 abbrev FromZero : Kind → ℕ → Type 0
 FromZero kind name = kind ≡ Send → name ≡ 0
 
@@ -114,7 +106,7 @@ said_only : (name : ℕ) (kind : Kind) (owner place : ℕ) (c : Command) → hon
     said_by four example_run name kind owner place ≡ Some c
     → ((owner ≡ 0) × (place ≡ 0) × (c ≡ user_seven)) × FromZero kind name
 said_only name Send owner place c is e =
-    let own = own_by (owner == name) _ c e in
+    let own = if_own (owner == name) _ c e in
     let here = issued_by name is place c own.1 in
     ((eqb-true owner name own.0 ∙ here.0, here.1, here.2), λ _. here.0)
 said_only name Echo owner place c is e =

@@ -5,7 +5,6 @@ use Rattle.std.proofs.lemmas.Bool.{ltb-false}
 use Rattle.std.proofs.lemmas.List.Elements.{All-head, All-tail}
 use Rattle.quorum_sizes.specs.Sizes.{Counts, AreSizes}
 use Rattle.quorum_sizes.specs.NodeSets.{Nodes}
-use Rattle.role_commands.specs.declared.command.Command.{Command}
 use Rattle.link_frames.specs.Packets.{PacketValue, SentByOwner, message_of}
 use Rattle.link_frames.specs.declared.kind.Kind.TheVariants.{Send}
 use Rattle.role_node.specs.Configs.{ConfigValue}
@@ -25,6 +24,7 @@ use Rattle.byz_world.specs.declared.faults.WorldFault.TheVariants as fault
 use Rattle.byz_world.proofs.Elements.{contained}
 use Rattle.byz_world.proofs.Growing.{MayFollow, cluster_run_push, empty_run}
 use Rattle.byz_world.proofs.Pooled.{pooled_is_sent, has_sent_is}
+use Rattle.byz_world.proofs.Votes.{if_own}
 
 -- what arrives may follow the run
 abbrev IsWell : WorldValue → Arrival → Type 0
@@ -39,17 +39,13 @@ either w false x y this that = that refl
 
 -- A SEND of the pool is its owner's.
 
-own_by : (b : Bool) (o : Option Command) (c : Command) → (if b then o else None) ≡ Some c → b ≡ true
-own_by true o c e = refl
-own_by false o c e = absurd cc
-
 pooled_send : (s : Counts) (run : Run) (p : PacketValue) → has_sent s run p.from (message_of p) ≡ true → SentByOwner p
 pooled_send s run p sent is =
     let said : of_kind p.kind (sent_at s p.from (history_of p.from run) p.owner p.place) ≡ Some p.command =
     has_sent_is s run p.from (message_of p) sent in
     let as_send : of_kind Send (sent_at s p.from (history_of p.from run) p.owner p.place) ≡ Some p.command =
     ap (λ k. of_kind k (sent_at s p.from (history_of p.from run) p.owner p.place)) (sym is) ∙ said in
-    sym (eqb-true p.owner p.from (own_by (p.owner == p.from) _ p.command as_send))
+    sym (eqb-true p.owner p.from (if_own (p.owner == p.from) _ p.command as_send).0)
 
 module _ (w : WorldValue) (cluster : IsClusterRun w.config w.liars w.run) where
   unless_full : (pair : ℕ × Event) → MayFollow w.config w.liars w.run pair.0 pair.1 → IsWell w (unless_pool_full w pair)
