@@ -32,7 +32,7 @@ len-supporters kind c takes =
     len-count (names_end takes) (supporters kind c takes)
     (λ name is.
     let found = vote_found kind name takes c (supporter_voted kind c takes name is) in
-    rw found.name_is at (below_end takes found.message found.there.0 found.there.1))
+    rw found.3 at (below_end takes found.0 found.1.0 found.1.1))
     ∙ (λ i. count (λ name. contains-supporters kind c takes name i) (names_end takes))
 
 abbrev pub readied_now : Counts → List Take → Option Command

@@ -17,7 +17,7 @@ use Rattle.role_node.specs.Access.{relations_at, session_at}
 use Rattle.byz_world.proofs.Elements.{number_of}
 use Rattle.byz_world.proofs.Lists.{found_there}
 use Rattle.byz_world.proofs.Safety.{integrity, deliver_one, streamed}
-use Rattle.byz_world.proofs.Stepping.{run_of_steps}
+use Rattle.byz_world.proofs.StepsKeep.{run_of_steps}
 
 empty_if : (xs : List ℕ) → (length xs == 0) ≡ true → xs ≡ []
 empty_if [] is = refl

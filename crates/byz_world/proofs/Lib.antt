@@ -3,6 +3,10 @@ pub mod Sending
 pub mod Pushing
 pub mod Pooled
 pub mod Growing
+pub mod Ordered
+pub mod Making
+pub mod Numbering
+pub mod Recording
 pub mod Lists
 pub mod Histories
 pub mod Votes
@@ -13,6 +17,6 @@ pub mod Rest
 pub mod Computed
 pub mod Example
 pub mod ExampleRests
-pub mod Stepping
+pub mod StepsKeep
 pub mod Headline
 pub mod Exported

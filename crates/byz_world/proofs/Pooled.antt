@@ -207,7 +207,7 @@ sender_is_correct config liars run sent is c =
 
 -- A packet to each node.
 
-name_at : (nodes k : ℕ) → k < nodes → slice_get (range_with_len 0 nodes) k ≡ Some k
+pub name_at : (nodes k : ℕ) → k < nodes → slice_get (range_with_len 0 nodes) k ≡ Some k
 name_at nodes k h =
     slice_get-get_or (range_with_len 0 nodes) k 0 (omega (arith, length-range_with_len 0 nodes, h))
     ∙ ap Some (get_or-range_with_len 0 nodes k 0 h ∙ zero_more k)
@@ -216,7 +216,7 @@ name_at nodes k h =
     zero_more k = omega arith
 
 -- packet k of a message's is to node k
-number_in : (nodes : ℕ) (sent : Sent) (k : ℕ) (p : PacketValue) → slice_get (packets_of nodes sent) k ≡ Some p →
+pub number_in : (nodes : ℕ) (sent : Sent) (k : ℕ) (p : PacketValue) → slice_get (packets_of nodes sent) k ≡ Some p →
     (k < nodes) × (packet_of sent.0 k sent.1 ≡ p)
 number_in nodes sent k p at =
     let within : k < nodes =

@@ -54,13 +54,8 @@ sent_before config liars run m node owner place t cluster from correct =
 
 -- First votes.
 
--- the message that is the vote
-pub record IsFound (kind : Kind) (name : ℕ) (takes : List Take) (c : Command) : Type 0 where
-  pub message : Take
-  pub there : IsIn takes message
-  pub kind_is : message.kind ≡ kind
-  pub name_is : message.from ≡ name
-  pub command_is : message.command ≡ c
+abbrev pub IsFound : Kind → ℕ → List Take → Command → Type 0
+IsFound kind name takes c = (t : Take) × IsIn takes t × (t.kind ≡ kind) × (t.from ≡ name) × (t.command ≡ c)
 
 vote_by : (kind : Kind) (name : ℕ) (takes : List Take) (c : Command) (o : Option Take)
     → find (is_vote_of kind name) takes ≡ o →
@@ -69,13 +64,7 @@ vote_by kind name takes c None is e = absurd cc
 vote_by kind name takes c (Some t) is e =
     let found = found_in (is_vote_of kind name) takes t is in
     let parts = and_parts _ _ found.1 in
-    record {
-      message = t;
-      there = found.0;
-      kind_is = sym (same_kind-true kind t.kind parts.0);
-      name_is = sym (eqb-true name t.from parts.1);
-      command_is = cc;
-    }
+    (t, found.0, sym (same_kind-true kind t.kind parts.0), sym (eqb-true name t.from parts.1), cc)
 
 pub vote_found : (kind : Kind) (name : ℕ) (takes : List Take) (c : Command) → vote kind name takes ≡ Some c
     → IsFound kind name takes c
@@ -98,20 +87,20 @@ pub vote_before : (config : ConfigValue) (liars : Nodes) (run : Run) (m node own
 vote_before config liars run m node owner place takes cluster front kind name c e =
     let s = config.roles.sizes in
     let found : IsFound kind name takes c = vote_found kind name takes c e in
-    let t : Take = found.message in
+    let t : Take = found.0 in
     let from : IsTakenIn run m node owner place t =
-    taken_in m run node owner place t (in_front takes _ t front found.there) in
-    let sender : from.packet.from ≡ name = ap (λ x. x.from) from.message_is ∙ found.name_is in
+    taken_in m run node owner place t (in_front takes _ t front found.1) in
+    let sender : from.packet.from ≡ name = ap (λ x. x.from) from.message_is ∙ found.3 in
     let route = routed config node (history_of node run) from.number from.packet (cluster.legal node) from.in_history in
     record {
       at = from.at;
       before = from.before;
       of_node = rw sender at route.1;
       sent = λ correct.
-          sym (λ i. said_by s (take from.at run) (found.name_is i) (found.kind_is i) owner place)
+          sym (λ i. said_by s (take from.at run) (found.3 i) (found.2 i) owner place)
           ∙ sent_before config liars run m node owner place t cluster from
-          (ap (is_correct s liars) found.name_is ∙ correct)
-          ∙ ap Some found.command_is;
+          (ap (is_correct s liars) found.3 ∙ correct)
+          ∙ ap Some found.4;
     }
 
 -- an answer that is given under a test: the test holds, and that is the answer

@@ -9,3 +9,5 @@ pub mod Laws
 pub mod Inside
 pub mod Example
 pub mod Headline
+pub mod Fields
+pub mod Asking

@@ -6,8 +6,12 @@
 
 mod faults;
 pub mod laws;
+mod members;
+mod notes;
 mod step;
+mod world;
 
 pub use faults::WorldFault;
 pub use laws::{law_at_rest, law_consistency, law_headline, law_integrity, law_same_policy};
 pub use step::{Step, StepReply};
+pub use world::World;

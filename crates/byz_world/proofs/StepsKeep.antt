@@ -14,6 +14,7 @@ use Rattle.role_node.specs.Nodes.{due_at}
 use Rattle.role_node.specs.declared.event.Event.{Event}
 use Rattle.role_node.specs.declared.event.Event.TheVariants as event
 use Rattle.byz_world.specs.Headline.{IsStep}
+use Rattle.byz_world.specs.Inside.{MayFollow}
 use Rattle.byz_world.specs.Pools.{pool}
 use Rattle.byz_world.specs.Runs.{Run, history_of, of_kind, has_sent, IsClusterRun}
 use Rattle.byz_world.specs.Steps.{Arrival, arrival, unless_pool_full, is_pool_full, arrives, given, is_forged, recorded_pair, after_step, after_steps}
@@ -22,7 +23,7 @@ use Rattle.byz_world.specs.declared.step.Step.{Step}
 use Rattle.byz_world.specs.declared.step.Step.TheVariants.{Issue, Give, Lie, Client}
 use Rattle.byz_world.specs.declared.faults.WorldFault.TheVariants as fault
 use Rattle.byz_world.proofs.Elements.{contained}
-use Rattle.byz_world.proofs.Growing.{MayFollow, cluster_run_push, empty_run}
+use Rattle.byz_world.proofs.Growing.{cluster_run_push, empty_run}
 use Rattle.byz_world.proofs.Pooled.{pooled_is_sent, has_sent_is}
 use Rattle.byz_world.proofs.Votes.{if_own}
 
