@@ -1,6 +1,6 @@
 -- The promise, from the laws of every run and the rules of a decision.
-use Rattle.std.proofs.Common.{◌≡◌, ◌≢◌, ℕ, zero, suc, Bool, true, false, not, ◌==◌, if◌then◌else◌, List, [], ◌∷◌, length, take, find, filter, slice_get, Contains, Option, Some, None, refl, sym, ap, ◌∙◌, subst, ◌≤◌, arith, eqb-true}
-use Rattle.std.proofs.lemmas.Bool.{not-true, not-false, eqb-false}
+use Rattle.std.proofs.Common.{◌≡◌, ◌≢◌, ℕ, zero, suc, Bool, true, false, not, ◌==◌, if◌then◌else◌, List, [], ◌∷◌, length, take, find, filter, slice_get, Contains, Option, Some, None, refl, sym, ap, ◌∙◌, subst, ◌≤◌, arith, eqb-true, subst₂, All}
+use Rattle.std.proofs.lemmas.Bool.{not-true, not-false, eqb-false, ltb-false}
 use Rattle.role_commands.specs.declared.command.Command.{Command}
 use Rattle.role_sessions.specs.Sessions.{Session}
 use Rattle.role_sessions.specs.Decisions.{Relations, SessionMay, counted_roles, verdict, allowed}
@@ -11,13 +11,20 @@ use Rattle.role_sessions.specs.declared.verdict.Verdict.TheVariants.{Allow, Deny
 use Rattle.byz_world.specs.Headline.{IsFirstRule, IsRightDecision, Headline}
 use Rattle.byz_world.specs.Laws.{stream_of}
 use Rattle.byz_world.specs.Runs.{history_of, IsClusterRun}
-use Rattle.byz_world.specs.Steps.{after_steps}
-use Rattle.byz_world.specs.Worlds.{new_world}
+use Rattle.byz_world.specs.Steps.{after_step, after_steps}
+use Rattle.byz_world.specs.Inside.{IsSound}
+use Rattle.byz_world.specs.Worlds.{WorldValue, new_world, too_many_lie}
+use Rattle.byz_world.specs.declared.step.Step.{Step}
+use Rattle.quorum_sizes.specs.Sizes.{AreSizes}
+use Rattle.quorum_sizes.specs.NodeSets.{Nodes}
+use Rattle.role_node.specs.Configs.{ConfigValue}
+use Rattle.std.proofs.lemmas.Option.{get_or_from_slice_get, slice_get_within}
 use Rattle.role_node.specs.Access.{relations_at, session_at}
 use Rattle.byz_world.proofs.Elements.{number_of}
 use Rattle.byz_world.proofs.Lists.{found_there}
 use Rattle.byz_world.proofs.Safety.{integrity, deliver_one, streamed}
-use Rattle.byz_world.proofs.StepsKeep.{run_of_steps}
+use Rattle.byz_world.proofs.Growing.{empty_run}
+use Rattle.byz_world.proofs.Stepping.{after_steps_runs}
 
 empty_if : (xs : List ℕ) → (length xs == 0) ≡ true → xs ≡ []
 empty_if [] is = refl
@@ -133,6 +140,31 @@ alike (suc n) (x ∷ xs) (y ∷ ys) in_xs in_ys same =
     let first : x ≡ y = same zero x y refl refl in
     let rest : take n xs ≡ take n ys = alike n xs ys (omega arith) (omega arith) (λ k c d e f. same (suc k) c d e f) in
     λ i. first i ∷ rest i
+
+-- Steps change nothing of a world but its run.
+
+config_stays : (w : WorldValue) (steps : List Step) → (after_steps w steps).config ≡ w.config
+unfolding after_step after_steps
+config_stays w [] = refl
+config_stays w (step ∷ steps) = config_stays (after_step w step) steps
+
+liars_stay : (w : WorldValue) (steps : List Step) → (after_steps w steps).liars ≡ w.liars
+unfolding after_step after_steps
+liars_stay w [] = refl
+liars_stay w (step ∷ steps) = liars_stay (after_step w step) steps
+
+each_sound : (steps : List Step) → All IsSound steps → (k : ℕ) (step : Step) → slice_get steps k ≡ Some step
+    → IsSound step
+each_sound steps all k step e =
+    subst IsSound (get_or_from_slice_get steps k step step e) (all k step (slice_get_within steps k step e))
+
+run_of_steps : (config : ConfigValue) (liars : Nodes) (steps : List Step) → AreSizes config.roles.sizes →
+    too_many_lie config.roles.sizes liars ≡ false → All IsSound steps →
+    IsClusterRun config liars (after_steps (new_world config liars) steps).run
+run_of_steps config liars steps sizes few sound =
+    let w : WorldValue = new_world config liars in
+    let is = after_steps_runs w steps (empty_run config liars sizes (ltb-false _ _ few)) (each_sound steps sound) in
+    subst₂ (λ c l. IsClusterRun c l (after_steps w steps).run) (config_stays w steps) (liars_stay w steps) is
 
 pub headline : Headline
 headline config liars steps sizes few are =

@@ -17,6 +17,9 @@ pub mod Rest
 pub mod Computed
 pub mod Example
 pub mod ExampleRests
-pub mod StepsKeep
 pub mod Headline
+pub mod Idle
+pub mod Telling
+pub mod Stepping
+pub mod Settling
 pub mod Exported

@@ -1,19 +1,18 @@
 -- A world in which nothing has happened.
-use Rattle.std.proofs.Common.{◌≡◌, ℕ, ◌+◌, ◌<◌, ◌≤◌, ◌⊎◌, inl, inr, ⊎_elim, Bool, true, false, ◌&&◌, ◌==◌, List, [], ◌∷◌, ◌++◌, length, Option, Some, None, refl, sym, ap, ◌∙◌, subst, arith}
-use Rattle.std.specs.Prelude.{if◌then◌else◌, nat_lt, not, map, slice_get, option_map, option_and_then}
+use Rattle.std.proofs.Common.{◌≡◌, ℕ, ◌<◌, ◌≤◌, ⊎_elim, Bool, true, false, ◌&&◌, List, [], length, Option, Some, None, refl, sym, ap, ◌∙◌, arith}
+use Rattle.std.specs.Prelude.{if◌then◌else◌, nat_lt, not, map, option_map, option_and_then}
 use Rattle.std.specs.FinSet as sets
 use Rattle.std.specs.List.{range_with_len, flat_map}
 use Rattle.std.proofs.lemmas.Bool.{cases_lt}
 use Rattle.std.proofs.lemmas.Bool.Decides.{nat_tests}
-use Rattle.std.proofs.lemmas.List.FromFn.{length-map-range_with_len, length-range_with_len}
+use Rattle.std.proofs.lemmas.List.FromFn.{length-map-range_with_len}
 use Rattle.std.proofs.lemmas.Option.{slice_get-map, slice_get_past}
 use Rattle.quorum_sizes.specs.Sizes.{AreSizes}
 use Rattle.quorum_sizes.specs.NodeSets.{Nodes, nodes_among}
 use Rattle.role_node.specs.Configs.{ConfigValue, most_events}
 use Rattle.role_node.specs.Nodes.{NodeValue, new_node}
-use Rattle.role_node.specs.declared.event.Event.{Event}
-use Rattle.byz_world.specs.Runs.{Run, history_of}
-use Rattle.byz_world.specs.Pools.{packets_of, messages, pool}
+use Rattle.byz_world.specs.Runs.{history_of}
+use Rattle.byz_world.specs.Pools.{packets_of, pool}
 use Rattle.byz_world.specs.Worlds.{WorldValue, new_world, node_in, node_due, is_correct_in}
 use Rattle.byz_world.specs.Inside.{member_in, history_in, run_after, run_in, IsWorldIn}
 use Rattle.byz_world.proofs.Pushing.{history_of-none, messages-none}

@@ -226,7 +226,7 @@ number_in nodes sent k p at =
     ∙ ap (option_map (λ to. packet_of sent.0 to sent.1)) (name_at nodes k within)) ∙ at in
     (within, cc)
 
-to_each : (from to nodes : ℕ) (m : Message) → to < nodes → Contains (packets_of nodes (from, m)) (packet_of from to m)
+pub to_each : (from to nodes : ℕ) (m : Message) → to < nodes → Contains (packets_of nodes (from, m)) (packet_of from to m)
 to_each from to nodes m h =
     contained (packets_of nodes (from, m)) to (packet_of from to m)
     (slice_get-map (λ n. packet_of from n m) (range_with_len 0 nodes) to ∙ ap (option_map (λ n. packet_of from n m)) (name_at nodes to h))

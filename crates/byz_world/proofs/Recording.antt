@@ -1,6 +1,6 @@
 -- What a world's fields keep when a node records an event.
-use Rattle.std.proofs.Common.{◌≡◌, ◌≢◌, ℕ, zero, suc, ◌+◌, ◌*◌, ◌<◌, ◌≤◌, ◌⊎◌, inl, inr, ⊎_elim, Bool, true, false, ◌&&◌, ◌==◌, List, [], ◌∷◌, ◌++◌, length, Option, Some, None, Result, Ok, Err, refl, sym, ap, ◌∙◌, subst, append-nil, length-append, arith}
-use Rattle.std.specs.Prelude.{if◌then◌else◌, nat_lt, not, is_some, slice_get, slice_set, count_by, option_map, option_and_then, IsTrue}
+use Rattle.std.proofs.Common.{◌≡◌, ◌≢◌, ℕ, zero, suc, ◌+◌, ◌*◌, ◌<◌, ◌≤◌, Bool, true, false, ◌==◌, List, [], ◌∷◌, ◌++◌, length, Option, Some, None, Result, Ok, refl, sym, ap, ◌∙◌, subst, append-nil, length-append, arith}
+use Rattle.std.specs.Prelude.{if◌then◌else◌, nat_lt, slice_get, slice_set, option_map, option_and_then}
 use Rattle.std.proofs.lemmas.Bool.Decides.{nat_tests}
 use Rattle.std.proofs.lemmas.Map.Views.{exact_unsigned_eq}
 use Rattle.quorum_sizes.specs.NodeSets.{Nodes}
@@ -8,16 +8,15 @@ use Rattle.link_frames.specs.declared.packet.Message.{Message}
 use Rattle.bracha_instance.specs.declared.instance.Effect.TheVariants as effect
 use Rattle.role_node.specs.Answers.{outlook, reply_to, answered, answer_due, is_recorded}
 use Rattle.role_node.specs.Configs.{ConfigValue}
-use Rattle.role_node.specs.Nodes.{NodeValue, with_event}
+use Rattle.role_node.specs.Nodes.{NodeValue, due_at, with_event, after_reply}
 use Rattle.role_node.specs.declared.event.Event.{Event}
 use Rattle.role_node.specs.declared.event.Event.TheVariants.{Issue, Take, Client}
 use Rattle.role_node.specs.declared.event.Reply.{Reply}
 use Rattle.role_sessions.specs.declared.event.ClientEvent.TheVariants.{Open, Activate, DropRole, Close}
 use Rattle.byz_world.specs.Runs.{Run, history_of, IsClusterRun}
 use Rattle.byz_world.specs.Pools.{Sent, listed, sent_by, sent_by_answer, sends_next, messages, pool}
-use Rattle.byz_world.specs.Steps.{is_pool_full}
 use Rattle.byz_world.specs.Worlds.{WorldValue, node_in, node_due, is_correct_in}
-use Rattle.byz_world.specs.Inside.{Members, member_in, history_in, run_after, run_in, world_in, IsWorldIn, MayFollow, MayHappen, is_act}
+use Rattle.byz_world.specs.Inside.{Members, member_in, history_in, run_in, world_in, IsWorldIn, MayHappen, is_act}
 use Rattle.byz_world.proofs.Pushing.{history_of-push, history_of-push_other, messages-push}
 use Rattle.byz_world.proofs.Growing.{cluster_run_push}
 use Rattle.byz_world.proofs.Numbering.{pool-length}
@@ -56,7 +55,7 @@ apart a b e same = absurd (clash (a == b) e (ap (λ n. a == n) (sym same) ∙ ow
     own : (a : ℕ) → (a == a) ≡ true
     own a = grind (arith, nat_tests)
     clash : (t : Bool) → t ≡ false → t ≡ true → ⊥
-    clash t no yes = cc
+    clash t f g = cc
 
 -- a correct node is among the members
 pub correct_member : (config : ConfigValue) (liars : Nodes) (members : Members) (order : List ℕ) (sent : List Sent) →
@@ -207,3 +206,55 @@ world_grows config liars members order sent at e is may counts =
       };
       run_is = run_is;
     }
+
+-- As the code has it.
+
+same_ok : {A B : Type 0} (x y : A) → ◌≡◌ {A = Result A B} (Ok x) (Ok y) → y ≡ x
+same_ok x y e = cc
+
+after_counted : (config : ConfigValue) (me : ℕ) (history : List Event) (node : NodeValue) (e : Event) →
+    after_reply node e (reply_to config.roles me history e) ≡ with_event node e
+after_counted config me history node (Issue c) = refl
+after_counted config me history node (Take p) = refl
+after_counted config me history node (Client (Open user)) = refl
+after_counted config me history node (Client (Activate session user role)) = refl
+after_counted config me history node (Client (DropRole session user role)) = refl
+after_counted config me history node (Client (Close session user)) = refl
+
+-- what a node's answer and the fields after it are, where the event counts
+pub record IsRecorded (config : ConfigValue) (liars : Nodes) (w : WorldValue) (at : ℕ) (e : Event) (reply : Reply) (members' : Members)
+    (order' : List ℕ) (sent' : List Sent) : Type 0 where
+  pub reply_is : reply ≡ reply_to w.config.roles at (history_of at w.run) e
+  pub grown : HasGrown config liars w.run at e members' order' sent'
+
+pub is_recorded_in : (config : ConfigValue) (liars : Nodes) (members : Members) (order : List ℕ) (sent : List Sent) (w : WorldValue)
+    (at : ℕ) (e : Event) (reply : Reply) (members' : Members) (order' : List ℕ) (sent' : List Sent) →
+    IsWorldIn config liars members order sent → world_in config liars members order ≡ w → MayHappen w at e →
+    outlook w.config at (history_of at w.run) e ≡ Ok effect.Counted →
+    ((node : NodeValue) → member_in members at ≡ Some node → due_at node e ≡ Ok reply) →
+    ((node : NodeValue) → member_in members at ≡ Some node → members' ≡ slice_set members at (Some (after_reply node e reply))) →
+    order' ≡ order ++ at ∷ [] → sent' ≡ sent ++ listed (option_map (λ m. (at, m)) (sent_by reply)) →
+    IsRecorded config liars w at e reply members' order' sent'
+is_recorded_in config liars members order sent w at e reply members' order' sent' is same may counts due set named sends =
+    let start : WorldValue = world_in config liars members order in
+    let past : List Event = history_of at (run_in members order) in
+    let R : Reply = reply_to config.roles at past e in
+    let P : WorldValue → Type 0 = λ v. MayHappen v at e in
+    let C : WorldValue → Type 0 = λ v. outlook v.config at (history_of at v.run) e ≡ Ok effect.Counted in
+    let may' : MayHappen start at e = subst P (sym same) may in
+    let counts' : outlook config at past e ≡ Ok effect.Counted = subst C (sym same) counts in
+    let here = correct_member config liars members order sent is at may'.follows.correct in
+    let reply_is : reply ≡ R = same_ok R reply (sym (answer_is config at past e counts') ∙ due (node_in start at) here) in
+    let members_are : members' ≡ slice_set members at (Some (with_event (node_in start at) e)) =
+    set (node_in start at) here
+    ∙ ap (λ r. slice_set members at (Some (after_reply (node_in start at) e r))) reply_is
+    ∙ ap (λ n. slice_set members at (Some n)) (after_counted config at past (node_in start at) e) in
+    let sent_is : sent' ≡ sent ++ listed (option_map (λ m. (at, m)) (sent_by R)) =
+    sends ∙ ap (λ r. sent ++ listed (option_map (λ m. (at, m)) (sent_by r))) reply_is in
+    let grown = world_grows config liars members order sent at e is may' counts' in
+    let G : WorldValue → Type 0 = λ v. IsRecorded config liars v at e reply members' order' sent' in
+    subst G same
+    (record {
+      reply_is = reply_is;
+      grown = rw (members_are, named, sent_is) grown;
+    })

@@ -3,7 +3,7 @@ use Rattle.std.specs.Prelude.{◌≡◌, ℕ, true, false, if◌then◌else◌, 
 use Rattle.quorum_sizes.specs.NodeSets.{Nodes}
 use Rattle.role_node.specs.Access.{sessions_at, verdict_at}
 use Rattle.role_node.specs.Configs.{ConfigValue}
-use Rattle.role_node.specs.Questions.{ask_due, takes_memory, IsAnswerTo}
+use Rattle.role_node.specs.Questions.{ask_due, takes_memory}
 use Rattle.role_node.specs.declared.faults.AskFault.{AskFault}
 use Rattle.role_node.specs.declared.faults.AskFault.TheVariants as ask
 use Rattle.role_node.specs.declared.question.Answer.{Answer}

@@ -1,8 +1,7 @@
 -- The promise of the product, for the run of any list of steps.
-use Rattle.std.specs.Prelude.{◌≡◌, ◌≢◌, ℕ, min, false, List, [], take, find, All, IsTrue, IsSomeAnd, Option, Some, None, ⊤}
+use Rattle.std.specs.Prelude.{◌≡◌, ◌≢◌, ℕ, min, false, List, [], take, find, All, IsTrue, IsSomeAnd, Option, Some, None}
 use Rattle.quorum_sizes.specs.Sizes.{AreSizes}
 use Rattle.quorum_sizes.specs.NodeSets.{Nodes}
-use Rattle.link_frames.specs.Packets.{SentByOwner}
 use Rattle.owner_streams.specs.Laws.{IsPrefixOf}
 use Rattle.role_sessions.specs.Sessions.{Session}
 use Rattle.role_sessions.specs.Decisions.{Relations, SessionMay, counted_roles}
@@ -13,12 +12,12 @@ use Rattle.role_sessions.specs.declared.verdict.Verdict.TheVariants.{Allow, Deny
 use Rattle.role_node.specs.Access.{relations_at, session_at, verdict_at}
 use Rattle.role_node.specs.Configs.{ConfigValue}
 use Rattle.role_node.specs.Histories.{issued}
+use Rattle.byz_world.specs.Inside.{IsSound}
 use Rattle.byz_world.specs.Laws.{stream_of, reach_of}
 use Rattle.byz_world.specs.Runs.{Run, history_of, is_correct, IsClusterRun}
 use Rattle.byz_world.specs.Steps.{after_steps}
 use Rattle.byz_world.specs.Worlds.{new_world, too_many_lie}
 use Rattle.byz_world.specs.declared.step.Step.{Step}
-use Rattle.byz_world.specs.declared.step.Step.TheVariants.{Issue, Give, Lie, Client}
 
 -- the rule is the first that denies the access
 abbrev pub IsFirstRule : Relations → Option Session → ℕ → ℕ → ℕ → Rule → Type 0
@@ -44,13 +43,6 @@ pub record IsRightDecision (relations : Relations) (found : Option Session) (use
       × (find (relations.granted operation object) (counted_roles relations session) ≡ Some role))
   pub denies : (rule : Rule) → v ≡ Deny rule → IsFirstRule relations found user operation object rule
 
--- the packet of a step, if it has one, is no SEND in another's stream
-abbrev pub IsStep : Step → Type 0
-IsStep (Issue node command) = ⊤
-IsStep (Give packet) = ⊤
-IsStep (Lie packet) = SentByOwner packet
-IsStep (Client node act) = ⊤
-
 -- The run is one of a cluster. A correct node allows exactly what Core RBAC allows over the streams that it delivered,
 -- else names the first rule that denies it; two correct nodes' streams of an owner agree as far as both reach; and a
 -- correct owner's stream is a front of what it issued.
@@ -68,9 +60,9 @@ pub record KeepsThePromise (config : ConfigValue) (liars : Nodes) (run : Run) : 
       IsPrefixOf (stream_of config run i owner) (issued (history_of owner run))
 
 -- For every configuration and set of liars, of whom no more are nodes than may lie, and for every list of steps:
--- deliveries, losses, repeats, forgeries and client calls.
+-- deliveries, losses, repeats, forgeries and client calls, each packet of which is one (a SEND comes from its owner).
 abbrev pub Headline : Type 0
 Headline =
     (config : ConfigValue) (liars : Nodes) (steps : List Step) → AreSizes config.roles.sizes →
-    too_many_lie config.roles.sizes liars ≡ false → All IsStep steps →
+    too_many_lie config.roles.sizes liars ≡ false → All IsSound steps →
     KeepsThePromise config liars (after_steps (new_world config liars) steps).run

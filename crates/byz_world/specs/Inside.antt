@@ -13,6 +13,8 @@ use Rattle.role_node.specs.declared.faults.NodeFault.{NodeFault}
 use Rattle.std.specs.List.{list_all}
 use Rattle.byz_world.specs.Runs.{Run, is_correct, has_sent, IsClusterRun}
 use Rattle.byz_world.specs.Pools.{Sent, listed, messages, pool}
+use Rattle.byz_world.specs.declared.step.Step.{Step}
+use Rattle.byz_world.specs.declared.step.Step.TheVariants as step
 use Rattle.byz_world.specs.Worlds.{WorldValue, node_due}
 use Rattle.byz_world.specs.Steps.{is_pool_full, Arrival}
 
@@ -76,6 +78,13 @@ abbrev pub MayArrive : WorldValue → Arrival → Type 0
 MayArrive w (Ok (Some pair)) = MayHappen w pair.0 pair.1
 MayArrive w (Ok None) = ⊤
 MayArrive w (Err fault) = ⊤
+
+-- a packet that a step brings is one: a SEND comes from its owner
+abbrev pub IsSound : Step → Type 0
+IsSound (step.Issue node command) = ⊤
+IsSound (step.Give packet) = ⊤
+IsSound (step.Lie p) = SentByOwner p
+IsSound (step.Client node act) = ⊤
 
 -- the run of a world is a cluster run
 abbrev pub IsClusterRunOf : WorldValue → Type 0

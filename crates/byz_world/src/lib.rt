@@ -15,3 +15,6 @@ pub use faults::WorldFault;
 pub use laws::{law_at_rest, law_consistency, law_headline, law_integrity, law_same_policy};
 pub use step::{Step, StepReply};
 pub use world::World;
+
+#[cfg(test)]
+mod tests;

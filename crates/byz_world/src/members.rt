@@ -65,15 +65,15 @@ pub(crate) fn member(members: &[Option<Node>], name: NodeName) -> Option<&Node>
 
 /// Has a node answer an event.
 pub(crate) fn apply_at(
-    members: &mut [Option<Node>],
+    members: &mut Vec<Option<Node>>,
     name: NodeName,
     event: Event,
 ) -> Result<Reply, NodeFault>
-    requires { IsSome (member_in members.old name) }
-    ensures due { (node : NodeValue) → member_in members.old name ≡ Some node → IsAnswer (due_at node event) result }
-    ensures ok { (node : NodeValue) → member_in members.old name ≡ Some node →
-        IfOk result (λ reply. members.new ≡ slice_set members.old name (Some (after_reply node event reply))) }
-    ensures err { OnErr result (members.new ≡ members.old) }
+    requires { IsSome (member_in members.old.items name) }
+    ensures due { (node : NodeValue) → member_in members.old.items name ≡ Some node → IsAnswer (due_at node event) result }
+    ensures ok { (node : NodeValue) → member_in members.old.items name ≡ Some node →
+        IfOk result (λ reply. members.new.items ≡ slice_set members.old.items name (Some (after_reply node event reply))) }
+    ensures err { OnErr result (members.new.items ≡ members.old.items) }
 {
     match &mut members[usize::from(name.index())] {
         Some(node) => node.apply(event),

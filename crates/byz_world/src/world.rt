@@ -1,4 +1,4 @@
-ghost use Rattle.std.specs.Prelude.{◌≡◌, ℕ, ◌<◌, ◌*◌, ◌++◌, ◌∷◌, [], List, length, not, slice_get, IfOk, IfErr, OnOk, OnErr, Ok, Some, IsTrue, ◌↔◌, if◌then◌else◌};
+ghost use Rattle.std.specs.Prelude.{◌≡◌, ℕ, ◌<◌, ◌≤◌, ◌*◌, ◌++◌, ◌∷◌, [], List, length, not, slice_get, IfOk, IfErr, OnOk, OnErr, Ok, Some, IsTrue, ◌↔◌, if◌then◌else◌};
 ghost use Rattle.std.specs.Option.{option_copied};
 ghost use Rattle.std.specs.Vec.{vec_len, vec_capacity};
 ghost use Rattle.quorum_sizes.specs.Sizes.{AreSizes};
@@ -15,7 +15,7 @@ ghost use Rattle.byz_world.specs.Steps.{arrival, unless_pool_full, arrives, is_f
 ghost use Rattle.byz_world.specs.Agreement.{agree_due};
 ghost use Rattle.byz_world.specs.Resting.{IsAtRest};
 ghost use Rattle.byz_world.specs.Asking.{IsMade, IsQuestionAnswer, decision_due};
-ghost use Rattle.byz_world.specs.Inside.{MayHappen, MayArrive, IsClusterRunOf};
+ghost use Rattle.byz_world.specs.Inside.{MayHappen, IsSound, IsClusterRunOf};
 ghost use Rattle.byz_world.specs.declared.step.Step.{Step};
 ghost use Rattle.byz_world.specs.declared.faults.WorldFault.TheVariants as fault;
 
@@ -111,8 +111,11 @@ impl World {
         ensures run { IsClusterRunOf self.new }
     {
         match self.step(step) {
-            Err(WorldFault::Memory) => Err(AllocError),
-            Ok(_) | Err(_) => Ok(()),
+            Ok(_) => Ok(()),
+            Err(fault) => match fault {
+                WorldFault::Memory => Err(AllocError),
+                _ => Ok(()),
+            },
         }
     }
 
@@ -128,18 +131,20 @@ impl World {
         ensures err { OnErr result (self.new ≡ self.old) }
         ensures run { IsClusterRunOf self.new }
     {
-        match self.arrival(&step)? {
-            Some((name, event)) => self.happen(name, event),
-            None => Ok(StepReply::Absorbed),
+        match self.arrival(&step) {
+            Ok(Some((name, event))) => self.happen(name, event),
+            Ok(None) => Ok(StepReply::Absorbed),
+            Err(fault) => Err(fault),
         }
     }
 
     /// The node and the event that a step comes to, if to any, or its first refusal.
     fn arrival(&self, step: &Step) -> Result<Option<(NodeName, Event)>, WorldFault>
         ensures due { result ≡ arrival self.now step.now }
-        ensures may { MayArrive self.now (arrival self.now step.now) }
+        ensures sound { IfOk result (λ _. IsSound step.now) }
         ensures run { IsClusterRunOf self.now }
     {
+        let sizes = self.sizes();
         match step {
             Step::Issue { node, command } => {
                 if !self.is_correct(*node) {
@@ -152,7 +157,6 @@ impl World {
                 None => Err(WorldFault::NoSuchPacket),
             },
             Step::Lie { packet } => {
-                let sizes = self.sizes();
                 if !sizes.has(packet.from()) || !sizes.has(packet.to()) {
                     return Err(WorldFault::NotCorrect);
                 }
@@ -184,8 +188,9 @@ impl World {
     fn unless_full(&self, name: NodeName, event: Event) -> Result<Option<(NodeName, Event)>, WorldFault>
         ensures { result ≡ unless_pool_full self.now (name, event) }
     {
+        let limit = self.config.limit();
         let more = u32::from(self.sizes().n());
-        if self.sent_len() + more > self.config.limit() {
+        if self.sent_len() + more > limit {
             return Err(WorldFault::PoolFull);
         }
         Ok(Some((name, event)))
@@ -193,7 +198,8 @@ impl World {
 
     /// Whether the packet is in the name of a correct node that has not sent it.
     fn is_forged(&self, packet: &Packet) -> bool
-        ensures { result ≡ is_forged self.now packet.now }
+        ensures forged { result ≡ is_forged self.now packet.now }
+        ensures kept { IsPacket packet.now }
     {
         let message = packet.message();
         match self.node(packet.from()) {
@@ -318,14 +324,15 @@ impl World {
     /// How many nodes there are, and how many of them may lie.
     pub fn sizes(&self) -> Sizes
         ensures value { result ≡ self.now.config.roles.sizes }
-        ensures sizes { AreSizes self.now.config.roles.sizes }
+        ensures run { IsClusterRunOf self.now }
     {
         self.config.roles().sizes()
     }
 
     /// The correct node of this name.
     pub fn node(&self, name: NodeName) -> Option<&Node>
-        ensures { option_copied result ≡ node_due self.now name }
+        ensures value { option_copied result ≡ node_due self.now name }
+        ensures run { IsClusterRunOf self.now }
     {
         member(&self.members, name)
     }
@@ -341,13 +348,11 @@ impl World {
         ensures { result ≡ slice_get (pool self.now.config self.now.run) number }
     {
         let nodes = u32::from(self.sizes().n());
-        let Some((from, message)) = self.sent.get((number / nodes) as usize) else {
-            return None;
-        };
-        let Some(to) = self.sizes().name((number % nodes) as u8) else {
-            return None;
-        };
-        Packet::new(*from, to, *message)
+        let to = self.sizes().name((number % nodes) as u8).unwrap();
+        match self.sent.get((number / nodes) as usize) {
+            Some((from, message)) => Packet::new(*from, to, *message),
+            None => None,
+        }
     }
 
     /// How many packets the correct nodes have sent.

@@ -1,6 +1,6 @@
-use Rattle.std.proofs.Common.{◌≡◌, ◌≤◌, [], ap, sym, ◌∙◌, subst, arith}
+use Rattle.std.proofs.Common.{◌≡◌, ◌≤◌, ap, ◌∙◌, subst, arith}
 use Rattle.std.specs.FinSet as sets
-use Rattle.quorum_sizes.specs.Sizes.{Counts, AreSizes}
+use Rattle.quorum_sizes.specs.Sizes.{AreSizes}
 use Rattle.quorum_sizes.specs.NodeSets.{nodes_among}
 use Rattle.byz_world.proofs.Making.{new_is_world, no_run}
 use Rattle.byz_world.proofs.world.World.new.Goals as goal
@@ -26,4 +26,4 @@ returns-clause-ok c =
     }
 
 pub returns-clause-run : goal.returns-clause-run
-returns-clause-run c = ?
+returns-clause-run c = (invariant_of-result c).cluster
