@@ -27,7 +27,8 @@ legal_push config me history e legal recorded k f at =
     let short : k ≤ length history = omega (arith, h.0) in
     subst P (sym (take-append-le k history (e ∷ []) short)) (legal k f h.1))
     (λ (h : (k ≡ length history) × (e ≡ f)).
-    let past : take k (history ++ e ∷ []) ≡ history = ap (λ n. take n (history ++ e ∷ [])) h.0 ∙ take-append_seam history (e ∷ []) in
+    let past : take k (history ++ e ∷ []) ≡ history = ap (λ n. take n (history ++ e ∷ [])) h.0
+    ∙ take-append_seam history (e ∷ []) in
     let Q : Event → Type 0 = λ x. IsTrue (is_recorded (answer_due config me history x)) in
     subst P (sym past) (subst Q h.1 recorded))
     (at_push history e k f at)
@@ -41,11 +42,13 @@ legal_by config run at e node true own legal recorded =
     let same : at ≡ node = exact_unsigned_eq at node own in
     let P : ℕ → Type 0 = λ n. is_recorded (answer_due config n (history_of n run) e) ≡ true in
     let now : IsLegal config node (history_of node (run ++ (node, e) ∷ [])) =
-    subst (IsLegal config node) (sym (history_of-push node e run)) (legal_push config node (history_of node run) e legal (subst P same recorded)) in
+    subst (IsLegal config node) (sym (history_of-push node e run))
+    (legal_push config node (history_of node run) e legal (subst P same recorded)) in
     let Q : ℕ → Type 0 = λ n. IsLegal config node (history_of node (run ++ (n, e) ∷ [])) in
     subst Q (sym same) now
 
-pub cluster_run_push : (config : ConfigValue) (liars : Nodes) (run : Run) (at : ℕ) (e : Event) → IsClusterRun config liars run →
+pub cluster_run_push : (config : ConfigValue) (liars : Nodes) (run : Run) (at : ℕ) (e : Event)
+    → IsClusterRun config liars run →
     MayFollow config liars run at e → is_recorded (answer_due config at (history_of at run) e) ≡ true →
     IsClusterRun config liars (run ++ (at, e) ∷ [])
 cluster_run_push config liars run at e is may recorded =
@@ -72,7 +75,8 @@ cluster_run_push config liars run at e is may recorded =
           let short : t ≤ length run = omega (arith, h.0) in
           subst P (sym (take-append-le t run ((at, e) ∷ []) short)) (is.links t node p h.1 honest))
           (λ (h : (t ≡ length run) × ((at, e) ≡ (node, Take p))).
-          let past : take t (run ++ (at, e) ∷ []) ≡ run = ap (λ n. take n (run ++ (at, e) ∷ [])) h.0 ∙ take-append_seam run ((at, e) ∷ []) in
+          let past : take t (run ++ (at, e) ∷ []) ≡ run = ap (λ n. take n (run ++ (at, e) ∷ [])) h.0
+          ∙ take-append_seam run ((at, e) ∷ []) in
           subst P (sym past) (may.links p (ap (λ x. x.1) h.1) honest))
           (at_push run (at, e) t (node, Take p) there);
     }

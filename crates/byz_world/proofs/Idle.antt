@@ -52,7 +52,8 @@ early_idle full r e = ap (λ x. is_idle (unless_full full x)) e
 
 idle_by : (routed beyond : Bool) (place end : ℕ) (step : StreamStep) →
     ◌≡◌ {A = Result Effect NodeFault}
-    (if routed then of_effect_due (effect_due (if beyond then Err (Beyond place end) else Ok step)) else Err fault.Misrouted)
+    (if routed then of_effect_due (effect_due (if beyond then Err (Beyond place end) else Ok step))
+    else Err fault.Misrouted)
     (Ok effect.Idle) → step.effect ≡ effect.Idle
 idle_by false beyond place end step e = absurd cc
 idle_by true true place end step e = absurd cc
@@ -74,10 +75,12 @@ idle_take config me history p open' e =
     let s : Counts = config.roles.sizes in
     let end : ℕ = reach s p.owner (packets history) + window in
     let step : StreamStep = step_of s (packets history) p in
-    (λ i. if open'.routed i then of_effect_due (effect_due (if open'.within i then Err (Beyond p.place end) else Ok step)) else Err fault.Misrouted)
+    (λ i. if open'.routed i then of_effect_due (effect_due (if open'.within i then Err (Beyond p.place end)
+    else Ok step)) else Err fault.Misrouted)
     ∙ ap Ok e
 
-counted_early : (full : Bool) (r : Result Effect NodeFault) (reply : Reply) → is_recorded (answered (unless_full full r) reply) ≡ true →
+counted_early : (full : Bool) (r : Result Effect NodeFault) (reply : Reply)
+    → is_recorded (answered (unless_full full r) reply) ≡ true →
     r ≡ Ok effect.Counted
 counted_early full (Ok effect.Idle) reply e = absurd cc
 counted_early true (Ok effect.Counted) reply e = absurd cc
@@ -86,7 +89,8 @@ counted_early full (Err f) reply e = absurd cc
 
 open_by : (routed beyond : Bool) (place end : ℕ) (step : StreamStep) →
     ◌≡◌ {A = Result Effect NodeFault}
-    (if routed then of_effect_due (effect_due (if beyond then Err (Beyond place end) else Ok step)) else Err fault.Misrouted)
+    (if routed then of_effect_due (effect_due (if beyond then Err (Beyond place end) else Ok step))
+    else Err fault.Misrouted)
     (Ok effect.Counted) → (routed ≡ true) × (beyond ≡ false)
 open_by false beyond place end step e = absurd cc
 open_by true true place end step e = absurd cc
@@ -98,8 +102,10 @@ was_open : (config : ConfigValue) (me : ℕ) (history : List Event) (p : PacketV
 unfolding step_due
 was_open config me history p recorded =
     let early : take_outlook config.roles me history p ≡ Ok effect.Counted =
-    counted_early _ (take_outlook config.roles me history p) (reply_to config.roles me history (event.Take p)) recorded in
-    let both = open_by (is_routed config.roles.sizes me p) _ _ _ (step_of config.roles.sizes (packets history) p) early in
+    counted_early _ (take_outlook config.roles me history p)
+    (reply_to config.roles me history (event.Take p)) recorded in
+    let both = open_by (is_routed config.roles.sizes me p) _ _ _ (step_of config.roles.sizes (packets history) p)
+    early in
     record { routed = both.0; within = both.1 }
 
 -- .. and stays so: a stream grows
@@ -114,12 +120,14 @@ stays_open s me before later p open' =
   where
     below : (a b : ℕ) → nat_le a b ≡ false → b < a
     below a b e = grind (arith, nat_tests)
+
     not_past : (a b : ℕ) → b < a → nat_le a b ≡ false
     not_past a b h = grind (arith, nat_tests)
 
 -- Votes.
 
-voted_is : (o : Option Command) → cond (is_some o) effect.Idle effect.Counted ≡ effect.Idle → (c : Command) × (o ≡ Some c)
+voted_is : (o : Option Command) → cond (is_some o) effect.Idle effect.Counted ≡ effect.Idle
+    → (c : Command) × (o ≡ Some c)
 voted_is None e = absurd cc
 voted_is (Some c) e = (c, refl)
 
@@ -140,13 +148,16 @@ packet_event (event.Issue c) p is = absurd cc
 packet_event (event.Take q) p is = cc
 packet_event (event.Client act) p is = absurd cc
 
-taken_is_open : (config : ConfigValue) (me : ℕ) (history : List Event) (p : PacketValue) (k : ℕ) → IsLegal config me history →
+taken_is_open : (config : ConfigValue) (me : ℕ) (history : List Event) (p : PacketValue) (k : ℕ)
+    → IsLegal config me history →
     slice_get history k ≡ Some (event.Take p) → IsOpen config.roles.sizes me (packets history) p
 unfolding packets
 taken_is_open config me history p k legal at =
-    let front : IsFront (packets (take k history)) (packets history) = front_picked packet_in (take k history) history (front_taken k history) in
+    let front : IsFront (packets (take k history)) (packets history) =
+    front_picked packet_in (take k history) history (front_taken k history) in
     let then' = was_open config me (take k history) p (legal k (event.Take p) at) in
-    subst (λ ps. IsOpen config.roles.sizes me ps p) (sym front.1) (stays_open config.roles.sizes me (packets (take k history)) front.0 p then')
+    subst (λ ps. IsOpen config.roles.sizes me ps p) (sym front.1)
+    (stays_open config.roles.sizes me (packets (take k history)) front.0 p then')
 
 own_take : (p : PacketValue) → take_at p.owner p.place p ≡ Some (take_of p)
 own_take p = let own : (p.owner == p.owner && p.place == p.place) ≡ true = and_from _ _ (same p.owner) (same p.place) in
@@ -162,7 +173,8 @@ taken_votes history p found =
     let there = is_picked (take_at p.owner p.place) (packets history) p (take_of p) found.0 found.1 (own_take p) in
     votes_for (filter_map (take_at p.owner p.place) (packets history)) (take_of p) there.0 there.1
 
-pub taken_is_idle : (config : ConfigValue) (me : ℕ) (history : List Event) (p : PacketValue) → IsLegal config me history →
+pub taken_is_idle : (config : ConfigValue) (me : ℕ) (history : List Event) (p : PacketValue)
+    → IsLegal config me history →
     Contains (packets history) p → is_idle (outlook config me history (event.Take p)) ≡ true
 unfolding packets
 taken_is_idle config me history p legal c =
@@ -174,7 +186,8 @@ taken_is_idle config me history p legal c =
 
 -- What is idle was taken, where a correct node had sent it.
 
-pub idle_is_taken : (config : ConfigValue) (liars : Nodes) (run : Run) (p : PacketValue) → IsClusterRun config liars run →
+pub idle_is_taken : (config : ConfigValue) (liars : Nodes) (run : Run) (p : PacketValue)
+    → IsClusterRun config liars run →
     IsPooled config liars run p → is_idle (outlook config p.to (history_of p.to run) (event.Take p)) ≡ true →
     Contains (packets (history_of p.to run)) p
 unfolding packets
@@ -188,15 +201,18 @@ idle_is_taken config liars run p is pooled idle =
     let t : Take = found.0 in
     let in_whole : IsIn (taken_by (take (length run) run) me p.owner p.place) t =
     subst (λ ts. IsIn ts t) (sym (taken_whole run me p.owner p.place)) found.1 in
-    let from : IsTakenIn run (length run) me p.owner p.place t = taken_in (length run) run me p.owner p.place t in_whole in
+    let from : IsTakenIn run (length run) me p.owner p.place t =
+    taken_in (length run) run me p.owner p.place t in_whole in
     let q : PacketValue = from.packet in
     let honest : is_correct s liars t.from ≡ true = ap (is_correct s liars) found.3 ∙ pooled.from in
     let before : said_by s (take from.at run) t.from t.kind p.owner p.place ≡ Some t.command =
     sent_before config liars run (length run) me p.owner p.place t is from honest in
     let then' : said_by s run t.from t.kind p.owner p.place ≡ Some t.command =
     said_stays s from.at run t.from t.kind p.owner p.place t.command before in
-    let own : said_by s run p.from p.kind p.owner p.place ≡ Some p.command = has_sent_is s run p.from (message_of p) pooled.sent in
-    let one : Some t.command ≡ Some p.command = sym then' ∙ (λ i. said_by s run (found.3 i) (found.2 i) p.owner p.place) ∙ own in
+    let own : said_by s run p.from p.kind p.owner p.place
+    ≡ Some p.command = has_sent_is s run p.from (message_of p) pooled.sent in
+    let one : Some t.command ≡ Some p.command = sym then'
+    ∙ (λ i. said_by s run (found.3 i) (found.2 i) p.owner p.place) ∙ own in
     let command : t.command ≡ p.command = cc in
     let route = routed config me history from.number q (is.legal me) from.in_history in
     let message = from.message_is in
@@ -208,5 +224,6 @@ idle_is_taken config liars run p is pooled idle =
       place = from.place_is i;
       command = (ap (λ (x : Take). x.command) message ∙ command) i;
     } in
-    let there : IsIn (packets history) q = is_picked packet_in history (event.Take q) q from.number from.in_history refl in
+    let there : IsIn (packets history) q =
+    is_picked packet_in history (event.Take q) q from.number from.in_history refl in
     subst (Contains (packets history)) same (contained (packets history) there.0 q there.1)

@@ -45,12 +45,15 @@ member_at w nodes name all =
     (slice_get-map (node_due w) (range_with_len 0 nodes) name ∙ ap (option_map (node_due w)) (name_at nodes name h)))
     (λ (h : nodes ≤ name).
     ap (option_and_then (λ x. x))
-    (slice_get_past (map (node_due w) (range_with_len 0 nodes)) name (omega (arith, length-map-range_with_len (node_due w) 0 nodes, h)))
+    (slice_get_past (map (node_due w)
+    (range_with_len 0 nodes)) name (omega (arith, length-map-range_with_len (node_due w) 0 nodes, h)))
     ∙ sym (past_is_none w name (omega (arith, h, all))))
     (cases_lt name nodes)
 
-nothing_in : (w : WorldValue) (name : ℕ) → w.run ≡ [] → (b : Bool) → is_correct_in w name ≡ b → history_in (node_due w name) ≡ []
-nothing_in w name none true e = ap (λ b. history_in (if b then Some (node_in w name) else None)) e ∙ ap (history_of name) none ∙ history_of-none name
+nothing_in : (w : WorldValue) (name : ℕ) → w.run ≡ [] → (b : Bool) → is_correct_in w name ≡ b
+    → history_in (node_due w name) ≡ []
+nothing_in w name none true e = ap (λ b. history_in (if b then Some (node_in w name) else None)) e
+    ∙ ap (history_of name) none ∙ history_of-none name
 nothing_in w name none false e = ap (λ b. history_in (if b then Some (node_in w name) else None)) e
 
 nothing_pooled : (config : ConfigValue) → length (pool config []) ≡ 0
@@ -59,14 +62,16 @@ nothing_pooled config = ap (λ ms. length (flat_map (packets_of config.roles.siz
 
 -- the fields of a world in which nothing has happened
 pub new_is_world : (config : ConfigValue) (liars : Nodes) (members : List (Option NodeValue)) →
-    AreSizes config.roles.sizes → sets.len (nodes_among config.roles.sizes liars) ≤ config.roles.sizes.liars → config.limit ≤ most_events →
+    AreSizes config.roles.sizes → sets.len (nodes_among config.roles.sizes liars) ≤ config.roles.sizes.liars
+    → config.limit ≤ most_events →
     members ≡ map (node_due (new_world config liars)) (range_with_len 0 config.roles.sizes.nodes) →
     IsWorldIn config liars members [] []
 unfolding run_after
 new_is_world config liars members sizes few limit e =
     let w : WorldValue = new_world config liars in
     let n : ℕ = config.roles.sizes.nodes in
-    let each : (name : ℕ) → member_in members name ≡ node_due w name = λ name. ap (λ ms. member_in ms name) e ∙ member_at w n name refl in
+    let each : (name : ℕ) → member_in members name ≡ node_due w name = λ name. ap (λ ms. member_in ms name) e
+    ∙ member_at w n name refl in
     record {
       cluster = empty_run config liars sizes few;
       one_each = ap length e ∙ length-map-range_with_len (node_due w) 0 n;

@@ -24,17 +24,20 @@ all-length nodes (first ∷ sent) =
     length-append (packets_of nodes first) (flat_map (packets_of nodes) sent) ∙ (λ i. one i + rest i) ∙ grind arith
 
 -- a packet to each node for each message
-pub pool-length : (config : ConfigValue) (run : Run) → length (pool config run) ≡ length (messages config run) * config.roles.sizes.nodes
+pub pool-length : (config : ConfigValue) (run : Run)
+    → length (pool config run) ≡ length (messages config run) * config.roles.sizes.nodes
 unfolding pool
 pool-length config run = all-length config.roles.sizes.nodes (messages config run)
 
-own_packet : (nodes to : ℕ) (sent : Sent) → to < nodes → slice_get (packets_of nodes sent) to ≡ Some (packet_of sent.0 to sent.1)
+own_packet : (nodes to : ℕ) (sent : Sent) → to < nodes
+    → slice_get (packets_of nodes sent) to ≡ Some (packet_of sent.0 to sent.1)
 own_packet nodes to sent h =
     slice_get-map (λ n. packet_of sent.0 n sent.1) (range_with_len 0 nodes) to
     ∙ ap (option_map (λ n. packet_of sent.0 n sent.1)) (name_at nodes to h)
 
 packet_at : (nodes : ℕ) (sent : List Sent) (number to : ℕ) → to < nodes →
-    slice_get (flat_map (packets_of nodes) sent) (number * nodes + to) ≡ option_map (λ s. packet_of s.0 to s.1) (slice_get sent number)
+    slice_get (flat_map (packets_of nodes) sent) (number * nodes + to)
+    ≡ option_map (λ s. packet_of s.0 to s.1) (slice_get sent number)
 packet_at nodes [] number to h = refl
 packet_at nodes (first ∷ sent) zero to h =
     let same : 0 * nodes + to ≡ to = omega arith in
@@ -53,7 +56,8 @@ packet_at nodes (first ∷ sent) (suc number) to h =
 -- packet k of the pool is message k / n to node k mod n
 pub pool_at : (config : ConfigValue) (run : Run) (k : ℕ) → 0 < config.roles.sizes.nodes →
     slice_get (pool config run) k
-    ≡ option_map (λ s. packet_of s.0 (k % config.roles.sizes.nodes) s.1) (slice_get (messages config run) (k / config.roles.sizes.nodes))
+    ≡ option_map (λ s. packet_of s.0 (k % config.roles.sizes.nodes) s.1) (slice_get (messages config run)
+    (k / config.roles.sizes.nodes))
 unfolding pool
 pool_at config run k h =
     let n : ℕ = config.roles.sizes.nodes in

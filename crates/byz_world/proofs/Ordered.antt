@@ -13,7 +13,8 @@ use Rattle.byz_world.proofs.Elements.{at_seam, before_seam}
 abbrev pub times : ℕ → List ℕ → ℕ
 times name names = count_by (λ n. n == name) names
 
-pub times-append : (name : ℕ) (before later : List ℕ) → times name (before ++ later) ≡ times name before + times name later
+pub times-append : (name : ℕ) (before later : List ℕ)
+    → times name (before ++ later) ≡ times name before + times name later
 times-append name before later = sum_by-append (λ n. cond (n == name) 1 0) before later
 
 one_name : (name other : ℕ) (b : Bool) → (other == name) ≡ b → times name (other ∷ []) ≡ cond b 1 0
@@ -24,7 +25,8 @@ times-own name names =
     let own : (name == name) ≡ true = grind (arith, nat_tests) in
     times-append name (name ∷ []) names ∙ ap (λ n. n + times name names) (one_name name name true own)
 
-pub times-other : (name other : ℕ) (names : List ℕ) → (other == name) ≡ false → times name (other ∷ names) ≡ times name names
+pub times-other : (name other : ℕ) (names : List ℕ) → (other == name) ≡ false
+    → times name (other ∷ names) ≡ times name names
 times-other name other names e =
     let nothing : 0 + times name names ≡ times name names = omega arith in
     times-append name (other ∷ []) names ∙ ap (λ n. n + times name names) (one_name name other false e) ∙ nothing

@@ -43,7 +43,8 @@ pub has_sent_is : (s : Counts) (run : Run) (node : ℕ) (m : Message) → IsTrue
 unfolding has_sent
 has_sent_is s run node m sent = is_for_some m.command _ sent
 
-pub is_has_sent : (s : Counts) (run : Run) (node : ℕ) (m : Message) → said s node (history_of node run) m ≡ Some m.command →
+pub is_has_sent : (s : Counts) (run : Run) (node : ℕ) (m : Message)
+    → said s node (history_of node run) m ≡ Some m.command →
     IsTrue (has_sent s run node m)
 unfolding has_sent
 is_has_sent s run node m e = some_is_for m.command _ e
@@ -74,10 +75,12 @@ recorded_after config past rest node e legal =
     subst P before (legal (length h) e at)
 
 -- what a node has sent after one pair more, it had sent before, or the pair sends it
-said_by_pair : (config : ConfigValue) (past rest : Run) (pair : ℕ × Event) (node : ℕ) (m : Message) (b : Bool) → (pair.0 == node) ≡ b →
+said_by_pair : (config : ConfigValue) (past rest : Run) (pair : ℕ × Event) (node : ℕ) (m : Message) (b : Bool)
+    → (pair.0 == node) ≡ b →
     IsLegal config node (history_of node (past ++ pair ∷ rest)) →
     said config.roles.sizes node (history_of node (past ++ pair ∷ [])) m ≡ Some m.command →
-    (said config.roles.sizes node (history_of node past) m ≡ Some m.command) ⊎ (sends_next config past pair ≡ Some (node, m))
+    (said config.roles.sizes node (history_of node past) m ≡ Some m.command) ⊎ (sends_next config past pair
+    ≡ Some (node, m))
 said_by_pair config past rest pair node m false other legal now =
     inl (ap (λ h. said config.roles.sizes node h m) (sym (history_of-push_other node pair past other)) ∙ now)
 said_by_pair config past rest pair node m true own legal now =
@@ -87,7 +90,8 @@ said_by_pair config past rest pair node m true own legal now =
     let P : ℕ × Event → Type 0 = λ q. IsLegal config node (history_of node (past ++ q ∷ rest)) in
     let recorded = recorded_after config past rest node e (subst P is legal) in
     let pushed : said config.roles.sizes node (history_of node past ++ e ∷ []) m ≡ Some m.command =
-    ap (λ h. said config.roles.sizes node h m) (sym (ap (λ q. history_of node (past ++ q ∷ [])) is ∙ history_of-push node e past)) ∙ now in
+    ap (λ h. said config.roles.sizes node h m) (sym (ap (λ q. history_of node (past ++ q ∷ [])) is
+    ∙ history_of-push node e past)) ∙ now in
     ⊎_elim
     (λ (was : said config.roles.sizes node (history_of node past) m ≡ Some m.command). inl was)
     (λ (sends : sent_by_answer (answer_due config node (history_of node past) e) ≡ Some m).
@@ -98,7 +102,8 @@ said_by_pair config past rest pair node m true own legal now =
 said_is_sent : (config : ConfigValue) (past run : Run) (node : ℕ) (m : Message) →
     IsLegal config node (history_of node (past ++ run)) →
     said config.roles.sizes node (history_of node (past ++ run)) m ≡ Some m.command →
-    (said config.roles.sizes node (history_of node past) m ≡ Some m.command) ⊎ Contains (messages_after config past run) (node, m)
+    (said config.roles.sizes node (history_of node past) m
+    ≡ Some m.command) ⊎ Contains (messages_after config past run) (node, m)
 unfolding messages_after
 said_is_sent config past [] node m legal now =
     inl (ap (λ r. said config.roles.sizes node (history_of node r) m) (sym (append-nil past)) ∙ now)
@@ -112,9 +117,11 @@ said_is_sent config past (pair ∷ run) node m legal now =
     ⊎_elim
     (λ (was : said config.roles.sizes node (history_of node past) m ≡ Some m.command). inl was)
     (λ (sends : sends_next config past pair ≡ Some (node, m)).
-    inr (Contains-append_left _ (messages_after config step run) (node, m) (listed_contains (sends_next config past pair) (node, m) sends)))
+    inr (Contains-append_left _ (messages_after config step run) (node, m)
+    (listed_contains (sends_next config past pair) (node, m) sends)))
     (said_by_pair config past run pair node m _ refl legal before))
-    (λ (later : Contains (messages_after config step run) (node, m)). inr (Contains-append_right _ (messages_after config step run) (node, m) later))
+    (λ (later : Contains (messages_after config step run)
+    (node, m)). inr (Contains-append_right _ (messages_after config step run) (node, m) later))
     (said_is_sent config step run node m (subst P split legal) (subst Q split now))
 
 nothing_taken : (owner place : ℕ) → takes_at owner place [] ≡ []
@@ -128,10 +135,14 @@ nothing_said s me m = nothing_of s me m.kind m.owner m.place
     none_of true place = refl
     none_of false place = refl
 
-    nothing_of : (s : Counts) (me : ℕ) (kind : Kind) (owner place : ℕ) → of_kind kind (sent_at s me [] owner place) ≡ None
-    nothing_of s me Send owner place = ap (λ cs. if owner == me then slice_get cs place else None) issued-none ∙ none_of (owner == me) place
-    nothing_of s me Echo owner place = ap (λ ps. echoed (takes_at owner place ps)) packets-none ∙ ap echoed (nothing_taken owner place) ∙ echoed-none
-    nothing_of s me Ready owner place = ap (λ ps. readied s (takes_at owner place ps)) packets-none ∙ ap (readied s) (nothing_taken owner place) ∙ readied-none s
+    nothing_of : (s : Counts) (me : ℕ) (kind : Kind) (owner place : ℕ)
+        → of_kind kind (sent_at s me [] owner place) ≡ None
+    nothing_of s me Send owner place = ap (λ cs. if owner == me then slice_get cs place else None) issued-none
+        ∙ none_of (owner == me) place
+    nothing_of s me Echo owner place = ap (λ ps. echoed (takes_at owner place ps)) packets-none
+        ∙ ap echoed (nothing_taken owner place) ∙ echoed-none
+    nothing_of s me Ready owner place = ap (λ ps. readied s (takes_at owner place ps)) packets-none
+        ∙ ap (readied s) (nothing_taken owner place) ∙ readied-none s
 
 -- each message was said by its node then
 sent_is_said : (config : ConfigValue) (past run : Run) (sent : Sent) → Contains (messages_after config past run) sent →
@@ -146,19 +157,24 @@ sent_is_said config past (pair ∷ run) sent c =
     (λ (now : Contains (listed (sends_next config past pair)) sent).
     let sends = by_answer config past pair sent (contains_listed (sends_next config past pair) sent now) in
     let after : Q step =
-    ap (λ h. said config.roles.sizes sent.0 h sent.1) (ap (λ n. history_of sent.0 (past ++ (n, pair.1) ∷ [])) sends.0 ∙ history_of-push sent.0 pair.1 past)
+    ap (λ h. said config.roles.sizes sent.0 h sent.1)
+    (ap (λ n. history_of sent.0 (past ++ (n, pair.1) ∷ [])) sends.0 ∙ history_of-push sent.0 pair.1 past)
     ∙ answered_is_said config sent.0 (history_of sent.0 past) pair.1 sent.1 sends.1 in
     subst Q (sym split)
     (ap (λ h. said config.roles.sizes sent.0 h sent.1) (history_of-append sent.0 step run)
-    ∙ said_stays config.roles.sizes sent.0 (history_of sent.0 step) (history_of sent.0 run) sent.1 sent.1.command after))
-    (λ (later : Contains (messages_after config step run) sent). subst Q (sym split) (sent_is_said config step run sent later))
+    ∙ said_stays config.roles.sizes sent.0 (history_of sent.0 step)
+    (history_of sent.0 run) sent.1 sent.1.command after))
+    (λ (later : Contains (messages_after config step run) sent). subst Q (sym split)
+    (sent_is_said config step run sent later))
     (Contains-append_cases (listed (sends_next config past pair)) (messages_after config step run) sent c)
   where
-    mapped : (n : ℕ) (o : Option Message) (sent : Sent) → option_map (λ m. (n, m)) o ≡ Some sent → (n ≡ sent.0) × (o ≡ Some sent.1)
+    mapped : (n : ℕ) (o : Option Message) (sent : Sent) → option_map (λ m. (n, m)) o ≡ Some sent
+        → (n ≡ sent.0) × (o ≡ Some sent.1)
     mapped n None sent e = absurd cc
     mapped n (Some m) sent e = let same : (n, m) ≡ sent = cc in (ap (λ x. x.0) same, ap (λ x. Some x.1) same)
 
-    by_answer : (config : ConfigValue) (past : Run) (pair : ℕ × Event) (sent : Sent) → sends_next config past pair ≡ Some sent →
+    by_answer : (config : ConfigValue) (past : Run) (pair : ℕ × Event) (sent : Sent)
+        → sends_next config past pair ≡ Some sent →
         (pair.0 ≡ sent.0) × (sent_by_answer (answer_due config sent.0 (history_of sent.0 past) pair.1) ≡ Some sent.1)
     by_answer config past pair sent e =
         let m = mapped pair.0 _ sent e in
@@ -177,7 +193,8 @@ sent_by_pair config past (pair ∷ run) sent c =
     (0, pair.1, (λ i. Some (same i, pair.1))))
     (λ (later : Contains (messages_after config (past ++ pair ∷ []) run) sent).
     let l = sent_by_pair config (past ++ pair ∷ []) run sent later in (suc l.0, l.1, l.2))
-    (Contains-append_cases (listed (sends_next config past pair)) (messages_after config (past ++ pair ∷ []) run) sent c)
+    (Contains-append_cases (listed (sends_next config past pair))
+    (messages_after config (past ++ pair ∷ []) run) sent c)
   where
     sender : (n : ℕ) (o : Option Message) (sent : Sent) → option_map (λ m. (n, m)) o ≡ Some sent → n ≡ sent.0
     sender n None sent e = absurd cc
@@ -185,7 +202,8 @@ sent_by_pair config past (pair ∷ run) sent c =
 
 -- The messages of a cluster run.
 
-pub sent_is_message : (config : ConfigValue) (run : Run) (node : ℕ) (m : Message) → IsLegal config node (history_of node run) →
+pub sent_is_message : (config : ConfigValue) (run : Run) (node : ℕ) (m : Message)
+    → IsLegal config node (history_of node run) →
     IsTrue (has_sent config.roles.sizes run node m) → Contains (messages config run) (node, m)
 sent_is_message config run node m legal sent =
     ⊎_elim
@@ -200,7 +218,8 @@ pub message_is_sent : (config : ConfigValue) (run : Run) (sent : Sent) → Conta
     IsTrue (has_sent config.roles.sizes run sent.0 sent.1)
 message_is_sent config run sent c = is_has_sent config.roles.sizes run sent.0 sent.1 (sent_is_said config [] run sent c)
 
-pub sender_is_correct : (config : ConfigValue) (liars : Nodes) (run : Run) (sent : Sent) → IsClusterRun config liars run →
+pub sender_is_correct : (config : ConfigValue) (liars : Nodes) (run : Run) (sent : Sent)
+    → IsClusterRun config liars run →
     Contains (messages config run) sent → IsTrue (is_correct config.roles.sizes liars sent.0)
 sender_is_correct config liars run sent is c =
     let pair = sent_by_pair config [] run sent c in is.correct pair.0 sent.0 pair.1 pair.2
@@ -220,19 +239,27 @@ pub number_in : (nodes : ℕ) (sent : Sent) (k : ℕ) (p : PacketValue) → slic
     (k < nodes) × (packet_of sent.0 k sent.1 ≡ p)
 number_in nodes sent k p at =
     let within : k < nodes =
-    omega (arith, slice_get_within (packets_of nodes sent) k p at, length-map-range_with_len (λ to. packet_of sent.0 to sent.1) 0 nodes) in
+    omega (
+      arith,
+      slice_get_within (packets_of nodes sent)
+          k p at,
+      length-map-range_with_len (λ to. packet_of sent.0 to sent.1) 0 nodes,
+    ) in
     let is : Some (packet_of sent.0 k sent.1) ≡ Some p =
     sym (slice_get-map (λ to. packet_of sent.0 to sent.1) (range_with_len 0 nodes) k
     ∙ ap (option_map (λ to. packet_of sent.0 to sent.1)) (name_at nodes k within)) ∙ at in
     (within, cc)
 
-pub to_each : (from to nodes : ℕ) (m : Message) → to < nodes → Contains (packets_of nodes (from, m)) (packet_of from to m)
+pub to_each : (from to nodes : ℕ) (m : Message) → to < nodes
+    → Contains (packets_of nodes (from, m)) (packet_of from to m)
 to_each from to nodes m h =
     contained (packets_of nodes (from, m)) to (packet_of from to m)
-    (slice_get-map (λ n. packet_of from n m) (range_with_len 0 nodes) to ∙ ap (option_map (λ n. packet_of from n m)) (name_at nodes to h))
+    (slice_get-map (λ n. packet_of from n m) (range_with_len 0 nodes) to
+    ∙ ap (option_map (λ n. packet_of from n m)) (name_at nodes to h))
 
 -- what a correct node has sent stands in the pool, to each node
-pub sent_is_pooled : (config : ConfigValue) (liars : Nodes) (run : Run) (node to : ℕ) (m : Message) → IsClusterRun config liars run →
+pub sent_is_pooled : (config : ConfigValue) (liars : Nodes) (run : Run) (node to : ℕ) (m : Message)
+    → IsClusterRun config liars run →
     IsTrue (has_sent config.roles.sizes run node m) → to < config.roles.sizes.nodes →
     Contains (pool config run) (packet_of node to m)
 unfolding pool
@@ -246,7 +273,8 @@ pub record IsPooled (config : ConfigValue) (liars : Nodes) (run : Run) (p : Pack
   pub to : p.to < config.roles.sizes.nodes
   pub sent : IsTrue (has_sent config.roles.sizes run p.from (message_of p))
 
-pub pooled_is_sent : (config : ConfigValue) (liars : Nodes) (run : Run) (p : PacketValue) → IsClusterRun config liars run →
+pub pooled_is_sent : (config : ConfigValue) (liars : Nodes) (run : Run) (p : PacketValue)
+    → IsClusterRun config liars run →
     Contains (pool config run) p → IsPooled config liars run p
 unfolding pool
 pooled_is_sent config liars run p is c =

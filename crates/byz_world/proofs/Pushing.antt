@@ -9,7 +9,8 @@ use Rattle.role_node.specs.declared.event.Event.{Event}
 use Rattle.byz_world.specs.Runs.{Run, event_at, history_of}
 use Rattle.byz_world.specs.Pools.{listed, sends_next, messages_after, messages}
 
-pub history_of-append : (node : ℕ) (before later : Run) → history_of node (before ++ later) ≡ history_of node before ++ history_of node later
+pub history_of-append : (node : ℕ) (before later : Run)
+    → history_of node (before ++ later) ≡ history_of node before ++ history_of node later
 unfolding history_of
 history_of-append node before later = filter_map-append (event_at node) before later
 
@@ -21,7 +22,8 @@ own_name : (a : ℕ) → (a == a) ≡ true
 own_name a = grind (arith, nat_tests)
 
 -- a pair of the node is its first event ..
-pub history_of-own : (node : ℕ) (e : Event) (later : Run) → history_of node ((node, e) ∷ later) ≡ e ∷ history_of node later
+pub history_of-own : (node : ℕ) (e : Event) (later : Run)
+    → history_of node ((node, e) ∷ later) ≡ e ∷ history_of node later
 unfolding history_of
 history_of-own node e later =
     ap (λ b. cons_option (if b then Some e else None) (filter_map (event_at node) later)) (own_name node)
@@ -33,7 +35,8 @@ unfolding history_of
 history_of-other node pair later other =
     ap (λ b. cons_option (if b then Some pair.1 else None) (filter_map (event_at node) later)) other
 
-pub history_of-push : (node : ℕ) (e : Event) (run : Run) → history_of node (run ++ (node, e) ∷ []) ≡ history_of node run ++ e ∷ []
+pub history_of-push : (node : ℕ) (e : Event) (run : Run)
+    → history_of node (run ++ (node, e) ∷ []) ≡ history_of node run ++ e ∷ []
 history_of-push node e run =
     history_of-append node run ((node, e) ∷ [])
     ∙ ap (λ es. history_of node run ++ es) (history_of-own node e [] ∙ ap (λ es. e ∷ es) (history_of-none node))
@@ -46,14 +49,17 @@ history_of-push_other node pair run other =
     ∙ append-nil (history_of node run)
 
 messages_after-push : (config : ConfigValue) (past run : Run) (pair : ℕ × Event) →
-    messages_after config past (run ++ pair ∷ []) ≡ messages_after config past run ++ listed (sends_next config (past ++ run) pair)
+    messages_after config past (run ++ pair ∷ [])
+    ≡ messages_after config past run ++ listed (sends_next config (past ++ run) pair)
 unfolding messages_after
 messages_after-push config past [] pair =
-    append-nil (listed (sends_next config past pair)) ∙ ap (λ r. listed (sends_next config r pair)) (sym (append-nil past))
+    append-nil (listed (sends_next config past pair))
+    ∙ ap (λ r. listed (sends_next config r pair)) (sym (append-nil past))
 messages_after-push config past (first ∷ run) pair =
     ap (λ ms. listed (sends_next config past first) ++ ms) (messages_after-push config (past ++ first ∷ []) run pair)
     ∙ sym (append_assoc (listed (sends_next config past first)) (messages_after config (past ++ first ∷ []) run) _)
-    ∙ ap (λ r. (listed (sends_next config past first) ++ messages_after config (past ++ first ∷ []) run) ++ listed (sends_next config r pair))
+    ∙ ap (λ r. (listed (sends_next config past first) ++ messages_after config (past ++ first ∷ []) run)
+    ++ listed (sends_next config r pair))
     (append_assoc past (first ∷ []) run)
 
 -- one pair more sends what its answer does

@@ -44,7 +44,8 @@ set_same [] i x e = refl
 set_same (y ∷ xs) zero x e = let same : y ≡ x = cc in ap (λ z. z ∷ xs) (sym same)
 set_same (y ∷ xs) (suc i) x e = ap (λ zs. y ∷ zs) (set_same xs i x e)
 
-member_within : (members : Members) (name : ℕ) (node : NodeValue) → member_in members name ≡ Some node → name < length members
+member_within : (members : Members) (name : ℕ) (node : NodeValue) → member_in members name ≡ Some node
+    → name < length members
 member_within [] name node e = absurd cc
 member_within (m ∷ members) zero node e = omega arith
 member_within (m ∷ members) (suc name) node e = omega (arith, member_within members name node e)
@@ -54,23 +55,27 @@ apart a b e same = absurd (clash (a == b) e (ap (λ n. a == n) (sym same) ∙ ow
   where
     own : (a : ℕ) → (a == a) ≡ true
     own a = grind (arith, nat_tests)
+
     clash : (t : Bool) → t ≡ false → t ≡ true → ⊥
     clash t f g = cc
 
 -- a correct node is among the members
 pub correct_member : (config : ConfigValue) (liars : Nodes) (members : Members) (order : List ℕ) (sent : List Sent) →
-    IsWorldIn config liars members order sent → (name : ℕ) → is_correct_in (world_in config liars members order) name ≡ true →
+    IsWorldIn config liars members order sent → (name : ℕ)
+    → is_correct_in (world_in config liars members order) name ≡ true →
     member_in members name ≡ Some (node_in (world_in config liars members order) name)
 correct_member config liars members order sent is name correct =
     let w : WorldValue = world_in config liars members order in
     is.nodes name ∙ ap (λ b. if b then Some (node_in w name) else None) correct
 
 -- the answer due to an event that counts is its reply
-answer_is : (config : ConfigValue) (me : ℕ) (history : List Event) (e : Event) → outlook config me history e ≡ Ok effect.Counted →
+answer_is : (config : ConfigValue) (me : ℕ) (history : List Event) (e : Event)
+    → outlook config me history e ≡ Ok effect.Counted →
     answer_due config me history e ≡ Ok (reply_to config.roles me history e)
 answer_is config me history e counts = ap (λ o. answered o (reply_to config.roles me history e)) counts
 
-recorded_is : (config : ConfigValue) (me : ℕ) (history : List Event) (e : Event) → is_recorded (Ok (reply_to config.roles me history e)) ≡ true
+recorded_is : (config : ConfigValue) (me : ℕ) (history : List Event) (e : Event)
+    → is_recorded (Ok (reply_to config.roles me history e)) ≡ true
 recorded_is config me history (Issue c) = refl
 recorded_is config me history (Take p) = refl
 recorded_is config me history (Client (Open user)) = refl
@@ -78,9 +83,11 @@ recorded_is config me history (Client (Activate session user role)) = refl
 recorded_is config me history (Client (DropRole session user role)) = refl
 recorded_is config me history (Client (Close session user)) = refl
 
-pub counted_recorded : (config : ConfigValue) (me : ℕ) (history : List Event) (e : Event) → outlook config me history e ≡ Ok effect.Counted →
+pub counted_recorded : (config : ConfigValue) (me : ℕ) (history : List Event) (e : Event)
+    → outlook config me history e ≡ Ok effect.Counted →
     is_recorded (answer_due config me history e) ≡ true
-counted_recorded config me history e counts = ap is_recorded (answer_is config me history e counts) ∙ recorded_is config me history e
+counted_recorded config me history e counts = ap is_recorded (answer_is config me history e counts)
+    ∙ recorded_is config me history e
 
 act_sends_nothing : (config : ConfigValue) (me : ℕ) (history : List Event) (e : Event) → is_act e ≡ true →
     sent_by (reply_to config.roles me history e) ≡ None
@@ -95,7 +102,8 @@ abbrev world_of : ConfigValue → Nodes → Run → WorldValue
 world_of config liars run = record { config = config; liars = liars; run = run }
 
 -- the node of a name after the run, where it was the node of the run before
-node_after : (config : ConfigValue) (liars : Nodes) (run : Run) (at name : ℕ) (e : Event) (b : Bool) → (at == name) ≡ b →
+node_after : (config : ConfigValue) (liars : Nodes) (run : Run) (at name : ℕ) (e : Event) (b : Bool)
+    → (at == name) ≡ b →
     is_correct_in (world_of config liars run) at ≡ true → (members members' : Members) →
     member_in members name ≡ node_due (world_of config liars run) name →
     member_in members' at ≡ Some (with_event (node_in (world_of config liars run) at) e) →
@@ -112,9 +120,15 @@ node_after config liars run at name e false other correct members members' was n
     let w' : WorldValue = world_of config liars (run ++ (at, e) ∷ []) in
     others other ∙ was
     ∙ (λ i. if is_correct_in (world_of config liars run) name
-    then Some (record { config = config; me = name; history = sym (history_of-push_other name (at, e) run other) i }) else None)
+    then Some (record {
+      config = config;
+      me = name;
+      history =
+          sym (history_of-push_other name (at, e) run other) i;
+    }) else None)
 
-named_after : (at name : ℕ) (order : List ℕ) (h h' : ℕ → List Event) (e : Event) (b : Bool) → (at == name) ≡ b → IsLonger h h' at e →
+named_after : (at name : ℕ) (order : List ℕ) (h h' : ℕ → List Event) (e : Event) (b : Bool) → (at == name) ≡ b
+    → IsLonger h h' at e →
     times name order ≡ length (h name) → times name (order ++ at ∷ []) ≡ length (h' name)
 named_after at name order h h' e true own longer was =
     let same : at ≡ name = exact_unsigned_eq at name own in
@@ -136,25 +150,30 @@ room_for most pooled nodes e = grind (arith, nat_tests)
 within_by : (limit nodes : ℕ) (sent : List Sent) (at : ℕ) (message : Option Message) (act : Bool) →
     length sent * nodes ≤ limit → (act ≡ true → message ≡ None) → (act ≡ false → length sent * nodes + nodes ≤ limit) →
     length (sent ++ listed (option_map (λ m. (at, m)) message)) * nodes ≤ limit
-within_by limit nodes sent at None act was none room = subst (λ xs. length xs * nodes ≤ limit) (sym (append-nil sent)) was
+within_by limit nodes sent at None act was none room =
+    subst (λ xs. length xs * nodes ≤ limit) (sym (append-nil sent)) was
 within_by limit nodes sent at (Some m) true was none room = let clash = none refl in absurd cc
 within_by limit nodes sent at (Some m) false was none room =
     let long : length (sent ++ (at, m) ∷ []) ≡ length sent + 1 = length-append sent ((at, m) ∷ []) in
-    let more : length (sent ++ (at, m) ∷ []) * nodes ≡ length sent * nodes + nodes = ap (λ k. k * nodes) long ∙ grind arith in
+    let more : length (sent ++ (at, m) ∷ []) * nodes ≡ length sent * nodes + nodes = ap (λ k. k * nodes) long
+    ∙ grind arith in
     omega (arith, more, room refl)
 
 -- the fields after a node has recorded an event and its message was kept
-pub record HasGrown (config : ConfigValue) (liars : Nodes) (run : Run) (at : ℕ) (e : Event) (members' : Members) (order' : List ℕ)
+pub record HasGrown (config : ConfigValue) (liars : Nodes) (run : Run) (at : ℕ) (e : Event) (members' : Members)
+    (order' : List ℕ)
     (sent' : List Sent) : Type 0 where
   pub is : IsWorldIn config liars members' order' sent'
   pub run_is : run_in members' order' ≡ run ++ (at, e) ∷ []
 
-pub world_grows : (config : ConfigValue) (liars : Nodes) (members : Members) (order : List ℕ) (sent : List Sent) (at : ℕ) (e : Event) →
+pub world_grows : (config : ConfigValue) (liars : Nodes) (members : Members) (order : List ℕ) (sent : List Sent)
+    (at : ℕ) (e : Event) →
     IsWorldIn config liars members order sent → MayHappen (world_in config liars members order) at e →
     outlook config at (history_of at (run_in members order)) e ≡ Ok effect.Counted →
     HasGrown config liars (run_in members order) at e
     (slice_set members at (Some (with_event (node_in (world_in config liars members order) at) e))) (order ++ at ∷ [])
-    (sent ++ listed (option_map (λ m. (at, m)) (sent_by (reply_to config.roles at (history_of at (run_in members order)) e))))
+    (sent ++ listed (option_map (λ m. (at, m))
+    (sent_by (reply_to config.roles at (history_of at (run_in members order)) e))))
 world_grows config liars members order sent at e is may counts =
     let run : Run = run_in members order in
     let w : WorldValue = world_in config liars members order in
@@ -166,7 +185,8 @@ world_grows config liars members order sent at e is may counts =
     let sent' : List Sent = sent ++ listed (option_map (λ m. (at, m)) (sent_by reply)) in
     let h : ℕ → List Event = λ name. history_in (member_in members name) in
     let h' : ℕ → List Event = λ name. history_in (member_in members' name) in
-    let here : member_in members at ≡ Some (node_in w at) = correct_member config liars members order sent is at may.follows.correct in
+    let here : member_in members at
+    ≡ Some (node_in w at) = correct_member config liars members order sent is at may.follows.correct in
     let now : member_in members' at ≡ Some node' =
     ap (option_and_then (λ x. x)) (set_here members at (Some node') (member_within members at (node_in w at) here)) in
     let others : (name : ℕ) → (at == name) ≡ false → member_in members' name ≡ member_in members name =
@@ -186,9 +206,11 @@ world_grows config liars members order sent at e is may counts =
     let counted : length (pool config run) ≡ length sent * config.roles.sizes.nodes =
     pool-length config run ∙ ap (λ ms. length ms * config.roles.sizes.nodes) (sym is.messages) in
     let fits : length sent' * config.roles.sizes.nodes ≤ config.limit =
-    within_by config.limit config.roles.sizes.nodes sent at (sent_by reply) (is_act e) (omega (arith, counted, is.within))
+    within_by config.limit config.roles.sizes.nodes sent at (sent_by reply) (is_act e)
+    (omega (arith, counted, is.within))
     (act_sends_nothing config at past e)
-    (λ sending. let room = room_for config.limit (length (pool config run)) config.roles.sizes.nodes (may.room sending) in omega (arith, counted, room)) in
+    (λ sending. let room = room_for config.limit (length (pool config run))
+    config.roles.sizes.nodes (may.room sending) in omega (arith, counted, room)) in
     let pooled : length (pool config (run_in members' order')) ≡ length sent' * config.roles.sizes.nodes =
     ap (λ r. length (pool config r)) run_is ∙ pool-length config (run ++ (at, e) ∷ [])
     ∙ ap (λ ms. length ms * config.roles.sizes.nodes) messages_are in
@@ -197,7 +219,8 @@ world_grows config liars members order sent at e is may counts =
         cluster = subst (IsClusterRun config liars) (sym run_is) grown;
         one_each = set-length members at (Some node') ∙ is.one_each;
         nodes = λ name.
-            node_after config liars run at name e _ refl may.follows.correct members members' (is.nodes name) now (others name)
+            node_after config liars run at name e _ refl may.follows.correct members members' (is.nodes name)
+            now (others name)
             ∙ ap (λ r. node_due (world_of config liars r) name) (sym run_is);
         named = λ name. named_after at name order h h' e _ refl longer (is.named name);
         messages = sym (ap (messages config) run_is ∙ messages_are);
@@ -222,20 +245,24 @@ after_counted config me history node (Client (DropRole session user role)) = ref
 after_counted config me history node (Client (Close session user)) = refl
 
 -- what a node's answer and the fields after it are, where the event counts
-pub record IsRecorded (config : ConfigValue) (liars : Nodes) (w : WorldValue) (at : ℕ) (e : Event) (reply : Reply) (members' : Members)
+pub record IsRecorded (config : ConfigValue) (liars : Nodes) (w : WorldValue) (at : ℕ) (e : Event) (reply : Reply)
+    (members' : Members)
     (order' : List ℕ) (sent' : List Sent) : Type 0 where
   pub reply_is : reply ≡ reply_to w.config.roles at (history_of at w.run) e
   pub grown : HasGrown config liars w.run at e members' order' sent'
 
-pub is_recorded_in : (config : ConfigValue) (liars : Nodes) (members : Members) (order : List ℕ) (sent : List Sent) (w : WorldValue)
+pub is_recorded_in : (config : ConfigValue) (liars : Nodes) (members : Members) (order : List ℕ)
+    (sent : List Sent) (w : WorldValue)
     (at : ℕ) (e : Event) (reply : Reply) (members' : Members) (order' : List ℕ) (sent' : List Sent) →
     IsWorldIn config liars members order sent → world_in config liars members order ≡ w → MayHappen w at e →
     outlook w.config at (history_of at w.run) e ≡ Ok effect.Counted →
     ((node : NodeValue) → member_in members at ≡ Some node → due_at node e ≡ Ok reply) →
-    ((node : NodeValue) → member_in members at ≡ Some node → members' ≡ slice_set members at (Some (after_reply node e reply))) →
+    ((node : NodeValue) → member_in members at ≡ Some node
+    → members' ≡ slice_set members at (Some (after_reply node e reply))) →
     order' ≡ order ++ at ∷ [] → sent' ≡ sent ++ listed (option_map (λ m. (at, m)) (sent_by reply)) →
     IsRecorded config liars w at e reply members' order' sent'
-is_recorded_in config liars members order sent w at e reply members' order' sent' is same may counts due set named sends =
+is_recorded_in config liars members order sent w at e reply members' order' sent' is same may counts due set named
+    sends =
     let start : WorldValue = world_in config liars members order in
     let past : List Event = history_of at (run_in members order) in
     let R : Reply = reply_to config.roles at past e in
@@ -244,7 +271,8 @@ is_recorded_in config liars members order sent w at e reply members' order' sent
     let may' : MayHappen start at e = subst P (sym same) may in
     let counts' : outlook config at past e ≡ Ok effect.Counted = subst C (sym same) counts in
     let here = correct_member config liars members order sent is at may'.follows.correct in
-    let reply_is : reply ≡ R = same_ok R reply (sym (answer_is config at past e counts') ∙ due (node_in start at) here) in
+    let reply_is : reply ≡ R = same_ok R reply (sym (answer_is config at past e counts')
+    ∙ due (node_in start at) here) in
     let members_are : members' ≡ slice_set members at (Some (with_event (node_in start at) e)) =
     set (node_in start at) here
     ∙ ap (λ r. slice_set members at (Some (after_reply (node_in start at) e r))) reply_is

@@ -47,7 +47,8 @@ replied_by (Ok effect.Idle) r e = absurd cc
 replied_by (Ok effect.Counted) r e = refl
 replied_by (Err f) r e = absurd cc
 
-sends_by : (o : Result Effect NodeFault) (r : Reply) (m : Message) → sent_by_answer (answered o r) ≡ Some m → answered o r ≡ Ok r
+sends_by : (o : Result Effect NodeFault) (r : Reply) (m : Message) → sent_by_answer (answered o r) ≡ Some m
+    → answered o r ≡ Ok r
 sends_by (Ok effect.Idle) r m e = absurd cc
 sends_by (Ok effect.Counted) r m e = refl
 sends_by (Err f) r m e = absurd cc
@@ -69,12 +70,15 @@ own_stays true xs ys k c e = at_front xs ys k c e
 own_stays false xs ys k c e = absurd cc
 
 takes_more : (owner place : ℕ) (before later : List Event) →
-    takes_at owner place (packets (before ++ later)) ≡ takes_at owner place (packets before) ++ takes_at owner place (packets later)
+    takes_at owner place (packets (before ++ later))
+    ≡ takes_at owner place (packets before) ++ takes_at owner place (packets later)
 takes_more owner place before later =
-    ap (takes_at owner place) (packets-append before later) ∙ takes_at-append owner place (packets before) (packets later)
+    ap (takes_at owner place) (packets-append before later)
+    ∙ takes_at-append owner place (packets before) (packets later)
 
 stays_by : (s : Counts) (me : ℕ) (before later : List Event) (kind : Kind) (owner place : ℕ) (c : Command) →
-    of_kind kind (sent_at s me before owner place) ≡ Some c → of_kind kind (sent_at s me (before ++ later) owner place) ≡ Some c
+    of_kind kind (sent_at s me before owner place) ≡ Some c
+    → of_kind kind (sent_at s me (before ++ later) owner place) ≡ Some c
 stays_by s me before later Send owner place c e =
     ap (λ cs. if owner == me then slice_get cs place else None) (issued-append before later)
     ∙ own_stays (owner == me) (issued before) (issued later) place c e
@@ -106,13 +110,15 @@ supporters_of_send kind c ts t other send =
     bracha.supporters_alike kind c ts (ts ++ t ∷ [])
     (λ q. ap (is_for c) (bracha.vote_push-other kind q ts t (ap (same_kind kind) send ∙ not_a_send kind other)))
 
-send_readies_nothing : (s : Counts) (ts : List Take) (t : Take) → t.kind ≡ Send → readied s (ts ++ t ∷ []) ≡ readied s ts
+send_readies_nothing : (s : Counts) (ts : List Take) (t : Take) → t.kind ≡ Send
+    → readied s (ts ++ t ∷ []) ≡ readied s ts
 send_readies_nothing s ts t send =
     bracha.readies_its_own s ts t
     ∙ none_ready (readied s ts) (may_ready s (ts ++ t ∷ []) t.command) t.command
     (λ none.
     bracha.may_ready-alike s ts (ts ++ t ∷ []) t.command
-    (supporters_of_send Echo t.command ts t (λ e. absurd cc) send) (supporters_of_send Ready t.command ts t (λ e. absurd cc) send)
+    (supporters_of_send Echo t.command ts t (λ e. absurd cc) send)
+    (supporters_of_send Ready t.command ts t (λ e. absurd cc) send)
     ∙ bracha.not_ready s ts none t.command)
 
 -- A packet that counts sends what is new.
@@ -136,7 +142,8 @@ some_or_none : (o : Option Command) → ((d : Command) × (o ≡ Some d)) ⊎ (o
 some_or_none None = inr refl
 some_or_none (Some d) = inl (d, refl)
 
-echo_is_new : (ts : List Take) (t : Take) (c : Command) → echoed ts ≡ None → echoed (ts ++ t ∷ []) ≡ Some c → t.kind ≡ Send
+echo_is_new : (ts : List Take) (t : Take) (c : Command) → echoed ts ≡ None → echoed (ts ++ t ∷ []) ≡ Some c
+    → t.kind ≡ Send
 echo_is_new ts t c none e = echo_by (same_kind Send t.kind) refl
   where
     echo_by : (b : Bool) → same_kind Send t.kind ≡ b → t.kind ≡ Send
@@ -147,7 +154,8 @@ echo_is_new ts t c none e = echo_by (same_kind Send t.kind) refl
         absurd cc
 
 -- where a READY is new no ECHO is
-ready_alone : (s : Counts) (ts : List Take) (t : Take) (c : Command) → readied s ts ≡ None → readied s (ts ++ t ∷ []) ≡ Some c →
+ready_alone : (s : Counts) (ts : List Take) (t : Take) (c : Command) → readied s ts ≡ None
+    → readied s (ts ++ t ∷ []) ≡ Some c →
     newly (echoed ts) (echoed (ts ++ t ∷ [])) ≡ None
 ready_alone s ts t c none e =
     ⊎_elim
@@ -197,7 +205,8 @@ echo_at_take s history p c e =
     inl (was.1 ∙ sym stays ∙ e))
     (λ (was : echoed before ≡ None).
     inr (ap (option_map (said_at p))
-    (sends_echo (newly (echoed before) (echoed after)) (newly (readied s before) (readied s after)) c (new_is_newly _ _ c was e))))
+    (sends_echo (newly (echoed before) (echoed after)) (newly (readied s before)
+    (readied s after)) c (new_is_newly _ _ c was e))))
     (some_or_none (echoed before))
 
 ready_at_take : (s : Counts) (history : List Event) (p : PacketValue) (c : Command) →
@@ -210,14 +219,16 @@ ready_at_take s history p c e =
     let own = takes_at-own (packets history) p in
     ⊎_elim
     (λ (was : (d : Command) × (readied s before ≡ Some d)).
-    let stays : readied s after ≡ Some was.0 = ap (readied s) own ∙ bracha.ready_stays s before (take_of p ∷ []) was.0 was.1 in
+    let stays : readied s after ≡ Some was.0 = ap (readied s) own
+    ∙ bracha.ready_stays s before (take_of p ∷ []) was.0 was.1 in
     inl (was.1 ∙ sym stays ∙ e))
     (λ (was : readied s before ≡ None).
     let alone : newly (echoed before) (echoed after) ≡ None =
     ap (λ ts. newly (echoed before) (echoed ts)) own
     ∙ ready_alone s before (take_of p) c was (ap (readied s) (sym own) ∙ e) in
     inr (ap (option_map (said_at p))
-    (sends_ready (newly (echoed before) (echoed after)) (newly (readied s before) (readied s after)) c alone (new_is_newly _ _ c was e))))
+    (sends_ready (newly (echoed before) (echoed after)) (newly (readied s before)
+    (readied s after)) c alone (new_is_newly _ _ c was e))))
     (some_or_none (readied s before))
 
 -- What an event newly has a node send, its answer sends.
@@ -229,7 +240,8 @@ sent_as roles me history e = sent_by (reply_to roles me history e)
 abbrev message : Kind → ℕ → ℕ → Command → Message
 message kind owner place c = record { kind = kind; owner = owner; place = place; command = c }
 
-issue_sends : (roles : Table) (me : ℕ) (history : List Event) (own c : Command) (owner place : ℕ) (b : Bool) → (owner == me) ≡ b →
+issue_sends : (roles : Table) (me : ℕ) (history : List Event) (own c : Command) (owner place : ℕ) (b : Bool)
+    → (owner == me) ≡ b →
     ◌≡◌ {A = Option Command} (if b then slice_get (issued history ++ own ∷ []) place else None) (Some c) →
     (◌≡◌ {A = Option Command} (if b then slice_get (issued history) place else None) (Some c))
     ⊎ (sent_as roles me history (event.Issue own) ≡ Some (message Send owner place c))
@@ -243,11 +255,13 @@ issue_sends roles me history own c owner place true k e =
     (at_push (issued history) own place c e)
 
 -- a packet of another instance changes nothing of this one
-elsewhere : (owner place : ℕ) (history : List Event) (p : PacketValue) → ((p.owner == owner) && (p.place == place)) ≡ false →
+elsewhere : (owner place : ℕ) (history : List Event) (p : PacketValue)
+    → ((p.owner == owner) && (p.place == place)) ≡ false →
     takes_at owner place (packets (history ++ event.Take p ∷ [])) ≡ takes_at owner place (packets history)
 elsewhere owner place history p k = takes_with owner place history p ∙ takes_at-other owner place (packets history) p k
 
-echo_sends : (roles : Table) (me : ℕ) (history : List Event) (p : PacketValue) (c : Command) (owner place : ℕ) (b : Bool) →
+echo_sends : (roles : Table) (me : ℕ) (history : List Event) (p : PacketValue) (c : Command) (owner place : ℕ)
+    (b : Bool) →
     ((p.owner == owner) && (p.place == place)) ≡ b →
     echoed (takes_at owner place (packets (history ++ event.Take p ∷ []))) ≡ Some c →
     (echoed (takes_at owner place (packets history)) ≡ Some c)
@@ -257,11 +271,13 @@ echo_sends roles me history p c owner place true k e =
     let own = own_instance p.owner owner p.place place k in
     let P : ℕ → ℕ → Type 0 = λ o n.
     echoed (takes_at o n (packets (history ++ event.Take p ∷ []))) ≡ Some c →
-    (echoed (takes_at o n (packets history)) ≡ Some c) ⊎ (sent_as roles me history (event.Take p) ≡ Some (message Echo o n c)) in
+    (echoed (takes_at o n (packets history)) ≡ Some c) ⊎ (sent_as roles me history (event.Take p)
+    ≡ Some (message Echo o n c)) in
     subst (λ o. P o place) (sym own.0) (subst (P p.owner) (sym own.1)
     (λ h. echo_at_take roles.sizes history p c (ap echoed (sym (takes_with p.owner p.place history p)) ∙ h))) e
 
-ready_sends : (roles : Table) (me : ℕ) (history : List Event) (p : PacketValue) (c : Command) (owner place : ℕ) (b : Bool) →
+ready_sends : (roles : Table) (me : ℕ) (history : List Event) (p : PacketValue) (c : Command) (owner place : ℕ)
+    (b : Bool) →
     ((p.owner == owner) && (p.place == place)) ≡ b →
     readied roles.sizes (takes_at owner place (packets (history ++ event.Take p ∷ []))) ≡ Some c →
     (readied roles.sizes (takes_at owner place (packets history)) ≡ Some c)
@@ -272,13 +288,16 @@ ready_sends roles me history p c owner place true k e =
     let own = own_instance p.owner owner p.place place k in
     let P : ℕ → ℕ → Type 0 = λ o n.
     readied roles.sizes (takes_at o n (packets (history ++ event.Take p ∷ []))) ≡ Some c →
-    (readied roles.sizes (takes_at o n (packets history)) ≡ Some c) ⊎ (sent_as roles me history (event.Take p) ≡ Some (message Ready o n c)) in
+    (readied roles.sizes (takes_at o n (packets history)) ≡ Some c) ⊎ (sent_as roles me history (event.Take p)
+    ≡ Some (message Ready o n c)) in
     subst (λ o. P o place) (sym own.0) (subst (P p.owner) (sym own.1)
-    (λ h. ready_at_take roles.sizes history p c (ap (readied roles.sizes) (sym (takes_with p.owner p.place history p)) ∙ h))) e
+    (λ h. ready_at_take roles.sizes history p c (ap (readied roles.sizes)
+    (sym (takes_with p.owner p.place history p)) ∙ h))) e
 
 new_by : (roles : Table) (me : ℕ) (history : List Event) (e : Event) (kind : Kind) (owner place : ℕ) (c : Command) →
     of_kind kind (sent_at roles.sizes me (history ++ e ∷ []) owner place) ≡ Some c →
-    (of_kind kind (sent_at roles.sizes me history owner place) ≡ Some c) ⊎ (sent_as roles me history e ≡ Some (message kind owner place c))
+    (of_kind kind (sent_at roles.sizes me history owner place) ≡ Some c) ⊎ (sent_as roles me history e
+    ≡ Some (message kind owner place c))
 new_by roles me history (event.Issue own) Send owner place c h =
     issue_sends roles me history own c owner place (owner == me) refl
     (ap (λ cs. if owner == me then slice_get cs place else None) (sym (issued-Issue history own)) ∙ h)
@@ -299,7 +318,8 @@ new_by roles me history (event.Client act) Ready owner place c h =
 
 -- what an event that is recorded newly has the node send, the answer due to it sends
 pub said_newly : (config : ConfigValue) (me : ℕ) (history : List Event) (e : Event) (m : Message) →
-    is_recorded (answer_due config me history e) ≡ true → said config.roles.sizes me (history ++ e ∷ []) m ≡ Some m.command →
+    is_recorded (answer_due config me history e) ≡ true
+    → said config.roles.sizes me (history ++ e ∷ []) m ≡ Some m.command →
     (said config.roles.sizes me history m ≡ Some m.command) ⊎ (sent_by_answer (answer_due config me history e) ≡ Some m)
 said_newly config me history e m recorded h =
     let answer = replied_by (outlook config me history e) (reply_to config.roles me history e) recorded in
@@ -318,12 +338,14 @@ own_name a = grind (arith, nat_tests)
 
 sent_by_take : (s : Counts) (history : List Event) (p : PacketValue) (e r : Option Command) (m : Message) →
     option_map (said_at p) (sent_for e r) ≡ Some m →
-    ((c : Command) × (e ≡ Some c) × (message Echo p.owner p.place c ≡ m)) ⊎ ((c : Command) × (r ≡ Some c) × (message Ready p.owner p.place c ≡ m))
+    ((c : Command) × (e ≡ Some c) × (message Echo p.owner p.place c ≡ m)) ⊎ ((c : Command) × (r
+    ≡ Some c) × (message Ready p.owner p.place c ≡ m))
 sent_by_take s history p (Some c) r m h = inl (c, refl, same_some _ _ h)
 sent_by_take s history p None (Some c) m h = inr (c, refl, same_some _ _ h)
 sent_by_take s history p None None m h = absurd cc
 
-take_said : (s : Counts) (me : ℕ) (history : List Event) (p : PacketValue) (m : Message) → sends_at_take s history p ≡ Some m →
+take_said : (s : Counts) (me : ℕ) (history : List Event) (p : PacketValue) (m : Message)
+    → sends_at_take s history p ≡ Some m →
     said s me (history ++ event.Take p ∷ []) m ≡ Some m.command
 take_said s me history p m h =
     let before : List Take = takes_at p.owner p.place (packets history) in
@@ -331,10 +353,13 @@ take_said s me history p m h =
     let P : Message → Type 0 = λ x. said s me (history ++ event.Take p ∷ []) x ≡ Some x.command in
     ⊎_elim
     (λ (echo : (c : Command) × (newly (echoed before) (echoed after) ≡ Some c) × (message Echo p.owner p.place c ≡ m)).
-    let now : P (message Echo p.owner p.place echo.0) = ap echoed (takes_with p.owner p.place history p) ∙ newly_is _ _ _ echo.1 in
+    let now : P (message Echo p.owner p.place echo.0) = ap echoed (takes_with p.owner p.place history p)
+    ∙ newly_is _ _ _ echo.1 in
     subst P echo.2 now)
-    (λ (ready : (c : Command) × (newly (readied s before) (readied s after) ≡ Some c) × (message Ready p.owner p.place c ≡ m)).
-    let now : P (message Ready p.owner p.place ready.0) = ap (readied s) (takes_with p.owner p.place history p) ∙ newly_is _ _ _ ready.1 in
+    (λ (ready : (c : Command) × (newly (readied s before) (readied s after)
+    ≡ Some c) × (message Ready p.owner p.place c ≡ m)).
+    let now : P (message Ready p.owner p.place ready.0) = ap (readied s) (takes_with p.owner p.place history p)
+    ∙ newly_is _ _ _ ready.1 in
     subst P ready.2 now)
     (sent_by_take s history p (newly (echoed before) (echoed after)) (newly (readied s before) (readied s after)) m h)
 
@@ -351,7 +376,8 @@ issue_said s me history c m h =
     ∙ at_seam (issued history) [] c in
     subst P h now
 
-said_by : (roles : Table) (me : ℕ) (history : List Event) (e : Event) (m : Message) → sent_as roles me history e ≡ Some m →
+said_by : (roles : Table) (me : ℕ) (history : List Event) (e : Event) (m : Message)
+    → sent_as roles me history e ≡ Some m →
     said roles.sizes me (history ++ e ∷ []) m ≡ Some m.command
 said_by roles me history (event.Issue c) m h = issue_said roles.sizes me history c m (same_some _ _ h)
 said_by roles me history (event.Take p) m h = take_said roles.sizes me history p m h
@@ -362,7 +388,8 @@ said_by roles me history (event.Client (Close session user)) m h = absurd cc
 
 -- what the answer due to an event sends, the node has sent then
 pub answered_is_said : (config : ConfigValue) (me : ℕ) (history : List Event) (e : Event) (m : Message) →
-    sent_by_answer (answer_due config me history e) ≡ Some m → said config.roles.sizes me (history ++ e ∷ []) m ≡ Some m.command
+    sent_by_answer (answer_due config me history e) ≡ Some m
+    → said config.roles.sizes me (history ++ e ∷ []) m ≡ Some m.command
 answered_is_said config me history e m h =
     let answer = sends_by (outlook config me history e) (reply_to config.roles me history e) m h in
     said_by config.roles me history e m (ap sent_by_answer (sym answer) ∙ h)

@@ -61,12 +61,14 @@ adds_where w step at e arrives' counts =
     ap (λ x. nat_lt 0 (length (recorded_pair w x))) arrives' ∙ ap (λ ps. nat_lt 0 (length ps)) recorded
 
 pub recorded_answer : (w : WorldValue) (step : Step) (at : ℕ) (e : Event) (r : Result StepReply WorldFault) →
-    arrival w step ≡ Ok (Some (at, e)) → outlook_at w at e ≡ Ok effect.Counted → IfOk r (λ x. x ≡ of_reply w (reply_at w at e)) →
+    arrival w step ≡ Ok (Some (at, e)) → outlook_at w at e ≡ Ok effect.Counted
+    → IfOk r (λ x. x ≡ of_reply w (reply_at w at e)) →
     IfErr r (λ f. f ≡ fault.Memory) → IsStepAnswer w step r
 recorded_answer w step at e (Ok x) arrives' counts ok memory =
     due_where w step at e arrives' ∙ ap (λ o. of_answer w (answered o (reply_at w at e))) counts ∙ ap Ok (sym ok)
 recorded_answer w step at e (Err f) arrives' counts ok memory =
-    let P : WorldFault → Type 0 = λ x. IsStepAnswer w step (Err x) in subst P (sym memory) (adds_where w step at e arrives' counts)
+    let P : WorldFault → Type 0 = λ x. IsStepAnswer w step (Err x) in subst P (sym memory)
+    (adds_where w step at e arrives' counts)
 
 pub recorded_after : (w w' : WorldValue) (step : Step) (at : ℕ) (e : Event) (r : Result StepReply WorldFault) →
     arrival w step ≡ Ok (Some (at, e)) → outlook_at w at e ≡ Ok effect.Counted →
@@ -89,7 +91,8 @@ idle_after w step at e arrives' idle =
     let recorded = recorded_where w at e false (ap (λ o. is_recorded (answered o (reply_at w at e))) idle) in
     sym (after_where w step _ arrives' ∙ ap (λ ps. with_run w (w.run ++ ps)) recorded ∙ same_run w)
 
-pub refused_answer : (w : WorldValue) (step : Step) (at : ℕ) (e : Event) (f : NodeFault) → arrival w step ≡ Ok (Some (at, e)) →
+pub refused_answer : (w : WorldValue) (step : Step) (at : ℕ) (e : Event) (f : NodeFault)
+    → arrival w step ≡ Ok (Some (at, e)) →
     outlook_at w at e ≡ Err f → step_due w step ≡ Err (fault.Node f)
 refused_answer w step at e f arrives' refused =
     due_where w step at e arrives' ∙ ap (λ o. of_answer w (answered o (reply_at w at e))) refused
@@ -105,12 +108,14 @@ absorbed_after w step e = sym (after_where w step _ e ∙ same_run w)
 
 -- A step that is refused.
 
-full_other : (b : Bool) (pair : ℕ × Event) → ◌≡◌ {A = Arrival} (if b then Err fault.PoolFull else Ok (Some pair)) (Err fault.Memory) → ⊥
+full_other : (b : Bool) (pair : ℕ × Event)
+    → ◌≡◌ {A = Arrival} (if b then Err fault.PoolFull else Ok (Some pair)) (Err fault.Memory) → ⊥
 full_other true pair e = cc
 full_other false pair e = cc
 
 issue_other : (a b : Bool) (pair : ℕ × Event) →
-    ◌≡◌ {A = Arrival} (if a then (if b then Err fault.PoolFull else Ok (Some pair)) else Err fault.NotCorrect) (Err fault.Memory) → ⊥
+    ◌≡◌ {A = Arrival} (if a then (if b then Err fault.PoolFull else Ok (Some pair)) else Err fault.NotCorrect)
+    (Err fault.Memory) → ⊥
 issue_other true b pair e = full_other b pair e
 issue_other false b pair e = cc
 
@@ -124,7 +129,8 @@ given_other w None e = cc
 given_other w (Some p) e = arrives_other (is_correct_in w p.to) (is_pool_full w) (p.to, event.Take p) e
 
 lie_other : (a b : Bool) (c : Arrival) → (c ≡ Err fault.Memory → ⊥) →
-    ◌≡◌ {A = Arrival} (if not a then Err fault.NotCorrect else (if b then Err fault.NotSent else c)) (Err fault.Memory) → ⊥
+    ◌≡◌ {A = Arrival} (if not a then Err fault.NotCorrect else (if b then Err fault.NotSent else c))
+    (Err fault.Memory) → ⊥
 lie_other false b c h e = cc
 lie_other true true c h e = cc
 lie_other true false c h e = h e
@@ -139,11 +145,13 @@ arrival_other : (w : WorldValue) (step : Step) → arrival w step ≡ Err fault.
 arrival_other w (Issue node c) e = issue_other (is_correct_in w node) (is_pool_full w) (node, event.Issue c) e
 arrival_other w (Give k) e = given_other w (slice_get (pool w.config w.run) k) e
 arrival_other w (Lie p) e =
-    lie_other (nat_lt p.from w.config.roles.sizes.nodes && nat_lt p.to w.config.roles.sizes.nodes) (is_forged w p) (arrives w p)
+    lie_other (nat_lt p.from w.config.roles.sizes.nodes && nat_lt p.to w.config.roles.sizes.nodes) (is_forged w p)
+    (arrives w p)
     (arrives_other (is_correct_in w p.to) (is_pool_full w) (p.to, event.Take p)) e
 arrival_other w (Client node act) e = client_other (is_correct_in w node) (node, event.Client act) e
 
-err_by : (w : WorldValue) (step : Step) (f : WorldFault) → step_due w step ≡ Err f → (f ≡ fault.Memory → ⊥) → IsStepAnswer w step (Err f)
+err_by : (w : WorldValue) (step : Step) (f : WorldFault) → step_due w step ≡ Err f → (f ≡ fault.Memory → ⊥)
+    → IsStepAnswer w step (Err f)
 err_by w step fault.TooManyLiars e other = e
 err_by w step fault.NotCorrect e other = e
 err_by w step fault.NoSuchPacket e other = e
@@ -153,12 +161,14 @@ err_by w step (fault.Node f) e other = e
 err_by w step fault.NoSession e other = e
 err_by w step fault.Memory e other = absurd (other refl)
 
-pub early_answer : (w : WorldValue) (step : Step) (f : WorldFault) → arrival w step ≡ Err f → IsStepAnswer w step (Err f)
+pub early_answer : (w : WorldValue) (step : Step) (f : WorldFault) → arrival w step ≡ Err f
+    → IsStepAnswer w step (Err f)
 unfolding step_due
 early_answer w step f e = err_by w step f (ap (answer_of w) e) (λ m. arrival_other w step (e ∙ ap Err m))
 
 -- a refusal that is due leaves the world
-due_err : (w : WorldValue) (step : Step) (f : WorldFault) → IsStepAnswer w step (Err f) → (f ≡ fault.Memory → ⊥) → step_due w step ≡ Err f
+due_err : (w : WorldValue) (step : Step) (f : WorldFault) → IsStepAnswer w step (Err f) → (f ≡ fault.Memory → ⊥)
+    → step_due w step ≡ Err f
 due_err w step fault.TooManyLiars e other = e
 due_err w step fault.NotCorrect e other = e
 due_err w step fault.NoSuchPacket e other = e
@@ -171,13 +181,15 @@ due_err w step fault.Memory e other = absurd (other refl)
 unrecorded : (w : WorldValue) (a : Arrival) (f : WorldFault) → answer_of w a ≡ Err f → recorded_pair w a ≡ []
 unrecorded w (Ok (Some pair)) f e = by pair (due_at (node_in w pair.0) pair.1) e
   where
-    by : (pair : ℕ × Event) (r : Result Reply NodeFault) → of_answer w r ≡ Err f → (if is_recorded r then pair ∷ [] else []) ≡ []
+    by : (pair : ℕ × Event) (r : Result Reply NodeFault) → of_answer w r ≡ Err f
+        → (if is_recorded r then pair ∷ [] else []) ≡ []
     by pair (Ok r) e = absurd cc
     by pair (Err g) e = refl
 unrecorded w (Ok None) f e = refl
 unrecorded w (Err g) f e = refl
 
-pub refused_after : (w : WorldValue) (step : Step) (f : WorldFault) → IsStepAnswer w step (Err f) → (f ≡ fault.Memory → ⊥) →
+pub refused_after : (w : WorldValue) (step : Step) (f : WorldFault) → IsStepAnswer w step (Err f)
+    → (f ≡ fault.Memory → ⊥) →
     w ≡ after_step w step
 unfolding step_due
 refused_after w step f answer other =
@@ -192,7 +204,8 @@ full_is w true pair q e = absurd cc
 full_is w false pair q e = (refl, cc)
 
 issue_is : (w : WorldValue) (a b : Bool) (pair q : ℕ × Event) →
-    ◌≡◌ {A = Arrival} (if a then (if b then Err fault.PoolFull else Ok (Some pair)) else Err fault.NotCorrect) (Ok (Some q)) →
+    ◌≡◌ {A = Arrival} (if a then (if b then Err fault.PoolFull else Ok (Some pair)) else Err fault.NotCorrect)
+    (Ok (Some q)) →
     (a ≡ true) × (b ≡ false) × (pair ≡ q)
 issue_is w true b pair q e = let rest = full_is w b pair q e in (refl, rest.0, rest.1)
 issue_is w false b pair q e = absurd cc
@@ -233,7 +246,8 @@ taken_may w p q own sent e =
         correct = is.0;
         sends = λ x same. subst SentByOwner (same_take p x same) own;
         links = λ x same.
-            let L : PacketValue → Type 0 = λ y. is_correct_in w y.from ≡ true → IsTrue (has_sent w.config.roles.sizes w.run y.from (message_of y)) in
+            let L : PacketValue → Type 0 = λ y. is_correct_in w y.from ≡ true
+            → IsTrue (has_sent w.config.roles.sizes w.run y.from (message_of y)) in
             subst L (same_take p x same) sent;
       };
       room = λ act. is.1;
@@ -248,8 +262,10 @@ given_may : (w : WorldValue) (o : Option PacketValue) (k : ℕ) (q : ℕ × Even
     slice_get (pool w.config w.run) k ≡ o → given w o ≡ Ok (Some q) → MayBe w q
 given_may w None k q is at e = absurd cc
 given_may w (Some p) k q is at e =
-    let pooled : IsPooled w.config w.liars w.run p = pooled_is_sent w.config w.liars w.run p is (contained (pool w.config w.run) k p at) in
-    taken_may w p q (pooled_is_own w.config w.liars w.run p is (contained (pool w.config w.run) k p at)) (λ correct. pooled.sent) e
+    let pooled : IsPooled w.config w.liars w.run p =
+    pooled_is_sent w.config w.liars w.run p is (contained (pool w.config w.run) k p at) in
+    taken_may w p q (pooled_is_own w.config w.liars w.run p is (contained (pool w.config w.run) k p at))
+    (λ correct. pooled.sent) e
 
 pub may_arrive : (w : WorldValue) (step : Step) (at : ℕ) (e : Event) → IsClusterRunOf w → IsSound step →
     arrival w step ≡ Ok (Some (at, e)) → MayHappen w at e
@@ -262,8 +278,10 @@ may_arrive w (Issue node c) at e is sound h =
     })
 may_arrive w (Give k) at e is sound h = given_may w (slice_get (pool w.config w.run) k) k (at, e) is refl h
 may_arrive w (Lie p) at e is sound h =
-    let l = lie_is (nat_lt p.from w.config.roles.sizes.nodes && nat_lt p.to w.config.roles.sizes.nodes) (is_forged w p) (arrives w p) (at, e) h in
-    taken_may w p (at, e) sound (unforged (is_correct_in w p.from) (has_sent w.config.roles.sizes w.run p.from (message_of p)) l.0) l.1
+    let l = lie_is (nat_lt p.from w.config.roles.sizes.nodes && nat_lt p.to w.config.roles.sizes.nodes)
+    (is_forged w p) (arrives w p) (at, e) h in
+    taken_may w p (at, e) sound (unforged (is_correct_in w p.from)
+    (has_sent w.config.roles.sizes w.run p.from (message_of p)) l.0) l.1
 may_arrive w (Client node act) at e is sound h =
     let i = client_is (is_correct_in w node) (node, event.Client act) (at, e) h in
     subst (MayBe w) i.1
@@ -285,7 +303,8 @@ unfolding after_steps
 after_steps-none w = refl
 
 -- the run of a world stays a cluster run
-pub after_step_runs : (w : WorldValue) (step : Step) → IsClusterRunOf w → IsSound step → IsClusterRunOf (after_step w step)
+pub after_step_runs : (w : WorldValue) (step : Step) → IsClusterRunOf w → IsSound step
+    → IsClusterRunOf (after_step w step)
 after_step_runs w step is sound =
     subst IsClusterRunOf (sym (after_where w step (arrival w step) refl)) (grown (arrival w step) refl)
   where
@@ -293,6 +312,7 @@ after_step_runs w step is sound =
         IsClusterRun w.config w.liars (w.run ++ (if b then pair ∷ [] else []))
     recorded pair may true e = cluster_run_push w.config w.liars w.run pair.0 pair.1 is may.follows e
     recorded pair may false e = subst (IsClusterRun w.config w.liars) (sym (append-nil w.run)) is
+
     grown : (a : Arrival) → arrival w step ≡ a → IsClusterRunOf (with_run w (w.run ++ recorded_pair w a))
     grown (Ok (Some pair)) e =
         recorded pair (may_arrive w step pair.0 pair.1 is sound e) (is_recorded (due_at (node_in w pair.0) pair.1)) refl
@@ -304,4 +324,5 @@ pub after_steps_runs : (w : WorldValue) (steps : List Step) → IsClusterRunOf w
 unfolding after_steps
 after_steps_runs w [] is sound = is
 after_steps_runs w (step ∷ steps) is sound =
-    after_steps_runs (after_step w step) steps (after_step_runs w step is (sound 0 step refl)) (λ k s at. sound (suc k) s at)
+    after_steps_runs (after_step w step) steps (after_step_runs w step is (sound 0 step refl))
+    (λ k s at. sound (suc k) s at)

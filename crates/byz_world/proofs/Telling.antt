@@ -43,12 +43,17 @@ pub record IsNodeIn (w : WorldValue) (name : ℕ) (node : NodeValue) : Type 0 wh
   pub correct : is_correct_in w name ≡ true
   pub is : node ≡ node_in w name
 
-node_by : (b : Bool) (x y : NodeValue) → ◌≡◌ {A = Option NodeValue} (if b then Some x else None) (Some y) → (b ≡ true) × (y ≡ x)
+node_by : (b : Bool) (x y : NodeValue) → ◌≡◌ {A = Option NodeValue} (if b then Some x else None) (Some y)
+    → (b ≡ true) × (y ≡ x)
 node_by true x y e = (refl, cc)
 node_by false x y e = absurd cc
 
 pub node_is : (w : WorldValue) (name : ℕ) (node : NodeValue) → node_due w name ≡ Some node → IsNodeIn w name node
-node_is w name node e = let both = node_by (is_correct_in w name) (node_in w name) node e in record { correct = both.0; is = both.1 }
+node_is w name node e = let both = node_by (is_correct_in w name) (node_in w name) node e in record {
+  correct =
+      both.0;
+  is = both.1;
+}
 
 pub some_is_correct : (w : WorldValue) (name : ℕ) → is_some (node_due w name) ≡ is_correct_in w name
 some_is_correct w name = by (is_correct_in w name) (node_in w name)
@@ -85,14 +90,16 @@ message_is_due config run sent to c =
     due_by (same_kind sent.1.kind Send) (sent.0 == sent.1.owner) (packet_of sent.0 to sent.1)
     (λ send.
     ap (λ n. n == sent.1.owner)
-    (send_is_own config.roles.sizes sent.0 (history_of sent.0 run) sent.1.kind sent.1.owner sent.1.place sent.1.command (same_kind-true _ _ send) was)
+    (send_is_own config.roles.sizes sent.0 (history_of sent.0 run)
+    sent.1.kind sent.1.owner sent.1.place sent.1.command (same_kind-true _ _ send) was)
     ∙ own sent.1.owner)
   where
     own : (a : ℕ) → (a == a) ≡ true
     own a = grind (arith, nat_tests)
 
 -- a SEND of the pool is from its owner
-pub pooled_is_own : (config : ConfigValue) (liars : Nodes) (run : Run) (p : PacketValue) → IsClusterRun config liars run →
+pub pooled_is_own : (config : ConfigValue) (liars : Nodes) (run : Run) (p : PacketValue)
+    → IsClusterRun config liars run →
     Contains (pool config run) p → SentByOwner p
 pooled_is_own config liars run p is c send =
     let pooled = pooled_is_sent config liars run p is c in
@@ -126,7 +133,11 @@ none_taken config liars run node owner place is past =
     first_in (taken_by run node owner place)
     (λ t k at.
     let from : IsTakenIn run (length run) node owner place t =
-    taken_in (length run) run node owner place t (k, ap (λ ts. slice_get ts k) (taken_whole run node owner place) ∙ at) in
+    taken_in (length run) run node owner place t (
+      k,
+      ap (λ ts. slice_get ts k) (taken_whole run node owner place)
+          ∙ at,
+    ) in
     let route = routed config node (history_of node run) from.number from.packet (is.legal node) from.in_history in
     omega (arith, route.2, from.owner_is, past))
 
@@ -134,18 +145,23 @@ unsent : (config : ConfigValue) (liars : Nodes) (run : Run) (node : ℕ) (kind :
     IsClusterRun config liars run → config.roles.sizes.nodes ≤ owner → node < config.roles.sizes.nodes →
     of_kind kind (sent_at config.roles.sizes node (history_of node run) owner place) ≡ Some c → ⊥
 unsent config liars run node Send owner place c is past within e =
-    let own = send_is_own config.roles.sizes node (history_of node run) Send owner place c refl e in omega (arith, own, past, within)
+    let own = send_is_own config.roles.sizes node (history_of node run)
+    Send owner place c refl e in omega (arith, own, past, within)
 unsent config liars run node Echo owner place c is past within e =
     let none = ap echoed (none_taken config liars run node owner place is past) ∙ echoed-none in absurd cc
 unsent config liars run node Ready owner place c is past within e =
-    let none = ap (readied config.roles.sizes) (none_taken config liars run node owner place is past) ∙ readied-none config.roles.sizes in absurd cc
+    let none = ap (readied config.roles.sizes) (none_taken config liars run node owner place is past)
+    ∙ readied-none config.roles.sizes in absurd cc
 
 -- nothing is sent of an owner that is no node
-pub foreign_is_unsent : (config : ConfigValue) (liars : Nodes) (run : Run) (node : ℕ) (m : Message) → IsClusterRun config liars run →
-    config.roles.sizes.nodes ≤ m.owner → node < config.roles.sizes.nodes → has_sent config.roles.sizes run node m ≡ false
+pub foreign_is_unsent : (config : ConfigValue) (liars : Nodes) (run : Run) (node : ℕ) (m : Message)
+    → IsClusterRun config liars run →
+    config.roles.sizes.nodes ≤ m.owner → node < config.roles.sizes.nodes
+    → has_sent config.roles.sizes run node m ≡ false
 foreign_is_unsent config liars run node m is past within =
     by (has_sent config.roles.sizes run node m)
-    (λ sent. unsent config liars run node m.kind m.owner m.place m.command is past within (has_sent_is config.roles.sizes run node m sent))
+    (λ sent. unsent config liars run node m.kind m.owner m.place m.command is past within (has_sent_is
+    config.roles.sizes run node m sent))
   where
     by : (b : Bool) → (b ≡ true → ⊥) → b ≡ false
     by true h = absurd (h refl)
@@ -160,11 +176,13 @@ correct_is_node s liars name e = below name s.nodes _ e
 -- Forgery.
 
 -- a packet in a correct node's name of an owner that is no node was not sent
-pub foreign_is_forged : (w : WorldValue) (p : PacketValue) (node : NodeValue) → IsClusterRunOf w → Some node ≡ node_due w p.from →
+pub foreign_is_forged : (w : WorldValue) (p : PacketValue) (node : NodeValue) → IsClusterRunOf w
+    → Some node ≡ node_due w p.from →
     w.config.roles.sizes.nodes ≤ p.owner → is_forged w p ≡ true
 foreign_is_forged w p node is here past =
     let from = node_is w p.from node (sym here) in
-    let unsaid = foreign_is_unsent w.config w.liars w.run p.from (message_of p) is past (correct_is_node w.config.roles.sizes w.liars p.from from.correct) in
+    let unsaid = foreign_is_unsent w.config w.liars w.run p.from (message_of p)
+    is past (correct_is_node w.config.roles.sizes w.liars p.from from.correct) in
     λ i. from.correct i && not (unsaid i)
 
 pub forged_is : (w : WorldValue) (p : PacketValue) (node : NodeValue) → Some node ≡ node_due w p.from →
@@ -174,36 +192,44 @@ unfolding has_sent
 forged_is w p node here =
     let from = node_is w p.from node (sym here) in
     (λ i. from.correct i && not (has_sent w.config.roles.sizes w.run p.from (message_of p)))
-    ∙ ap (λ (n : NodeValue). not (is_for p.command (of_kind p.kind (sent_at n.config.roles.sizes n.me n.history p.owner p.place)))) (sym from.is)
+    ∙ ap (λ (n : NodeValue). not (is_for p.command (of_kind p.kind (sent_at n.config.roles.sizes n.me n.history
+    p.owner p.place)))) (sym from.is)
 
 -- Streams.
 
 -- how far two correct nodes' streams agree is the least of their reaches
-pub agree_is : (w : WorldValue) (i j owner : ℕ) (a b : NodeValue) → IsClusterRunOf w → Some a ≡ node_due w i → Some b ≡ node_due w j →
+pub agree_is : (w : WorldValue) (i j owner : ℕ) (a b : NodeValue) → IsClusterRunOf w → Some a ≡ node_due w i
+    → Some b ≡ node_due w j →
     owner < w.config.roles.sizes.nodes →
-    Some (min (reach_at a.config.roles.sizes a.history owner) (reach_at b.config.roles.sizes b.history owner)) ≡ agree_due w i j owner
+    Some (min (reach_at a.config.roles.sizes a.history owner) (reach_at b.config.roles.sizes b.history owner))
+    ≡ agree_due w i j owner
 agree_is w i j owner a b is here there within =
     let first = node_is w i a (sym here) in
     let second = node_is w j b (sym there) in
     let node : nat_lt owner w.config.roles.sizes.nodes ≡ true = grind (arith, nat_tests) in
     let agreed = (consistency w.config w.liars w.run is).streams_agree i j owner first.correct second.correct in
-    (λ k. Some (min (reach_at (first.is k).config.roles.sizes (first.is k).history owner) (reach_at (second.is k).config.roles.sizes (second.is k).history owner)))
+    (λ k. Some (min (reach_at (first.is k).config.roles.sizes (first.is k).history owner)
+    (reach_at (second.is k).config.roles.sizes (second.is k).history owner)))
     ∙ ap Some (sym agreed)
     ∙ sym (λ k. if first.correct k && second.correct k && node k
-    then Some (common_length (stream_at w.config.roles.sizes (history_of i w.run) owner) (stream_at w.config.roles.sizes (history_of j w.run) owner)) else None)
+    then Some (common_length (stream_at w.config.roles.sizes (history_of i w.run) owner)
+    (stream_at w.config.roles.sizes (history_of j w.run) owner)) else None)
 
 -- Decisions.
 
-pub decision_is : (w : WorldValue) (name session user operation object : ℕ) (decision : Verdict) → is_correct_in w name ≡ true →
+pub decision_is : (w : WorldValue) (name session user operation object : ℕ) (decision : Verdict)
+    → is_correct_in w name ≡ true →
     decision ≡ verdict_at w.config.roles (history_of name w.run) session user operation object →
     Some decision ≡ decision_due w name session user operation object
 decision_is w name session user operation object decision correct is =
     ap Some is
-    ∙ sym (ap (λ b. if b then Some (verdict_at w.config.roles (history_of name w.run) session user operation object) else None) correct)
+    ∙ sym (ap (λ b. if b then Some (verdict_at w.config.roles (history_of name w.run)
+    session user operation object) else None) correct)
 
 -- Numbers of packets.
 
-pub nodes_are : (config : ConfigValue) (liars : Nodes) (run : Run) → IsClusterRun config liars run → 0 < config.roles.sizes.nodes
+pub nodes_are : (config : ConfigValue) (liars : Nodes) (run : Run) → IsClusterRun config liars run
+    → 0 < config.roles.sizes.nodes
 nodes_are config liars run is = omega (arith, is.sizes.1)
 
 pub few_messages : (m nodes limit : ℕ) → 0 < nodes → m * nodes ≤ limit → m ≤ limit
@@ -212,7 +238,8 @@ few_messages m nodes limit some within =
     omega (arith, at_least, within)
 
 -- packet k of a world's pool, by the messages that it keeps
-pub number_in_world : (w : WorldValue) (sent : List Sent) (k nodes to : ℕ) (s : Sent) → IsClusterRunOf w → sent ≡ messages w.config w.run →
+pub number_in_world : (w : WorldValue) (sent : List Sent) (k nodes to : ℕ) (s : Sent) → IsClusterRunOf w
+    → sent ≡ messages w.config w.run →
     nodes ≡ w.config.roles.sizes.nodes → to ≡ k % nodes → slice_get sent (k / nodes) ≡ Some s →
     packet_due s.0 to s.1 ≡ slice_get (pool w.config w.run) k
 number_in_world w sent k nodes to s is messages_are sizes number at =
@@ -222,7 +249,8 @@ number_in_world w sent k nodes to s is messages_are sizes number at =
     ap (λ n. packet_due s.0 n s.1) name
     ∙ number_is_due w.config w.run k s (nodes_are w.config w.liars w.run is) here
 
-pub no_number_in_world : (w : WorldValue) (sent : List Sent) (k nodes : ℕ) → IsClusterRunOf w → sent ≡ messages w.config w.run →
+pub no_number_in_world : (w : WorldValue) (sent : List Sent) (k nodes : ℕ) → IsClusterRunOf w
+    → sent ≡ messages w.config w.run →
     nodes ≡ w.config.roles.sizes.nodes → slice_get sent (k / nodes) ≡ None → None ≡ slice_get (pool w.config w.run) k
 no_number_in_world w sent k nodes is messages_are sizes at =
     let here : slice_get (messages w.config w.run) (k / w.config.roles.sizes.nodes) ≡ None =

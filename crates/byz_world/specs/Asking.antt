@@ -51,4 +51,5 @@ IsQuestionAnswer w node question (Err Memory) = (question_due w node question �
 -- the decision on an access at a correct node
 abbrev pub decision_due : WorldValue → ℕ → ℕ → ℕ → ℕ → ℕ → Option Verdict
 decision_due w node session user operation object =
-    if is_correct_in w node then Some (verdict_at w.config.roles (history_of node w.run) session user operation object) else None
+    if is_correct_in w node then Some (verdict_at w.config.roles (history_of node w.run)
+    session user operation object) else None

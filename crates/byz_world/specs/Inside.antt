@@ -31,7 +31,8 @@ history_in (Some node) = node.history
 
 -- the node's next event, where these names came before
 abbrev pub next_event : (ℕ → List Event) → List ℕ → ℕ → Option (ℕ × Event)
-next_event histories past name = option_map (λ e. (name, e)) (slice_get (histories name) (count_by (λ n. n == name) past))
+next_event histories past name =
+    option_map (λ e. (name, e)) (slice_get (histories name) (count_by (λ n. n == name) past))
 
 -- beside each name of the order that node's event of its own number
 unfoldable pub run_after : (ℕ → List Event) → List ℕ → List ℕ → Run
@@ -47,7 +48,8 @@ world_in config liars members order = record { config = config; liars = liars; r
 
 -- Each correct node has its history in the run, the order names it once for each event, and the messages are those that
 -- were sent.
-pub record IsWorldIn (config : ConfigValue) (liars : Nodes) (members : Members) (order : List ℕ) (sent : List Sent) : Type 0 where
+pub record IsWorldIn (config : ConfigValue) (liars : Nodes) (members : Members) (order : List ℕ)
+    (sent : List Sent) : Type 0 where
   pub cluster : IsClusterRun config liars (run_in members order)
   pub one_each : length members ≡ config.roles.sizes.nodes
   pub nodes : (name : ℕ) → member_in members name ≡ node_due (world_in config liars members order) name

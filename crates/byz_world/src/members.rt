@@ -27,7 +27,8 @@ pub(crate) fn new_members(
     config: &Config,
     liars: &NodeSet,
 ) -> Result<Vec<Option<Node>>, AllocError>
-    ensures { IfOk result (λ members. members.items ≡ map (node_due (new_world config.now liars.now)) (range_with_len 0 config.now.roles.sizes.nodes)) }
+    ensures { IfOk result (λ members. members.items ≡
+        map (node_due (new_world config.now liars.now)) (range_with_len 0 config.now.roles.sizes.nodes)) }
 {
     let sizes = config.roles().sizes();
     let mut members = Vec::new(alloc);
@@ -70,9 +71,11 @@ pub(crate) fn apply_at(
     event: Event,
 ) -> Result<Reply, NodeFault>
     requires { IsSome (member_in members.old.items name) }
-    ensures due { (node : NodeValue) → member_in members.old.items name ≡ Some node → IsAnswer (due_at node event) result }
+    ensures due { (node : NodeValue) → member_in members.old.items name ≡ Some node →
+        IsAnswer (due_at node event) result }
     ensures ok { (node : NodeValue) → member_in members.old.items name ≡ Some node →
-        IfOk result (λ reply. members.new.items ≡ slice_set members.old.items name (Some (after_reply node event reply))) }
+        IfOk result (λ reply. members.new.items ≡
+        slice_set members.old.items name (Some (after_reply node event reply))) }
     ensures err { OnErr result (members.new.items ≡ members.old.items) }
 {
     match &mut members[usize::from(name.index())] {

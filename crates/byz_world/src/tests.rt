@@ -40,8 +40,20 @@ fn full_pool(rt: HostRuntime) -> Result<(), Fail> {
         node,
         command: ASSIGN,
     })?;
-    assert!(rt; matches!(issued, StepReply::Node { first: 0, count: 4, .. }));
-    assert_eq!(rt; world.step(Step::Give { packet: 0 }), Err(WorldFault::PoolFull));
+    assert!(rt;
+        matches!(
+            issued,
+            StepReply::Node {
+                first: 0,
+                count: 4,
+                ..
+            }
+        )
+    );
+    assert_eq!(rt;
+        world.step(Step::Give { packet: 0 }),
+        Err(WorldFault::PoolFull)
+    );
     let opened = world.step(Step::Client {
         node,
         event: ClientEvent::Open { user: 7 },
@@ -102,7 +114,16 @@ fn votes_once(rt: HostRuntime) -> Result<(), Fail> {
         command: ASSIGN,
     })?;
     let given = world.step(Step::Give { packet: 1 })?;
-    assert!(rt; matches!(given, StepReply::Node { first: 4, count: 4, .. }));
+    assert!(rt;
+        matches!(
+            given,
+            StepReply::Node {
+                first: 4,
+                count: 4,
+                ..
+            }
+        )
+    );
     let idle = StepReply::Node {
         reply: Reply::Idle,
         first: 8,
@@ -113,6 +134,9 @@ fn votes_once(rt: HostRuntime) -> Result<(), Fail> {
     assert_eq!(rt; world.step(echo(3, other)?)?, idle);
     assert_eq!(rt; world.step(echo(2, other)?), Err(WorldFault::NotSent));
     assert_eq!(rt; world.step(Step::Give { packet: 3 })?, StepReply::Absorbed);
-    assert_eq!(rt; world.step(Step::Give { packet: 99 }), Err(WorldFault::NoSuchPacket));
+    assert_eq!(rt;
+        world.step(Step::Give { packet: 99 }),
+        Err(WorldFault::NoSuchPacket)
+    );
     Ok(())
 }

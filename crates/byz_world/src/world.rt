@@ -119,7 +119,8 @@ impl World {
         }
     }
 
-    /// Does a step: an event that its node records is one more of the run, and what the node sends to all is in the pool.
+    /// Does a step: an event that its node records is one more of the run, and what the node sends to all is in the
+    /// pool.
     ///
     /// # Errors
     ///
@@ -185,7 +186,11 @@ impl World {
     }
 
     /// The event of a node that may send, unless the pool has no room for it.
-    fn unless_full(&self, name: NodeName, event: Event) -> Result<Option<(NodeName, Event)>, WorldFault>
+    fn unless_full(
+        &self,
+        name: NodeName,
+        event: Event,
+    ) -> Result<Option<(NodeName, Event)>, WorldFault>
         ensures { result ≡ unless_pool_full self.now (name, event) }
     {
         let limit = self.config.limit();
@@ -211,7 +216,8 @@ impl World {
     /// Has a node answer an event.
     fn happen(&mut self, name: NodeName, event: Event) -> Result<StepReply, WorldFault>
         requires { MayHappen self.old name event }
-        ensures due { (step : Step) → arrival self.old step ≡ Ok (Some (name, event)) → IsStepAnswer self.old step result }
+        ensures due { (step : Step) → arrival self.old step ≡ Ok (Some (name, event)) →
+            IsStepAnswer self.old step result }
         ensures ok { (step : Step) → arrival self.old step ≡ Ok (Some (name, event)) →
             OnOk result (self.new ≡ after_step self.old step) }
         ensures err { OnErr result (self.new ≡ self.old) }
@@ -271,8 +277,8 @@ impl World {
     ///
     /// # Errors
     ///
-    /// [`WorldFault::NotCorrect`] where it is no correct node, [`WorldFault::NoSession`] where a session is to be listed
-    /// that is not open there; then, for a listing alone, want of memory.
+    /// [`WorldFault::NotCorrect`] where it is no correct node, [`WorldFault::NoSession`] where a session is to be
+    /// listed that is not open there; then, for a listing alone, want of memory.
     pub fn ask(&mut self, name: NodeName, question: Question) -> Result<Answer, WorldFault>
         ensures due { IsQuestionAnswer self.old name question result }
         ensures answer { IfOk result (IsAnswerTo self.old.config.roles (history_of name self.old.run) question) }
@@ -303,14 +309,7 @@ impl World {
         if !self.is_correct(name) {
             return None;
         }
-        Some(check_at(
-            &mut self.members,
-            name,
-            session,
-            user,
-            operation,
-            object,
-        ))
+        Some(check_at(&mut self.members, name, session, user, operation, object))
     }
 
     /// What the correct nodes were told at their start.
@@ -363,8 +362,8 @@ impl World {
         self.sent.len() as u32 * u32::from(self.sizes().n())
     }
 
-    /// How far two correct nodes' streams of an owner agree: the length of the longest list that both begin with. `None`
-    /// where one is no correct node or the owner is no node.
+    /// How far two correct nodes' streams of an owner agree: the length of the longest list that both begin with.
+    /// `None` where one is no correct node or the owner is no node.
     pub fn agree(&self, i: NodeName, j: NodeName, owner: NodeName) -> Option<u32>
         ensures { result ≡ agree_due self.now i j owner }
     {
@@ -381,6 +380,8 @@ impl World {
     pub fn at_rest(&self) -> bool
         ensures { IsTrue result ↔ IsAtRest self.now.config self.now.liars self.now.run }
     {
-        self.members.iter().all(|member| takes_all(member, &self.sent))
+        self.members
+            .iter()
+            .all(|member| takes_all(member, &self.sent))
     }
 }

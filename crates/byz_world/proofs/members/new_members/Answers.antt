@@ -8,7 +8,8 @@ use Rattle.byz_world.proofs.members.new_members.Goals as goal
 pub loop-index-preserved : goal.loop-index-preserved
 loop-index-preserved c =
     let f : ℕ → Option NodeValue = node_due (new_world c.args.config.now c.args.liars.now) in
-    let pushed : c.push.new.self.items ≡ c.loop-index.members.items ++ c.in_ok-new_member.field-0 ∷ [] = grind (arith, common_steps) in
+    let pushed : c.push.new.self.items
+    ≡ c.loop-index.members.items ++ c.in_ok-new_member.field-0 ∷ [] = grind (arith, common_steps) in
     let name : c.unwrap-name.result ≡ c.loop-index.index = grind (arith, common_steps) in
     let one : c.in_ok-new_member.field-0 ≡ f c.loop-index.index = c.in_ok-new_member.ensures ∙ ap f name in
     pushed ∙ (λ i. c.loop-index.invariant i ++ one i ∷ [])

@@ -30,6 +30,7 @@ returns-else-not-has-clause-forged c =
     let here : Some node ≡ node_due w p.from = c.in-Some.ensures.value ∙ ap (node_due w) c.from.ensures in
     ap not
     (c.has_said.ensures
-    ∙ ap (λ (m : Message). is_for m.command (of_kind m.kind (sent_at node.config.roles.sizes node.me node.history m.owner m.place)))
+    ∙ ap (λ (m : Message). is_for m.command (of_kind m.kind (sent_at node.config.roles.sizes node.me node.history
+    m.owner m.place)))
     c.message-message.ensures.value)
     ∙ sym (forged_is w p node here)

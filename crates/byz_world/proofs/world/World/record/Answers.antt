@@ -9,9 +9,12 @@ recorded : (c : goal.After-note_sent-count) →
     c.apply_at.new.members.items c.note_name.new.order.items c.note_sent-count.new.sent.items
 recorded c =
     let a = c.self.inside in
-    is_recorded_in a.config a.liars a.members.items a.order.items a.sent.items c.args.self.now c.args.name c.args.event c.in-Ok.reply
-    c.apply_at.new.members.items c.note_name.new.order.items c.note_sent-count.new.sent.items c.self.invariant c.self.view_is
-    c.requires.may c.requires.counts (λ node here. c.in-Ok.ensures.due node here) (λ node here. c.in-Ok.ensures.ok node here)
+    is_recorded_in a.config a.liars a.members.items a.order.items a.sent.items c.args.self.now c.args.name
+    c.args.event c.in-Ok.reply
+    c.apply_at.new.members.items c.note_name.new.order.items c.note_sent-count.new.sent.items c.self.invariant
+    c.self.view_is
+    c.requires.may c.requires.counts (λ node here. c.in-Ok.ensures.due node here)
+    (λ node here. c.in-Ok.ensures.ok node here)
     (c.note_name.ensures ∙ ap (λ names. names ++ c.args.name ∷ []) c.try_reserve.ensures.items)
     (c.note_sent-count.ensures.items
     ∙ (λ i. c.try_reserve-2.ensures.items i ++ listed (option_map (λ m. (c.args.name, m)) (c.sent_by.ensures i))))

@@ -14,9 +14,11 @@ returns-in-Some c =
     let nodes : c.from-nodes.result ≡ w.config.roles.sizes.nodes =
     c.from-nodes.ensures ∙ c.n.ensures.value ∙ ap (λ s. s.nodes) c.sizes.ensures.value in
     let to : c.unwrap-to.result ≡ c.args.number % c.from-nodes.result = grind (arith, common_steps) in
-    let at : slice_get c.self.inside.sent.items (c.args.number / c.from-nodes.result) ≡ Some c.in-Some.field-0.now = grind (arith, common_steps, gets) in
+    let at : slice_get c.self.inside.sent.items (c.args.number / c.from-nodes.result)
+    ≡ Some c.in-Some.field-0.now = grind (arith, common_steps, gets) in
     c.new.ensures.value
-    ∙ number_in_world w c.self.inside.sent.items c.args.number c.from-nodes.result c.unwrap-to.result c.in-Some.field-0.now
+    ∙ number_in_world w c.self.inside.sent.items c.args.number c.from-nodes.result c.unwrap-to.result
+    c.in-Some.field-0.now
     c.sizes.ensures.run kept nodes to at
 
 pub returns-in-None : goal.returns-in-None
@@ -26,5 +28,6 @@ returns-in-None c =
     let kept : P w = subst P c.self.view_is c.self.invariant.messages in
     let nodes : c.from-nodes.result ≡ w.config.roles.sizes.nodes =
     c.from-nodes.ensures ∙ c.n.ensures.value ∙ ap (λ s. s.nodes) c.sizes.ensures.value in
-    let at : slice_get c.self.inside.sent.items (c.args.number / c.from-nodes.result) ≡ None = grind (arith, common_steps, gets) in
+    let at : slice_get c.self.inside.sent.items (c.args.number / c.from-nodes.result)
+    ≡ None = grind (arith, common_steps, gets) in
     no_number_in_world w c.self.inside.sent.items c.args.number c.from-nodes.result c.sizes.ensures.run kept nodes at

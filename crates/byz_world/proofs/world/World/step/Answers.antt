@@ -4,7 +4,8 @@ use Rattle.byz_world.proofs.world.World.step.Goals as goal
 
 pub happen-requires : goal.happen-requires
 happen-requires c =
-    may_arrive c.args.self.now c.args.step c.in-Ok-Some.name c.in-Ok-Some.event c.in-Ok-Some.ensures.run c.in-Ok-Some.ensures.sound
+    may_arrive c.args.self.now c.args.step c.in-Ok-Some.name c.in-Ok-Some.event c.in-Ok-Some.ensures.run
+    c.in-Ok-Some.ensures.sound
     (sym c.in-Ok-Some.ensures.due ∙ ap Ok c.in-Ok-Some.field-0-is)
 
 pub returns-in-Ok-None-clause-due : goal.returns-in-Ok-None-clause-due
