@@ -87,7 +87,8 @@ AreBelow n names = (name : ℕ) → sets.contains names name ≡ true → name <
 
 none_below : (names : Nodes) → AreBelow 0 names → names ≡ sets.empty
 none_below names below =
-    same_names names sets.empty (λ name. none (sets.contains names name) (below name) ∙ sym (sets.contains-empty nat_cmp name))
+    same_names names sets.empty
+    (λ name. none (sets.contains names name) (below name) ∙ sym (sets.contains-empty nat_cmp name))
   where
     none : (b : Bool) {name : ℕ} → (b ≡ true → name < 0) → b ≡ false
     none true below = absurd (omega (arith, below refl))
@@ -96,11 +97,14 @@ none_below names below =
 insert-remove : (names : Nodes) (k : ℕ) → sets.contains names k ≡ true → names ≡ sets.insert (sets.remove names k) k
 insert-remove names k has =
     same_names names (sets.insert (sets.remove names k) k) (λ name.
-    at name (name == k) refl ∙ sym (contains-insert (sets.remove names k) k name ∙ ap (λ b. (name == k) || b) (contains-remove names k name)))
+    at name (name == k) refl
+    ∙ sym (contains-insert (sets.remove names k) k name
+    ∙ ap (λ b. (name == k) || b) (contains-remove names k name)))
   where
     at : (name : ℕ) (b : Bool) → (name == k) ≡ b
         → sets.contains names name ≡ ((name == k) || (not (name == k) && sets.contains names name))
-    at name true same = ap (sets.contains names) (eqb-true name k same) ∙ has ∙ ap (λ b. b || (not b && sets.contains names name)) (sym same)
+    at name true same = ap (sets.contains names) (eqb-true name k same) ∙ has
+        ∙ ap (λ b. b || (not b && sets.contains names name)) (sym same)
     at name false other = ap (λ b. b || (not b && sets.contains names name)) (sym other)
 
 pub len-count : (n : ℕ) (names : Nodes) → AreBelow n names → sets.len names ≡ count (sets.contains names) n
@@ -115,7 +119,8 @@ len-count (suc n) names below = at_last n names below (sets.contains names n) re
 
     at_last : (n : ℕ) (names : Nodes) → AreBelow (suc n) names → (b : Bool) → sets.contains names n ≡ b
         → ((m : Nodes) → AreBelow n m → sets.len m ≡ count (sets.contains m) n)
-        → sets.len names ≡ cond (sets.contains names n) (suc (count (sets.contains names) n)) (count (sets.contains names) n)
+        → sets.len names ≡ cond (sets.contains names n) (suc (count (sets.contains names) n))
+        (count (sets.contains names) n)
     at_last n names below true has rest =
         let others = sets.remove names n in
         let others_below : AreBelow n others = λ name h.
@@ -134,7 +139,8 @@ len-count (suc n) names below = at_last n names below (sets.contains names n) re
         ∙ more (count (sets.contains names) n)
         ∙ ap (λ b. cond b (suc (count (sets.contains names) n)) (count (sets.contains names) n)) (sym has)
     at_last n names below false lacks rest =
-        rest names (λ name h. smaller n name (below name h) (λ e. true≢false (sym h ∙ ap (sets.contains names) e ∙ lacks)))
+        rest names (λ name h. smaller n name (below name h)
+        (λ e. true≢false (sym h ∙ ap (sets.contains names) e ∙ lacks)))
         ∙ ap (λ b. cond b (suc (count (sets.contains names) n)) (count (sets.contains names) n)) (sym lacks)
 
 count-most : (p : ℕ → Bool) (n : ℕ) → count p n ≤ n

@@ -37,7 +37,8 @@ names_in-zero = same_names (names_in 0) sets.empty (λ name.
 abbrev with_bit : ℕ → ℕ → ℕ
 with_bit word name = bit_or word (1 * 2 ^ name % 2 ^ most_nodes)
 
-has_bit-with_bit : (word name k : ℕ) → name < most_nodes → has_bit (with_bit word name) k ≡ ((k == name) || has_bit word k)
+has_bit-with_bit : (word name k : ℕ) → name < most_nodes → has_bit (with_bit word name) k
+    ≡ ((k == name) || has_bit word k)
 has_bit-with_bit word name k small = at (k == name) refl
   where
     at : (b : Bool) → (k == name) ≡ b → has_bit (with_bit word name) k ≡ (b || has_bit word k)
@@ -46,7 +47,8 @@ has_bit-with_bit word name k small = at (k == name) refl
         ap (has_bit (with_bit word name)) e ∙ ap (λ b. b == 1) (bit_at_set_same w64 word name small)
     at false other = ap (λ b. b == 1) (bit_at_set_other w64 word name small k (eqb-false k name other))
 
-pub names_in-with_bit : (word name : ℕ) → name < most_nodes → names_in (with_bit word name) ≡ sets.insert (names_in word) name
+pub names_in-with_bit : (word name : ℕ) → name < most_nodes → names_in (with_bit word name)
+    ≡ sets.insert (names_in word) name
 names_in-with_bit word name small =
     same_names (names_in (with_bit word name)) (sets.insert (names_in word) name) (λ k.
     contains-names_in (with_bit word name) k
@@ -56,9 +58,11 @@ names_in-with_bit word name small =
     ∙ sym (contains-insert (names_in word) name k))
   where
     at : (k : ℕ) (b : Bool) → (k == name) ≡ b
-        → (nat_lt k most_nodes && ((k == name) || has_bit word k)) ≡ ((k == name) || (nat_lt k most_nodes && has_bit word k))
+        → (nat_lt k most_nodes && ((k == name) || has_bit word k))
+        ≡ ((k == name) || (nat_lt k most_nodes && has_bit word k))
     at k true same =
-        let below : nat_lt k most_nodes ≡ true = ap (λ n. nat_lt n most_nodes) (eqb-true k name same) ∙ lt-ltb name most_nodes small in
+        let below : nat_lt k most_nodes ≡ true = ap (λ n. nat_lt n most_nodes) (eqb-true k name same)
+        ∙ lt-ltb name most_nodes small in
         ap (λ b. b && ((k == name) || has_bit word k)) below
         ∙ ap (λ b. b || has_bit word k) same
         ∙ ap (λ b. b || (nat_lt k most_nodes && has_bit word k)) (sym same)
@@ -140,7 +144,8 @@ len-names_in word small =
 
 -- How many nodes of these sizes.
 
-names_below-among : (s : Counts) (word : ℕ) → s.nodes ≤ most_nodes → names_below word s.nodes ≡ nodes_among s (names_in word)
+names_below-among : (s : Counts) (word : ℕ) → s.nodes ≤ most_nodes → names_below word s.nodes
+    ≡ nodes_among s (names_in word)
 names_below-among s word few =
     same_names (names_below word s.nodes) (nodes_among s (names_in word)) (λ k.
     contains-names_below word s.nodes k
@@ -181,4 +186,5 @@ len-among s word n few same =
 pub len-most : (word : ℕ) → sets.len (names_in word) ≤ most_nodes
 len-most word =
     len_below most_nodes (names_in word) (λ name has.
-    ltb-true name most_nodes (and_parts (nat_lt name most_nodes) (has_bit word name) (sym (contains-names_in word name) ∙ has)).0)
+    ltb-true name most_nodes
+    (and_parts (nat_lt name most_nodes) (has_bit word name) (sym (contains-names_in word name) ∙ has)).0)

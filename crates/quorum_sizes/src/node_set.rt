@@ -89,7 +89,9 @@ impl NodeSet {
 /// The names that are in both sets. Two quorums of echoes share more nodes than may lie.
 pub fn quorums_meet(sizes: &Sizes, a: &NodeSet, b: &NodeSet) -> NodeSet
     ensures common { result ≡ sets.intersection a.now b.now }
-    ensures share { AreNodes sizes.now a.now → AreNodes sizes.now b.now → echo_quorum_of sizes.now ≤ sets.len a.now → echo_quorum_of sizes.now ≤ sets.len b.now → sizes.now.liars < sets.len result }
+    ensures share { AreNodes sizes.now a.now → AreNodes sizes.now b.now →
+        echo_quorum_of sizes.now ≤ sets.len a.now → echo_quorum_of sizes.now ≤ sets.len b.now →
+        sizes.now.liars < sets.len result }
 {
     let _n = sizes.n();
     NodeSet {

@@ -90,8 +90,8 @@ impl Node {
         matches!(self.look(event), Ok(Effect::Counted))
     }
 
-    /// The first refusal of the event, or whether it counts, as [`apply`](Self::apply) would answer, want of memory apart.
-    /// It takes no memory.
+    /// The first refusal of the event, or whether it counts, as [`apply`](Self::apply) would answer, want of memory
+    /// apart. It takes no memory.
     pub fn look(&self, event: &Event) -> Result<Effect, NodeFault>
         ensures due { result ≡ outlook self.now.config self.now.me self.now.history event.now }
         ensures legal { IsLegalNode self.now }
