@@ -27,7 +27,7 @@ use Rattle.bracha_instance.specs.Tallies.{Tallied, no_votes, with_echo, with_rea
 use Rattle.bracha_instance.specs.Instances.{instance_state, IsInstance}
 use Rattle.bracha_instance.specs.Supported.{CountsSupported}
 use Rattle.bracha_instance.proofs.Same.{same_command-true}
-use Rattle.bracha_instance.proofs.KeptVotes.{contains-names_of, names_of-insert, names_of-empty}
+use Rattle.bracha_instance.proofs.VoteMaps.{contains-names_of, names_of-insert, names_of-empty}
 use Rattle.bracha_instance.proofs.TallyLemmas.{length-with_command}
 use Rattle.bracha_instance.proofs.Voting.{contains-voters, supporters_in-votes}
 use Rattle.bracha_instance.proofs.StateOf.{none_of, state-echoers, state-readiers}

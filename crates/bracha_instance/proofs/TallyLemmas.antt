@@ -21,7 +21,7 @@ use Rattle.bracha_instance.specs.Tallies.{Tallied, no_votes, with_command, with_
 use Rattle.bracha_instance.specs.declared.tallies.Tally.{Tally}
 use Rattle.bracha_instance.specs.declared.tallies.Support.{Support}
 use Rattle.bracha_instance.proofs.Same.{same_command-true, same_command-refl}
-use Rattle.bracha_instance.proofs.KeptVotes.{supporters_in-empty, supporters_in-insert_other, len_supporters_in-insert}
+use Rattle.bracha_instance.proofs.VoteMaps.{supporters_in-empty, supporters_in-insert_other, len_supporters_in-insert}
 use Rattle.bracha_instance.proofs.RowLemmas.{with_row, with_name, unchanged, votes_in-with_name, votes_in-unchanged, RowsAgree-empty, RowsAgree-unchanged, RowsAgree-with_name}
 
 -- The place of a tally.
