@@ -26,10 +26,10 @@ ids_are_given_in_order events (suc id) there = by (cases_lt (opened_count events
     by (inl beyond) = absurd (there (session_in-beyond events (suc id) beyond))
     by (inr within) = (omega arith, within)
 
-either_none : {A B : Type 0} (b : Bool) (f : A → B) (o : Option A) (p : Option B) → o ≡ None → p ≡ None
-    → (if b then option_map f o else p) ≡ None
-either_none true f o p e h = ap (option_map f) e
-either_none false f o p e h = h
+either_none : {A B : Type 0} (b : Bool) (f : A → B) {o : Option A} {p : Option B} → o ≡ None → p ≡ None →
+    (if b then option_map f o else p) ≡ None
+either_none true f e h = ap (option_map f) e
+either_none false f e h = h
 
 still_none : (b : Bool) (o : Option Session) → o ≡ None → (if b then None else o) ≡ None
 still_none true o e = refl
@@ -41,9 +41,9 @@ closed_step events (Open user) id given closed =
     let other : (id == opened_count events + 1) ≡ false = grind (arith, nat_tests) in
     session_in-opened events user id ∙ (λ i. if other i then Some (record { user = user; active = [] }) else closed i)
 closed_step events (Activate s user role) id given closed =
-    session_in-activated events s user role id ∙ either_none (id == s) _ _ _ closed closed
+    session_in-activated events s user role id ∙ either_none (id == s) _ closed closed
 closed_step events (DropRole s user role) id given closed =
-    session_in-dropped events s user role id ∙ either_none (id == s) _ _ _ closed closed
+    session_in-dropped events s user role id ∙ either_none (id == s) _ closed closed
 closed_step events (Close s user) id given closed = session_in-closed events s user id ∙ still_none (id == s) _ closed
 
 pub closed_stay_closed : ClosedStayClosed

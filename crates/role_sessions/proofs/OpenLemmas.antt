@@ -1,5 +1,5 @@
 -- The entries of an `IndexMap` of sessions are a finite map.
-use Rattle.std.proofs.Common.{◌≡◌, ℕ, ◌+◌, ◌-◌, Bool, true, false, cond, ◌==◌, if◌then◌else◌, nat_eq, List, [], ◌∷◌, length, Option, Some, None, is_some, Result, Ok, Err, OnOk, OnErr, refl, sym, ap, ◌∙◌, arith}
+use Rattle.std.proofs.Common.{◌≡◌, ℕ, ◌+◌, ◌-◌, Bool, true, false, cond, ◌==◌, if◌then◌else◌, nat_eq, List, [], ◌∷◌, length, Option, Some, None, is_some, refl, sym, ap, ◌∙◌, arith}
 use Rattle.std.specs.Cmp.{nat_cmp_total, nat_eq_equiv, unsigned_tied}
 use Rattle.std.specs.FinMap as map
 use Rattle.std.specs.FinMap.{find, get-from_entries, len-insert, len-remove, len-empty, same_map, nat_cmp-IsAntisymmetric}
@@ -107,12 +107,3 @@ pub map_of-absent : (old new : Entries) (id : ℕ) (m : map.FinMap nat_cmp Sessi
 map_of-absent old new id m change absent is view =
     let missing : map.get m id ≡ None = ap (λ n. map.get n id) (sym view) ∙ get-map_of old id ∙ sym absent in
     ap map_of is ∙ view ∙ ap (λ o. option_map_or (λ s. map.insert m id (change s)) o m) (sym missing)
-
--- what a result says, further on
-pub then_on_ok : {X E P Q : Type 0} (r : Result X E) → (P → Q) → OnOk r P → OnOk r Q
-then_on_ok (Ok x) f p = f p
-then_on_ok (Err e) f p = tt
-
-pub then_on_err : {X E P Q : Type 0} (r : Result X E) → (P → Q) → OnErr r P → OnErr r Q
-then_on_err (Ok x) f p = tt
-then_on_err (Err e) f p = f p
