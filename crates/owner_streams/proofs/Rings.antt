@@ -116,7 +116,8 @@ held-other_slot below ring now here past within others place apart =
 -- a record of the instance at its front, whose slot is free then, leaves at each place what was there
 pub held-moved : (below : List State) (ring : List (Option State)) (st : State)
     → held_in below ring (length below) ≡ Some st
-    → (place : ℕ) → held_in (below ++ st ∷ []) (slice_set ring (length below % window) None) place ≡ held_in below ring place
+    → (place : ℕ) → held_in (below ++ st ∷ []) (slice_set ring (length below % window) None) place
+    ≡ held_in below ring place
 held-moved below ring st front place =
     let more = below ++ st ∷ [] in
     let free = slice_set ring (length below % window) None in
@@ -208,7 +209,8 @@ get-instances_in a place =
     get_or_past places place None (omega arith) ∙ sym (held-beyond a.below.items a.ring.items place past))
     (cases_lt place n)
 
-pub same_instances_in : (a b : OwnerStream) → ((place : ℕ) → held b place ≡ held a place) → instances_in b ≡ instances_in a
+pub same_instances_in : (a b : OwnerStream) → ((place : ℕ) → held b place ≡ held a place) → instances_in b
+    ≡ instances_in a
 same_instances_in a b same =
     maps.same_map nat_cmp_total maps.nat_cmp-IsAntisymmetric _ _ (λ place.
     get-instances_in b place ∙ same place ∙ sym (get-instances_in a place))

@@ -97,7 +97,8 @@ returns-clause-state c =
     let before : held c.args.self.now c.args.packet.now.place ≡ slot_at ring slot =
     ap (held c.args.self.now) (sym at)
     ∙ held-window c.args.self.now.below.items ring c.from-place.result (omega arith) (omega arith) in
-    let after : held_in records c.take_slot.new.ring.items c.args.packet.now.place ≡ slot_at c.take_slot.new.ring.items slot =
+    let after : held_in records c.take_slot.new.ring.items c.args.packet.now.place
+    ≡ slot_at c.take_slot.new.ring.items slot =
     ap (held_in records c.take_slot.new.ring.items) (sym at)
     ∙ held-window records c.take_slot.new.ring.items c.from-place.result (omega arith) (omega arith) in
     on_ok_weaker c.take_slot.result (goes_on c.args.sizes.now _ _ _ _ _ before after) c.take_slot.ensures.state
@@ -126,7 +127,8 @@ returns-clause-err c =
     let before : held c.args.self.now c.args.packet.now.place ≡ slot_at ring slot =
     ap (held c.args.self.now) (sym at)
     ∙ held-window c.args.self.now.below.items ring c.from-place.result (omega arith) (omega arith) in
-    let after : held_in records c.take_slot.new.ring.items c.args.packet.now.place ≡ slot_at c.take_slot.new.ring.items slot =
+    let after : held_in records c.take_slot.new.ring.items c.args.packet.now.place
+    ≡ slot_at c.take_slot.new.ring.items slot =
     ap (held_in records c.take_slot.new.ring.items) (sym at)
     ∙ held-window records c.take_slot.new.ring.items c.from-place.result (omega arith) (omega arith) in
     on_err_weaker c.take_slot.result (λ same. after ∙ same ∙ sym before) c.take_slot.ensures.err
