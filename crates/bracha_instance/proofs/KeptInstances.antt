@@ -27,14 +27,15 @@ use Rattle.bracha_instance.specs.Tallies.{Tallied, no_votes, with_echo, with_rea
 use Rattle.bracha_instance.specs.Instances.{instance_state, IsInstance}
 use Rattle.bracha_instance.specs.Supported.{CountsSupported}
 use Rattle.bracha_instance.proofs.Same.{same_command-true}
-use Rattle.bracha_instance.proofs.KeptVotes.{contains-names_of, names_of-insert, names_of-empty}
+use Rattle.bracha_instance.proofs.VoteMaps.{contains-names_of, names_of-insert, names_of-empty}
 use Rattle.bracha_instance.proofs.TallyLemmas.{length-with_command}
 use Rattle.bracha_instance.proofs.Voting.{contains-voters, supporters_in-votes}
 use Rattle.bracha_instance.proofs.StateOf.{none_of, state-echoers, state-readiers}
 
 -- Nothing was taken.
 
-pub new_instance : (echoers readiers : Names) (v : Tallied) → echoers ≡ sets.empty → readiers ≡ sets.empty → v ≡ no_votes
+pub new_instance : (echoers readiers : Names) (v : Tallied) → echoers ≡ sets.empty → readiers ≡ sets.empty → v
+    ≡ no_votes
     → IsInstance (record {
       echoed = None;
       readied = None;
@@ -92,7 +93,8 @@ free_ready a p h early is = no_vote a.votes.readies a.readiers p (h.readiers (no
 not_some : {X : Type 0} (o : Option X) → o ≡ None → is_some o ≡ true → ⊥
 not_some o none some = both_ways (is_some o) (ap is_some none) some
 
-one_more_name : (names : Names) (p : ℕ) → sets.contains names p ≡ false → sets.len (sets.insert names p) ≡ sets.len names + 1
+one_more_name : (names : Names) (p : ℕ) → sets.contains names p ≡ false → sets.len (sets.insert names p)
+    ≡ sets.len names + 1
 one_more_name names p new =
     sets.len-insert nat_cmp_total names p ∙ ap (λ b. cond b (sets.len names) (sets.len names + 1)) new
 
@@ -209,7 +211,8 @@ ready_early s p c a due now readiers v early is more is_due is_now not_yet =
     }) in
     step ∙ ap (after_ready s (instance_state a) p c) (sym none)
 
-pub deliver_early : (s : Counts) (p : ℕ) (c : Command) (a : Inside) (due : Bool) (now : Option Command) (readiers : Names)
+pub deliver_early : (s : Counts) (p : ℕ) (c : Command) (a : Inside) (due : Bool) (now : Option Command)
+    (readiers : Names)
     (v w : Tallied) → is_some a.delivered ≡ false → readiers ≡ sets.insert a.readiers p → v ≡ with_ready a.votes p c →
     due ≡ ready_now s c v.echoes v.readies → now ≡ option_or a.readied (only_if due c) →
     true ≡ deliver_now s c v.readies → w ≡ no_votes →
@@ -280,7 +283,8 @@ counts_supported takes v count are echoes readies len =
     )
 
 pub kept_supported : (s : Counts) (takes : List Take) (a : Inside) (count : ℕ) → AreVoted a.votes
-    → instance_state a ≡ state s takes → a.delivered ≡ None → length a.votes.commands ≡ count → CountsSupported takes count
+    → instance_state a ≡ state s takes → a.delivered ≡ None → length a.votes.commands ≡ count
+    → CountsSupported takes count
 unfolding state
 kept_supported s takes a count are is none len =
     let early : delivered s takes ≡ None = sym (ap (λ (st : State). st.delivered) is) ∙ none in
@@ -294,7 +298,8 @@ voter_below : (n : ℕ) (kind : Kind) (takes : List Take) → All (λ (t : Take)
 unfolding vote
 voter_below n kind [] below q is = absurd cc
 voter_below n kind (t ∷ takes) below q is =
-    at (same_kind kind t.kind) (q == t.from) refl is (voter_below n kind takes (All-tail (λ (t : Take). t.from < n) t takes below) q)
+    at (same_kind kind t.kind) (q == t.from) refl is (voter_below n kind takes (All-tail (λ
+    (t : Take). t.from < n) t takes below) q)
   where
     at : (a b : Bool) → (q == t.from) ≡ b
         → is_some (option_map command_of (cond (a && b) (Some t) (find (is_vote_of kind q) takes))) ≡ true
@@ -306,7 +311,8 @@ voter_below n kind (t ∷ takes) below q is =
     at true false same is rest = rest is
     at false b same is rest = rest is
 
-pub kept_few : (s : Counts) (takes : List Take) (a : Inside) → length a.votes.commands ≤ sets.len a.echoers + sets.len a.readiers
+pub kept_few : (s : Counts) (takes : List Take) (a : Inside)
+    → length a.votes.commands ≤ sets.len a.echoers + sets.len a.readiers
     → instance_state a ≡ state s takes → All (λ (t : Take). t.from < s.nodes) takes
     → length a.votes.commands ≤ 2 * s.nodes
 kept_few s takes a few is below =

@@ -1,6 +1,6 @@
 pub mod Same
 pub mod FirstPrefix
-pub mod KeptVotes
+pub mod VoteMaps
 pub mod RowLemmas
 pub mod TallyLemmas
 pub mod Voting

@@ -12,7 +12,7 @@ use Rattle.bracha_instance.specs.States.{Votes}
 use Rattle.bracha_instance.specs.Next.{supporters_in}
 use Rattle.bracha_instance.specs.Tallies.{Row, vote_all, votes_in, names_for, RowsAgree}
 use Rattle.bracha_instance.proofs.Same.{same_command-true, same_command-refl}
-use Rattle.bracha_instance.proofs.KeptVotes.{same_votes, get-insert, contains-insert, supporters_in-empty, supporters_in-insert_same, supporters_in-insert_other}
+use Rattle.bracha_instance.proofs.VoteMaps.{same_votes, get-insert, contains-insert, supporters_in-empty, supporters_in-insert_same, supporters_in-insert_other}
 
 -- The votes of some rows.
 
@@ -58,12 +58,14 @@ unchanged names = names
 holder-unchanged : (c : Command) (rows : List Row) (q : ℕ) → holder (with_row unchanged c rows) q ≡ holder rows q
 holder-unchanged c [] q = ap (λ b. cond b (Some c) None) (sets.contains-empty nat_cmp q)
 holder-unchanged c (row ∷ rows) q =
-    elim (same_command c row.0) as (λ b. holder (cond b ((row.0, row.1) ∷ rows) (row ∷ with_row unchanged c rows)) q ≡ holder (row ∷ rows) q) [
+    elim (same_command c row.0) as (λ b. holder (cond b ((row.0, row.1) ∷ rows)
+    (row ∷ with_row unchanged c rows)) q ≡ holder (row ∷ rows) q) [
       | true ↦ refl
       | false ↦ ap (cond (sets.contains row.1 q) (Some row.0)) (holder-unchanged c rows q)
     ]
 
-not_first : {X : Type 0} (b : Bool) (x : X) (rest : Option X) → cond b (Some x) rest ≡ None → (b ≡ false) × (rest ≡ None)
+not_first : {X : Type 0} (b : Bool) (x : X) (rest : Option X) → cond b (Some x) rest ≡ None → (b ≡ false) × (rest
+    ≡ None)
 not_first true x rest e = absurd cc
 not_first false x rest e = (refl, e)
 
@@ -146,7 +148,8 @@ names_for-with_row change d c (row ∷ rows) =
         ≡ cond (same_command d c) (change (cond (same_command d row.0) row.1 (names_for d rows)))
         (cond (same_command d row.0) row.1 (names_for d rows))
     by_row true same rest =
-        with_equal (same_command d row.0) (same_command d c) (ap (same_command d) (sym (same_command-true c row.0 same)))
+        with_equal (same_command d row.0) (same_command d c) (ap (same_command d) (sym
+        (same_command-true c row.0 same)))
     by_row false other rest =
         ap (cond (same_command d row.0) row.1) rest ∙ with_other (same_command d row.0) refl other
 

@@ -21,7 +21,7 @@ use Rattle.bracha_instance.specs.Tallies.{Tallied, no_votes, with_command, with_
 use Rattle.bracha_instance.specs.declared.tallies.Tally.{Tally}
 use Rattle.bracha_instance.specs.declared.tallies.Support.{Support}
 use Rattle.bracha_instance.proofs.Same.{same_command-true, same_command-refl}
-use Rattle.bracha_instance.proofs.KeptVotes.{supporters_in-empty, supporters_in-insert_other, len_supporters_in-insert}
+use Rattle.bracha_instance.proofs.VoteMaps.{supporters_in-empty, supporters_in-insert_other, len_supporters_in-insert}
 use Rattle.bracha_instance.proofs.RowLemmas.{with_row, with_name, unchanged, votes_in-with_name, votes_in-unchanged, RowsAgree-empty, RowsAgree-unchanged, RowsAgree-with_name}
 
 -- The place of a tally.
@@ -140,10 +140,12 @@ with_tally-again change c (t ∷ tallies) =
         ≡ cond b (change t ∷ tallies) (t ∷ with_tally change c tallies)
     by_tally true same rest = ap (λ b. cond b (change t ∷ tallies) (t ∷ with_tally change c tallies)) same
     by_tally false other rest =
-        ap (λ b. cond b (change t ∷ with_tally (λ t. t) c tallies) (t ∷ with_tally change c (with_tally (λ t. t) c tallies))) other
+        ap (λ b. cond b (change t ∷ with_tally (λ t. t) c tallies) (t ∷ with_tally change c (with_tally
+        (λ t. t) c tallies))) other
         ∙ ap (λ ts. t ∷ ts) rest
 
-pub names_for-at : (pick : Tally → Names) (c : Command) (tallies : List Tally) (at : ℕ) (d : Tally) → IsFirst c tallies at
+pub names_for-at : (pick : Tally → Names) (c : Command) (tallies : List Tally) (at : ℕ) (d : Tally)
+    → IsFirst c tallies at
     → names_for c (map (λ (t : Tally). (t.command, pick t)) tallies) ≡ pick (get_or tallies at d)
 unfolding names_for
 names_for-at pick c [] at d first = absurd first
@@ -210,7 +212,8 @@ commands-with_tally : (change : Tally → Tally) (c : Command) → ((t : Tally) 
 unfolding with_tally with_command
 commands-with_tally change c command [] = ap (λ d. d ∷ []) (command (fresh c))
 commands-with_tally change c command (t ∷ tallies) =
-    by_tally (is_tally_of c t) (list_any (same_command c) (map command_in tallies)) (commands-with_tally change c command tallies)
+    by_tally (is_tally_of c t) (list_any (same_command c) (map command_in tallies))
+    (commands-with_tally change c command tallies)
   where
     by_tally : (b any : Bool) → map command_in (with_tally change c tallies)
         ≡ cond any (map command_in tallies) (map command_in tallies ++ c ∷ [])
@@ -262,7 +265,8 @@ any_new c commands = by_any (list_any (same_command c) commands) refl
         list_any-append (same_command c) commands (c ∷ [])
         ∙ or_right (list_any (same_command c) commands) _ (or_left (same_command c c) false (same_command-refl c))
 
-pub length-with_command : (c : Command) (commands : List Command) → length (with_command c commands) ≤ length commands + 1
+pub length-with_command : (c : Command) (commands : List Command)
+    → length (with_command c commands) ≤ length commands + 1
 unfolding with_command
 length-with_command c commands = by_any (list_any (same_command c) commands)
   where
@@ -290,7 +294,8 @@ voted_more v w c are commands has others = record {
     listed : (d : Command) → HasVote w d → (same_command d c ≡ true) ⊎ (same_command d c ≡ false)
         → list_any (same_command d) (with_command c v.commands) ≡ true
     listed d h (inl same) =
-        ap (λ x. list_any (same_command x) (with_command c v.commands)) (same_command-true d c same) ∙ any_new c v.commands
+        ap (λ x. list_any (same_command x) (with_command c v.commands)) (same_command-true d c same)
+        ∙ any_new c v.commands
     listed d h (inr other) =
         let P : Support → Type 0 = λ n. 0 < n.echoes + n.readies in
         any_kept (same_command d) c v.commands (are.all d (subst P (others d other) h))
@@ -305,7 +310,8 @@ as_before : (d c : Command) (v : Votes) (p : ℕ) → maps.get v p ≡ None → 
     → sets.len (supporters_in d (maps.insert v p c)) ≡ sets.len (supporters_in d v)
 as_before d c v p none other = ap sets.len (supporters_in-insert_other d c v p other none)
 
-AreVoted-echo : (v : Tallied) (p : ℕ) (c : Command) → maps.get v.echoes p ≡ None → AreVoted v → AreVoted (with_echo v p c)
+AreVoted-echo : (v : Tallied) (p : ℕ) (c : Command) → maps.get v.echoes p ≡ None → AreVoted v
+    → AreVoted (with_echo v p c)
 AreVoted-echo v p c none are =
     let some = supported c v.echoes p none in
     voted_more v (with_echo v p c) c are refl (omega arith) (λ d other i.
@@ -323,7 +329,8 @@ AreVoted-none = record {
   once = λ i j d before inside. absurd (omega arith);
   voted = λ k d inside. absurd (omega arith);
   all = λ c h.
-      let none : sets.len (supporters_in c maps.empty) ≡ 0 = ap sets.len (supporters_in-empty c) ∙ sets.len-empty nat_cmp in
+      let none : sets.len (supporters_in c maps.empty) ≡ 0 = ap sets.len (supporters_in-empty c)
+      ∙ sets.len-empty nat_cmp in
       absurd (omega arith);
 }
 
@@ -370,7 +377,8 @@ pub AreTallies-echo : (tallies : List Tally) (p : ℕ) (c : Command) → maps.ge
     → AreTallies tallies → AreTallies (with_tally (echoed_by p) c tallies)
 unfolding tallied
 AreTallies-echo tallies p c none are = record {
-  echoes = subst RowsAgree (sym (echo_rows p c tallies)) (RowsAgree-with_name c p (map echo_row tallies) none are.echoes);
+  echoes = subst RowsAgree (sym (echo_rows p c tallies)) (RowsAgree-with_name c p
+      (map echo_row tallies) none are.echoes);
   readies = subst RowsAgree (sym (echo_rows_of_readies p c tallies))
       (RowsAgree-unchanged c (map ready_row tallies) are.readies);
   voted = subst AreVoted (sym (tallied-echo tallies p c none)) (AreVoted-echo (tallied tallies) p c none are.voted);
@@ -392,7 +400,8 @@ unfolding tallied
 AreTallies-ready tallies p c none are = record {
   echoes = subst RowsAgree (sym (ready_rows_of_echoes p c tallies))
       (RowsAgree-unchanged c (map echo_row tallies) are.echoes);
-  readies = subst RowsAgree (sym (ready_rows p c tallies)) (RowsAgree-with_name c p (map ready_row tallies) none are.readies);
+  readies = subst RowsAgree (sym (ready_rows p c tallies)) (RowsAgree-with_name c p
+      (map ready_row tallies) none are.readies);
   voted = subst AreVoted (sym (tallied-ready tallies p c none)) (AreVoted-ready (tallied tallies) p c none are.voted);
 }
 

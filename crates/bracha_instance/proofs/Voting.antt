@@ -18,7 +18,7 @@ use Rattle.bracha_instance.specs.States.{votes}
 use Rattle.bracha_instance.specs.Kept.{names_of}
 use Rattle.bracha_instance.specs.Next.{supporters_in}
 use Rattle.bracha_instance.proofs.Same.{same_kind-true, same_kind-refl}
-use Rattle.bracha_instance.proofs.KeptVotes.{same_names, same_votes, get-insert, contains-insert, contains-names_of, contains-supporters_in}
+use Rattle.bracha_instance.proofs.VoteMaps.{same_names, same_votes, get-insert, contains-insert, contains-names_of, contains-supporters_in}
 
 -- Options.
 

@@ -1,4 +1,5 @@
--- What holds of an instance as it is kept, and what contracts see of it. Serves the models of the code, and no contract.
+-- What holds of an instance as it is kept, and what contracts see of it. Serves the models of the code, and no
+-- contract.
 use Rattle.std.specs.Prelude.{◌≡◌, ◌≤◌, ◌+◌, true, length, is_some, Some, None}
 use Rattle.std.specs.FinMap as maps
 use Rattle.std.specs.FinSet as sets

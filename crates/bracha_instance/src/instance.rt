@@ -102,7 +102,8 @@ pub(crate) fn message_for(
 
 /// Whether a command with this support may be readied.
 fn may_ready(sizes: &Sizes, support: Support) -> bool
-    ensures { result ≡ (nat_le (echo_quorum_of sizes.now) support.echoes || nat_le (amplify_of sizes.now) support.readies) }
+    ensures { result ≡ (nat_le (echo_quorum_of sizes.now) support.echoes
+        || nat_le (amplify_of sizes.now) support.readies) }
 {
     usize::from(sizes.echo_quorum()) <= support.echoes
         || usize::from(sizes.amplify()) <= support.readies

@@ -1,7 +1,6 @@
 pub mod Answers
 pub mod Taken
 pub mod StreamLaws
-pub mod Choices
 pub mod Senders
 pub mod Reaching
 pub mod Keeping

@@ -1,9 +1,10 @@
 -- The streams of all owners, one of which takes a packet.
-use Rattle.std.proofs.Common.{◌≡◌, ◌≢◌, ℕ, ◌<◌, ◌≤◌, ⊎_elim, false, ◌&&◌, List, [], ◌∷◌, ◌++◌, length, map, get_or, Option, Some, None, Result, Ok, Err, refl, sym, ap, ◌∙◌, subst, arith}
-use Rattle.std.specs.Prelude.{◌==◌, slice_get, slice_set, unwrap_or, slice_index_or, option_map, OnOk, OnErr, IfOk, All}
+use Rattle.std.proofs.Common.{◌≡◌, ◌≢◌, ℕ, ◌<◌, ◌≤◌, ⊎_elim, false, ◌&&◌, List, [], ◌∷◌, ◌++◌, length, map, get_or, Option, Some, None, Result, refl, sym, ap, ◌∙◌, subst, arith}
+use Rattle.std.specs.Prelude.{◌==◌, slice_get, slice_set, unwrap_or, slice_index_or, option_map, OnOk, All}
 use Rattle.std.specs.FinMap as maps
 use Rattle.std.specs.Ordering.{nat_cmp}
 use Rattle.std.proofs.lemmas.Bool.{cases_eq, cases_lt}
+use Rattle.std.proofs.lemmas.Result.{on_ok_weaker}
 use Rattle.std.proofs.lemmas.Bool.Decides.{nat_tests}
 use Rattle.std.proofs.lemmas.List.{map-set, set-get_or, get_or-set_same, get_or-set_other, length-set}
 use Rattle.std.proofs.lemmas.Option.{slice_get-map, unwrap_or-slice_get, slice_get_within, get_or_from_slice_get, slice_get-get_or, slice_get_read}
@@ -135,19 +136,6 @@ unfolding takes_at
 fresh_state s rows fresh =
     record { at_each_place = λ owner place. fresh_at s rows owner place fresh (slice_get rows owner) refl }
 
--- the contract of one owner's stream, as the contract of all
-pub on_ok : {A B : Type 0} (r : Result A B) {P Q : Type 0} → (P → Q) → OnOk r P → OnOk r Q
-on_ok (Ok x) f p = f p
-on_ok (Err e) f p = p
-
-pub on_err : {A B : Type 0} (r : Result A B) {P Q : Type 0} → (P → Q) → OnErr r P → OnErr r Q
-on_err (Ok x) f p = p
-on_err (Err e) f p = f p
-
-pub if_ok : {A B : Type 0} (r : Result A B) {P Q : A → Type 0} → ((x : A) → P x → Q x) → IfOk r P → IfOk r Q
-if_ok (Ok x) f p = f x p
-if_ok (Err e) f p = p
-
 -- of the streams that contracts see as v, the one at index i is that of the owner
 pub record IsOwners (s : Counts) (rows : List OwnerStream) (i owner : ℕ) (row : OwnerStream) (v : StreamsValue) : Type 0
   where
@@ -195,7 +183,7 @@ states_go_on {s = s} {rows = rows} {i = i} {row = row} {v = v} p new r o one =
     λ k w. OnOk r ((packets : List PacketValue) → IsStateOf w packets
     → IsStateOf (seen s (slice_set rows k new)) (packets ++ p ∷ [])) in
     let all : GoesOn p.owner (seen s rows) =
-    on_ok r (λ take packets known.
+    on_ok_weaker r (λ take packets known.
     state_push s rows row new p o.here packets known
     (take packets (are_states_of s rows p.owner row o.here packets known))) one in
     subst (GoesOn i) o.is (subst (λ k. GoesOn k (seen s rows)) (sym o.at) all)

@@ -1,5 +1,5 @@
 -- How far an owner's stream reaches, and what is delivered and sent at its places, by the places that are kept.
-use Rattle.std.proofs.Common.{◌≡◌, ℕ, zero, suc, ◌<◌, ◌≤◌, ⊎_elim, le_refl, true, false, List, [], ◌∷◌, length, Option, Some, None, sym, ap, ◌∙◌, arith}
+use Rattle.std.proofs.Common.{◌≡◌, ℕ, zero, suc, ◌<◌, ◌≤◌, ⊎_elim, le_refl, true, false, List, [], ◌∷◌, length, Option, Some, None, sym, ap, ◌∙◌, arith, refl}
 use Rattle.std.specs.Prelude.{nat_lt, option_and_then, slice_get, IsSome}
 use Rattle.std.proofs.lemmas.Bool.{cases_lt}
 use Rattle.std.proofs.lemmas.Bool.Decides.{nat_tests}
@@ -15,7 +15,6 @@ use Rattle.owner_streams.specs.Kept.{reach_in, held, IsOwnerStream, AreStatesOf,
 use Rattle.owner_streams.specs.declared.owner_stream.OwnerStream.{OwnerStream}
 use Rattle.owner_streams.proofs.Taken.{echoed-none, readied-none, delivered-none}
 use Rattle.owner_streams.proofs.StreamLaws.{stream_is_exact_lem}
-use Rattle.owner_streams.proofs.Choices.{at_most, over}
 
 -- what is delivered at a place is what the messages there deliver
 pub delivered_is : (s : Counts) (slot : Option State) (takes : List Take) → state_in s slot ≡ state s takes
@@ -113,10 +112,10 @@ command_is_due s owner place a packets kept is =
     ⊎_elim
     (λ (before : place < (reach_in a)).
     let test : nat_lt place (reach_in a) ≡ true = grind (arith, nat_tests) in
-    at_most _ _ _ test
+    rw test refl
     ∙ delivered_is s (held a place) (takes_at owner place packets) (is.at_each_place place)
     ∙ stream_is_exact_lem s owner packets place (omega arith))
     (λ (past : (reach_in a) ≤ place).
     let test : nat_lt place (reach_in a) ≡ false = grind (arith, nat_tests) in
-    over _ _ _ test ∙ sym (slice_get_past (stream s owner packets) place (omega arith)))
+    rw test refl ∙ sym (slice_get_past (stream s owner packets) place (omega arith)))
     (cases_lt place (reach_in a))

@@ -14,7 +14,6 @@ use Rattle.owner_streams.specs.Places.{window}
 use Rattle.owner_streams.specs.Slots.{slot_at, delivered_in}
 use Rattle.owner_streams.specs.Kept.{reach_in, held_in, held, instances_in}
 use Rattle.owner_streams.specs.declared.owner_stream.OwnerStream.{OwnerStream}
-use Rattle.owner_streams.proofs.Choices.{at_most, over}
 use Rattle.owner_streams.proofs.Slots.{get-instances_from}
 
 -- The three cases.
@@ -22,21 +21,21 @@ use Rattle.owner_streams.proofs.Slots.{get-instances_from}
 pub held-below : (below : List State) (ring : List (Option State)) (place : ℕ) → place < length below
     → held_in below ring place ≡ slice_get below place
 held-below below ring place h =
-    let test : nat_lt place (length below) ≡ true = grind (arith, nat_tests) in at_most _ _ _ test
+    let test : nat_lt place (length below) ≡ true = grind (arith, nat_tests) in rw test refl
 
 pub held-window : (below : List State) (ring : List (Option State)) (place : ℕ) → length below ≤ place
     → place < length below + window → held_in below ring place ≡ slot_at ring (place % window)
 held-window below ring place past within =
     let no_record : nat_lt place (length below) ≡ false = grind (arith, nat_tests) in
     let open_place : nat_lt place (length below + window) ≡ true = grind (arith, nat_tests) in
-    over _ _ _ no_record ∙ at_most _ _ _ open_place
+    rw (no_record, open_place) refl
 
 pub held-beyond : (below : List State) (ring : List (Option State)) (place : ℕ) → length below + window ≤ place
     → held_in below ring place ≡ None
 held-beyond below ring place past =
     let no_record : nat_lt place (length below) ≡ false = grind (arith, nat_tests) in
     let closed : nat_lt place (length below + window) ≡ false = grind (arith, nat_tests) in
-    over _ _ _ no_record ∙ over _ _ _ closed
+    rw (no_record, closed) refl
 
 -- places that are apart by less than the window have slots of their own
 slots_apart : (a b : ℕ) → a < b → b < a + window → b % window ≢ a % window
@@ -117,7 +116,8 @@ held-other_slot below ring now here past within others place apart =
 -- a record of the instance at its front, whose slot is free then, leaves at each place what was there
 pub held-moved : (below : List State) (ring : List (Option State)) (st : State)
     → held_in below ring (length below) ≡ Some st
-    → (place : ℕ) → held_in (below ++ st ∷ []) (slice_set ring (length below % window) None) place ≡ held_in below ring place
+    → (place : ℕ) → held_in (below ++ st ∷ []) (slice_set ring (length below % window) None) place
+    ≡ held_in below ring place
 held-moved below ring st front place =
     let more = below ++ st ∷ [] in
     let free = slice_set ring (length below % window) None in
@@ -209,7 +209,8 @@ get-instances_in a place =
     get_or_past places place None (omega arith) ∙ sym (held-beyond a.below.items a.ring.items place past))
     (cases_lt place n)
 
-pub same_instances_in : (a b : OwnerStream) → ((place : ℕ) → held b place ≡ held a place) → instances_in b ≡ instances_in a
+pub same_instances_in : (a b : OwnerStream) → ((place : ℕ) → held b place ≡ held a place) → instances_in b
+    ≡ instances_in a
 same_instances_in a b same =
     maps.same_map nat_cmp_total maps.nat_cmp-IsAntisymmetric _ _ (λ place.
     get-instances_in b place ∙ same place ∙ sym (get-instances_in a place))

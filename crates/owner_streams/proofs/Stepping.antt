@@ -25,7 +25,6 @@ use Rattle.owner_streams.specs.Kept.{reach_in, held, look_in}
 use Rattle.owner_streams.specs.declared.owner_stream.OwnerStream.{OwnerStream}
 use Rattle.owner_streams.specs.declared.steps.StreamFault.TheVariants.{Beyond}
 use Rattle.owner_streams.proofs.Taken.{takes_at-own}
-use Rattle.owner_streams.proofs.Choices.{at_most, over}
 
 -- a packet beyond the window is refused ..
 pub due_beyond : (s : Counts) (packets : List PacketValue) (p : PacketValue) (n : ℕ) → reach s p.owner packets ≡ n
@@ -35,7 +34,7 @@ unfolding step_due
 due_beyond s packets p n e h =
     let refused : nat_le (n + window) p.place ≡ true = grind (arith, nat_tests) in
     ap (λ m. cond (nat_le (m + window) p.place) (Err (Beyond p.place (m + window))) (Ok (step_of s packets p))) e
-    ∙ at_most _ _ _ refused
+    ∙ rw refused refl
 
 -- .. and each other one is not
 pub due_within : (s : Counts) (packets : List PacketValue) (p : PacketValue) (n : ℕ) → reach s p.owner packets ≡ n
@@ -45,7 +44,7 @@ unfolding step_due
 due_within s packets p n e h =
     let taken : nat_le (n + window) p.place ≡ false = grind (arith, nat_tests) in
     ap (λ m. cond (nat_le (m + window) p.place) (Err (Beyond p.place (m + window))) (Ok (step_of s packets p))) e
-    ∙ over _ _ _ taken
+    ∙ rw taken refl
 
 -- the step that is due, from what the instance answers and how far the stream reaches
 pub step_is : (s : Counts) (packets : List PacketValue) (p : PacketValue) (taken : Taken) (from to : ℕ) →
@@ -101,7 +100,7 @@ look_within a p e is =
     ⊎_elim (λ (within : p.place < reach_in a + window). within)
     (λ (past : reach_in a + window ≤ p.place).
     let test : nat_le (reach_in a + window) p.place ≡ true = grind (arith, nat_tests) in
-    let refused : Ok e ≡ Err (Beyond p.place (reach_in a + window)) = is ∙ at_most _ _ _ test in
+    let refused : Ok e ≡ Err (Beyond p.place (reach_in a + window)) = is ∙ rw test refl in
     absurd cc)
     (cases_lt p.place (reach_in a + window))
 
@@ -118,7 +117,7 @@ pub look_idle : (a : OwnerStream) (p : PacketValue) → Ok Idle ≡ look_in a p
 look_idle a p is =
     let within : p.place < reach_in a + window = look_within a p Idle is in
     let test : nat_le (reach_in a + window) p.place ≡ false = grind (arith, nat_tests) in
-    idle_test _ (same_ok _ _ (is ∙ over _ _ _ test))
+    idle_test _ (same_ok _ _ (is ∙ rw test refl))
 
 pub voted_changes_nothing : (s : Counts) (slot : Option State) (t : Take) → voted_in slot t.kind t.from ≡ true
     → (takes : List Take) → state_in s slot ≡ state s takes →

@@ -6,7 +6,8 @@ use Rattle.bracha_instance.proofs.KeptInstances.{free_echo, echo_kept, ready_by_
 use Rattle.bracha_instance.proofs.instance.Instance.count_echo.Goals as goal
 
 pub count_echo-requires : goal.count_echo-requires
-count_echo-requires c = free_echo c.self.inside c.args.from c.self.invariant (sym c.is_some.ensures ∙ c.if-is_some.false)
+count_echo-requires c = free_echo c.self.inside c.args.from c.self.invariant (sym c.is_some.ensures
+    ∙ c.if-is_some.false)
     (ap (λ st. has_voted st Echo c.args.from) c.self.view_is ∙ c.requires)
 
 pub invariant_of-self-2 : goal.invariant_of-self-2

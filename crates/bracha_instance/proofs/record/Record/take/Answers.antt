@@ -32,7 +32,8 @@ returns-then-voted-clause-delivered c = λ s takes is.
 pub returns-clause-state : goal.returns-clause-state
 returns-clause-state c = λ s takes is.
     let t : Take = record { kind = c.args.kind; from = c.args.from; command = c.args.command } in
-    counted_state s takes t c.args.self.now c.count.new.self (sym c.voted.ensures.seen ∙ c.if-voted.false) (c.count.ensures.state s) is
+    counted_state s takes t c.args.self.now c.count.new.self (sym c.voted.ensures.seen
+    ∙ c.if-voted.false) (c.count.ensures.state s) is
 
 pub returns-clause-effect : goal.returns-clause-effect
 returns-clause-effect c = λ s takes owner is all.

@@ -1,15 +1,16 @@
-use Rattle.std.proofs.Common.{◌≡◌, true, sym, ap, ◌∙◌, arith}
+use Rattle.std.proofs.Common.{◌≡◌, true, refl, sym, ap, ◌∙◌, arith}
 use Rattle.std.specs.Prelude.{nat_lt}
 use Rattle.std.proofs.lemmas.Bool.Decides.{nat_tests}
 use Rattle.owner_streams.specs.Slots.{delivered_in}
-use Rattle.owner_streams.specs.Kept.{reach_in, held}
-use Rattle.owner_streams.proofs.Choices.{at_most}
+use Rattle.owner_streams.specs.Kept.{reach_in, held, command_in}
 use Rattle.owner_streams.proofs.owner_stream.OwnerStream.command.Goals as goal
 
 pub returns-then-place-len : goal.returns-then-place-len
 returns-then-place-len c =
     let at : c.from-place.result ≡ c.args.place = omega arith in
     let below : nat_lt c.args.place (reach_in c.args.self.now) ≡ true = grind (arith, nat_tests) in
+    let found : command_in c.args.self.now c.args.place ≡ delivered_in (held c.args.self.now c.args.place) =
+    rw below refl in
     c.delivered.ensures
     ∙ ap delivered_in (sym c.record_at.ensures ∙ ap (held c.args.self.now) at)
-    ∙ sym (at_most _ _ _ below)
+    ∙ sym found

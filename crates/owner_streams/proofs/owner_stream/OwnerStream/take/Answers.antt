@@ -35,7 +35,8 @@ returns-in-Idle-clause-due c packets is sent =
     let due = due_within s packets p c.reach-from.result before (omega arith) in
     due
     ∙ ap Ok (idle_step_is s packets p c.reach-from.result
-    (effect_is s packets p Idle due (ap Ok (sym c.in-Idle.is) ∙ c.in_ok-look.ensures.due s packets c.requires.kept is sent))
+    (effect_is s packets p Idle due (ap Ok (sym c.in-Idle.is)
+    ∙ c.in_ok-look.ensures.due s packets c.requires.kept is sent))
     (sym (now p.place) ∙ is.at_each_place p.place) before after)
 
 pub returns-in-Idle-clause-state : goal.returns-in-Idle-clause-state
@@ -118,6 +119,7 @@ returns-clause-due c packets is sent =
     let is_counted = counts c.in_ok-look.field-0 c.in_default.not-Idle in
     due
     ∙ ap Ok (step_is s packets p c.in_ok-taken.taken c.reach-from.result c.reach.result
-    (effect_is s packets p Counted due (ap Ok (sym is_counted) ∙ c.in_ok-look.ensures.due s packets c.requires.kept is sent))
+    (effect_is s packets p Counted due (ap Ok (sym is_counted)
+    ∙ c.in_ok-look.ensures.due s packets c.requires.kept is sent))
     (c.in_ok-taken.ensures.taken (takes_at p.owner p.place packets) (is.at_each_place p.place))
     before after)

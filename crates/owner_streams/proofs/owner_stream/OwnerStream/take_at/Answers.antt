@@ -1,5 +1,6 @@
 use Rattle.std.proofs.Common.{◌≡◌, ◌%◌, ◌<◌, length, Option, Result, Ok, Err, sym, ap, ◌∙◌, arith}
 use Rattle.std.specs.Prelude.{OnErr}
+use Rattle.std.proofs.lemmas.Result.{on_ok_weaker, on_err_weaker, IfOk-weaker}
 use Rattle.quorum_sizes.specs.Sizes.{Counts}
 use Rattle.bracha_instance.specs.Broadcast.{Take}
 use Rattle.bracha_instance.specs.States.{State}
@@ -7,7 +8,6 @@ use Rattle.bracha_instance.specs.declared.instance.Taken.{Taken}
 use Rattle.owner_streams.specs.Places.{window}
 use Rattle.owner_streams.specs.Slots.{slot_at, state_in, GoesOn, IsAnswerAt}
 use Rattle.owner_streams.specs.Kept.{held_in, held}
-use Rattle.owner_streams.proofs.Owners.{on_ok, on_err, if_ok}
 use Rattle.owner_streams.proofs.Rings.{held-below, held-window, held-record, held-other_record, held-other_slot}
 use Rattle.owner_streams.proofs.owner_stream.OwnerStream.take_at.Goals as goal
 
@@ -97,10 +97,11 @@ returns-clause-state c =
     let before : held c.args.self.now c.args.packet.now.place ≡ slot_at ring slot =
     ap (held c.args.self.now) (sym at)
     ∙ held-window c.args.self.now.below.items ring c.from-place.result (omega arith) (omega arith) in
-    let after : held_in records c.take_slot.new.ring.items c.args.packet.now.place ≡ slot_at c.take_slot.new.ring.items slot =
+    let after : held_in records c.take_slot.new.ring.items c.args.packet.now.place
+    ≡ slot_at c.take_slot.new.ring.items slot =
     ap (held_in records c.take_slot.new.ring.items) (sym at)
     ∙ held-window records c.take_slot.new.ring.items c.from-place.result (omega arith) (omega arith) in
-    on_ok c.take_slot.result (goes_on c.args.sizes.now _ _ _ _ _ before after) c.take_slot.ensures.state
+    on_ok_weaker c.take_slot.result (goes_on c.args.sizes.now _ _ _ _ _ before after) c.take_slot.ensures.state
 
 pub returns-clause-taken : goal.returns-clause-taken
 unfolding held
@@ -113,7 +114,7 @@ returns-clause-taken c =
     let before : held c.args.self.now c.args.packet.now.place ≡ slot_at ring slot =
     ap (held c.args.self.now) (sym at)
     ∙ held-window c.args.self.now.below.items ring c.from-place.result (omega arith) (omega arith) in
-    if_ok c.take_slot.result (λ taken. answers c.args.sizes.now _ taken _ _ before) c.take_slot.ensures.taken
+    IfOk-weaker c.take_slot.result _ _ (λ taken. answers c.args.sizes.now _ taken _ _ before) c.take_slot.ensures.taken
 
 pub returns-clause-err : goal.returns-clause-err
 unfolding held
@@ -126,7 +127,8 @@ returns-clause-err c =
     let before : held c.args.self.now c.args.packet.now.place ≡ slot_at ring slot =
     ap (held c.args.self.now) (sym at)
     ∙ held-window c.args.self.now.below.items ring c.from-place.result (omega arith) (omega arith) in
-    let after : held_in records c.take_slot.new.ring.items c.args.packet.now.place ≡ slot_at c.take_slot.new.ring.items slot =
+    let after : held_in records c.take_slot.new.ring.items c.args.packet.now.place
+    ≡ slot_at c.take_slot.new.ring.items slot =
     ap (held_in records c.take_slot.new.ring.items) (sym at)
     ∙ held-window records c.take_slot.new.ring.items c.from-place.result (omega arith) (omega arith) in
-    on_err c.take_slot.result (λ same. after ∙ same ∙ sym before) c.take_slot.ensures.err
+    on_err_weaker c.take_slot.result (λ same. after ∙ same ∙ sym before) c.take_slot.ensures.err

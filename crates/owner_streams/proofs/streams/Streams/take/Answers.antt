@@ -1,8 +1,9 @@
 use Rattle.std.proofs.Common.{◌∙◌, arith, length-set}
 use Rattle.std.proofs.lemmas.List.Elements.{All-set}
+use Rattle.std.proofs.lemmas.Result.{IfOk-weaker, on_err_weaker}
 use Rattle.owner_streams.specs.Steps.{SendsAreOwners, step_due, IsAnswer}
 use Rattle.owner_streams.specs.Kept.{IsOwnerStream}
-use Rattle.owner_streams.proofs.Owners.{is_owners, by_owner, states_go_on, same_as_before, on_err, if_ok}
+use Rattle.owner_streams.proofs.Owners.{is_owners, by_owner, states_go_on, same_as_before}
 use Rattle.owner_streams.proofs.streams.Streams.take.Goals as goal
 
 pub invariant_of-self : goal.invariant_of-self
@@ -28,7 +29,7 @@ returns-clause-state c =
 
 pub returns-clause-idle : goal.returns-clause-idle
 returns-clause-idle c =
-    if_ok c.take.result
+    IfOk-weaker c.take.result _ _
     (λ step same idle. same_as_before c.take.new.self
     (is_owners (omega arith) c.self.invariant.one_each c.requires.owner c.self.view_is c.index_mut.ensures.value)
     (same idle))
@@ -36,7 +37,7 @@ returns-clause-idle c =
 
 pub returns-clause-err : goal.returns-clause-err
 returns-clause-err c =
-    on_err c.take.result
+    on_err_weaker c.take.result
     (λ same. same_as_before c.take.new.self
     (is_owners (omega arith) c.self.invariant.one_each c.requires.owner c.self.view_is c.index_mut.ensures.value)
     same)
