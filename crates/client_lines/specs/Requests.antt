@@ -1,6 +1,6 @@
 -- What a client line asks. `request_of` is the table of operations: a row reads the members of its operation in their
 -- order, and the first that is absent or out of its range is the fault.
-use Rattle.std.specs.Prelude.{ℕ, ◌-◌, ◌^◌, nat_lt, if◌then◌else◌, List, length, Option, Some, None, option_and_then, is_some, Result, Ok, Err}
+use Rattle.std.specs.Prelude.{ℕ, ◌-◌, ◌^◌, ◌<◌, ⊤, nat_lt, if◌then◌else◌, List, length, Option, Some, None, option_and_then, is_some, Result, Ok, Err}
 use Rattle.serde_json.specs.Data.{Data}
 use Rattle.serde_json.specs.Find.{as_object, as_str}
 use Rattle.quorum_sizes.specs.Sizes.{Counts}
@@ -57,8 +57,13 @@ abbrev pub session_of : Data → Result ℕ LineFault
 session_of = number_of Session (2 ^ 64 - 1)
 
 -- an owner is one of the nodes
-abbrev pub owner_of : Counts → Data → Result ℕ LineFault
-owner_of s = number_of Owner (s.nodes - 1)
+abbrev pub node_named : Counts → ℕ → Result ℕ LineFault
+node_named s n = if nat_lt n s.nodes then Ok n else Err (OutOfRange Owner)
+
+unfoldable pub owner_of : Counts → Data → Result ℕ LineFault
+owner_of s line = do
+  n ← number_of Owner (2 ^ 8 - 1) line
+  node_named s n
 
 unfoldable pub user_and_role : Data → Result (ℕ × ℕ) LineFault
 user_and_role line = do
@@ -169,3 +174,12 @@ request_if_json s (Some line) = request_of_value s line
 -- what a line of these bytes asks of a node of these sizes, or the first fault that holds
 unfoldable pub request_due : Counts → List ℕ → Result Request LineFault
 request_due s bytes = if nat_lt most_line_bytes (length bytes) then Err NotJson else request_if_json s (json_of bytes)
+
+-- an owner that it names is a node
+abbrev pub NamesNodes : Counts → Request → Type 0
+NamesNodes s (Issue command) = ⊤
+NamesNodes s (Client event) = ⊤
+NamesNodes s (Ask question) = ⊤
+NamesNodes s (Reach owner) = owner < s.nodes
+NamesNodes s (Again owner place) = owner < s.nodes
+NamesNodes s Stop = ⊤

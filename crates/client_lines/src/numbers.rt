@@ -1,6 +1,6 @@
 //! The numbers of a client line, each with its range.
 
-ghost use Rattle.std.specs.Prelude.{◌≡◌, ◌≤◌, ◌-◌, ◌^◌, IfOk};
+ghost use Rattle.std.specs.Prelude.{◌≡◌, ◌<◌, ◌≤◌, ◌-◌, ◌^◌, IfOk};
 ghost use Rattle.serde_json.specs.View.{view};
 ghost use Rattle.client_lines.specs.Requests as lines;
 
@@ -46,12 +46,16 @@ pub fn session_of(line: &Value) -> Result<u64, LineFault>
     number(line, Member::Session, u64::MAX)
 }
 
+#[tactic(auto, unfolding(crate::specs::Requests::owner_of))]
 pub fn owner_of(sizes: &Sizes, line: &Value) -> Result<NodeName, LineFault>
-    ensures { result ≡ lines.owner_of sizes.now (view line.now) }
+    ensures value { result ≡ lines.owner_of sizes.now (view line.now) }
+    ensures node { IfOk result (λ owner. owner < sizes.now.nodes) }
 {
-    let last = sizes.n() - 1;
-    let index = number(line, Member::Owner, u64::from(last))?;
-    Ok(sizes.name(index as u8).unwrap())
+    let index = number(line, Member::Owner, u64::from(u8::MAX))?;
+    match sizes.name(index as u8) {
+        Some(node) => Ok(node),
+        None => Err(LineFault::OutOfRange(Member::Owner)),
+    }
 }
 
 fn wide_number(line: &Value, member: Member) -> Result<u32, LineFault>

@@ -1,4 +1,4 @@
-ghost use Rattle.std.specs.Prelude.{◌≡◌, ◌⊎◌, ◌≤◌, length, Err, IfErr};
+ghost use Rattle.std.specs.Prelude.{◌≡◌, ◌⊎◌, ◌≤◌, length, Err, IfOk, IfErr};
 ghost use Rattle.serde_json.specs.View.{view};
 ghost use Rattle.client_lines.specs.Requests as lines;
 ghost use Rattle.client_lines.specs.Requests.{request_due, most_line_bytes};
@@ -43,6 +43,7 @@ pub enum Request {
 #[tactic(auto, unfolding(crate::specs::Requests::request_due))]
 pub fn read_request(alloc: Global, sizes: &Sizes, bytes: &[u8]) -> Result<Request, LineFault>
     ensures due { (result ≡ request_due sizes.now bytes.now) ⊎ (result ≡ Err LineFault.Memory) }
+    ensures nodes { IfOk result (lines.NamesNodes sizes.now) }
     ensures memory { IfErr result (λ e. e ≡ LineFault.Memory → length bytes.now ≤ most_line_bytes) }
 {
     if bytes.len() > MOST_LINE_BYTES {
@@ -56,7 +57,8 @@ pub fn read_request(alloc: Global, sizes: &Sizes, bytes: &[u8]) -> Result<Reques
 
 #[tactic(auto, unfolding(crate::specs::Requests::request_of_value))]
 fn request_of_value(sizes: &Sizes, line: &Value) -> Result<Request, LineFault>
-    ensures { result ≡ lines.request_of_value sizes.now (view line.now) }
+    ensures value { result ≡ lines.request_of_value sizes.now (view line.now) }
+    ensures nodes { IfOk result (lines.NamesNodes sizes.now) }
 {
     if !line.is_object() {
         return Err(LineFault::NotObject);

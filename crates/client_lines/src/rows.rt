@@ -1,6 +1,6 @@
 //! The request of each operation, from the members of its line.
 
-ghost use Rattle.std.specs.Prelude.{◌≡◌};
+ghost use Rattle.std.specs.Prelude.{◌≡◌, IfOk};
 ghost use Rattle.quorum_sizes.specs.Sizes.{Counts};
 ghost use Rattle.serde_json.specs.Data.{Data};
 ghost use Rattle.serde_json.specs.View.{view};
@@ -18,7 +18,8 @@ use serde_json::Value;
 
 /// What a line asks that names this operation.
 pub fn request_of(sizes: &Sizes, operation: Operation, line: &Value) -> Result<Request, LineFault>
-    ensures { result ≡ lines.request_of sizes.now operation (view line.now) }
+    ensures value { result ≡ lines.request_of sizes.now operation (view line.now) }
+    ensures nodes { IfOk result (lines.NamesNodes sizes.now) }
 {
     match operation {
         Operation::Assign => assign_of(line),
@@ -46,7 +47,8 @@ pub fn request_of(sizes: &Sizes, operation: Operation, line: &Value) -> Result<R
 
 #[tactic(auto, unfolding(crate::specs::Requests::request_of))]
 fn assign_of(line: &Value) -> Result<Request, LineFault>
-    ensures { (s : Counts) → result ≡ lines.request_of s operation.Assign (view line.now) }
+    ensures value { (s : Counts) → result ≡ lines.request_of s operation.Assign (view line.now) }
+    ensures nodes { IfOk result (λ request. (s : Counts) → lines.NamesNodes s request) }
 {
     let (user, role) = user_and_role(line)?;
     Ok(Request::Issue(Command::Assign { user, role }))
@@ -54,7 +56,8 @@ fn assign_of(line: &Value) -> Result<Request, LineFault>
 
 #[tactic(auto, unfolding(crate::specs::Requests::request_of))]
 fn deassign_of(line: &Value) -> Result<Request, LineFault>
-    ensures { (s : Counts) → result ≡ lines.request_of s operation.Deassign (view line.now) }
+    ensures value { (s : Counts) → result ≡ lines.request_of s operation.Deassign (view line.now) }
+    ensures nodes { IfOk result (λ request. (s : Counts) → lines.NamesNodes s request) }
 {
     let (user, role) = user_and_role(line)?;
     Ok(Request::Issue(Command::Deassign { user, role }))
@@ -62,7 +65,8 @@ fn deassign_of(line: &Value) -> Result<Request, LineFault>
 
 #[tactic(auto, unfolding(crate::specs::Requests::request_of))]
 fn grant_of(line: &Value) -> Result<Request, LineFault>
-    ensures { (s : Counts) → result ≡ lines.request_of s operation.Grant (view line.now) }
+    ensures value { (s : Counts) → result ≡ lines.request_of s operation.Grant (view line.now) }
+    ensures nodes { IfOk result (λ request. (s : Counts) → lines.NamesNodes s request) }
 {
     let (role, operation, object) = role_operation_and_object(line)?;
     Ok(Request::Issue(Command::Grant {
@@ -74,7 +78,8 @@ fn grant_of(line: &Value) -> Result<Request, LineFault>
 
 #[tactic(auto, unfolding(crate::specs::Requests::request_of))]
 fn revoke_of(line: &Value) -> Result<Request, LineFault>
-    ensures { (s : Counts) → result ≡ lines.request_of s operation.Revoke (view line.now) }
+    ensures value { (s : Counts) → result ≡ lines.request_of s operation.Revoke (view line.now) }
+    ensures nodes { IfOk result (λ request. (s : Counts) → lines.NamesNodes s request) }
 {
     let (role, operation, object) = role_operation_and_object(line)?;
     Ok(Request::Issue(Command::Revoke {
@@ -86,7 +91,8 @@ fn revoke_of(line: &Value) -> Result<Request, LineFault>
 
 #[tactic(auto, unfolding(crate::specs::Requests::request_of))]
 fn activate_of(line: &Value) -> Result<Request, LineFault>
-    ensures { (s : Counts) → result ≡ lines.request_of s operation.Activate (view line.now) }
+    ensures value { (s : Counts) → result ≡ lines.request_of s operation.Activate (view line.now) }
+    ensures nodes { IfOk result (λ request. (s : Counts) → lines.NamesNodes s request) }
 {
     let (session, user, role) = session_user_and_role(line)?;
     Ok(Request::Client(ClientEvent::Activate {
@@ -98,7 +104,8 @@ fn activate_of(line: &Value) -> Result<Request, LineFault>
 
 #[tactic(auto, unfolding(crate::specs::Requests::request_of))]
 fn drop_of(line: &Value) -> Result<Request, LineFault>
-    ensures { (s : Counts) → result ≡ lines.request_of s operation.Drop (view line.now) }
+    ensures value { (s : Counts) → result ≡ lines.request_of s operation.Drop (view line.now) }
+    ensures nodes { IfOk result (λ request. (s : Counts) → lines.NamesNodes s request) }
 {
     let (session, user, role) = session_user_and_role(line)?;
     Ok(Request::Client(ClientEvent::DropRole {
@@ -110,7 +117,8 @@ fn drop_of(line: &Value) -> Result<Request, LineFault>
 
 #[tactic(auto, unfolding(crate::specs::Requests::request_of))]
 fn close_of(line: &Value) -> Result<Request, LineFault>
-    ensures { (s : Counts) → result ≡ lines.request_of s operation.Close (view line.now) }
+    ensures value { (s : Counts) → result ≡ lines.request_of s operation.Close (view line.now) }
+    ensures nodes { IfOk result (λ request. (s : Counts) → lines.NamesNodes s request) }
 {
     let session = session_of(line)?;
     let user = user_of(line)?;
@@ -119,7 +127,8 @@ fn close_of(line: &Value) -> Result<Request, LineFault>
 
 #[tactic(auto, unfolding(crate::specs::Requests::request_of))]
 fn check_of(line: &Value) -> Result<Request, LineFault>
-    ensures { (s : Counts) → result ≡ lines.request_of s operation.Check (view line.now) }
+    ensures value { (s : Counts) → result ≡ lines.request_of s operation.Check (view line.now) }
+    ensures nodes { IfOk result (λ request. (s : Counts) → lines.NamesNodes s request) }
 {
     let session = session_of(line)?;
     let user = user_of(line)?;
@@ -135,7 +144,8 @@ fn check_of(line: &Value) -> Result<Request, LineFault>
 
 #[tactic(auto, unfolding(crate::specs::Requests::request_of))]
 fn role_operations_of(line: &Value) -> Result<Request, LineFault>
-    ensures { (s : Counts) → result ≡ lines.request_of s operation.RoleOperations (view line.now) }
+    ensures value { (s : Counts) → result ≡ lines.request_of s operation.RoleOperations (view line.now) }
+    ensures nodes { IfOk result (λ request. (s : Counts) → lines.NamesNodes s request) }
 {
     let role = role_of(line)?;
     let object = object_of(line)?;
@@ -144,7 +154,8 @@ fn role_operations_of(line: &Value) -> Result<Request, LineFault>
 
 #[tactic(auto, unfolding(crate::specs::Requests::request_of))]
 fn user_operations_of(line: &Value) -> Result<Request, LineFault>
-    ensures { (s : Counts) → result ≡ lines.request_of s operation.UserOperations (view line.now) }
+    ensures value { (s : Counts) → result ≡ lines.request_of s operation.UserOperations (view line.now) }
+    ensures nodes { IfOk result (λ request. (s : Counts) → lines.NamesNodes s request) }
 {
     let user = user_of(line)?;
     let object = object_of(line)?;
@@ -153,7 +164,8 @@ fn user_operations_of(line: &Value) -> Result<Request, LineFault>
 
 #[tactic(auto, unfolding(crate::specs::Requests::request_of))]
 fn session_permissions_of(line: &Value) -> Result<Request, LineFault>
-    ensures { (s : Counts) → result ≡ lines.request_of s operation.SessionPermissions (view line.now) }
+    ensures value { (s : Counts) → result ≡ lines.request_of s operation.SessionPermissions (view line.now) }
+    ensures nodes { IfOk result (λ request. (s : Counts) → lines.NamesNodes s request) }
 {
     let session = session_of(line)?;
     Ok(Request::Ask(Question::SessionPermissions(session)))
@@ -161,7 +173,8 @@ fn session_permissions_of(line: &Value) -> Result<Request, LineFault>
 
 #[tactic(auto, unfolding(crate::specs::Requests::request_of))]
 fn again_of(sizes: &Sizes, line: &Value) -> Result<Request, LineFault>
-    ensures { result ≡ lines.request_of sizes.now operation.Again (view line.now) }
+    ensures value { result ≡ lines.request_of sizes.now operation.Again (view line.now) }
+    ensures nodes { IfOk result (lines.NamesNodes sizes.now) }
 {
     let owner = owner_of(sizes, line)?;
     let place = place_of(line)?;
@@ -170,7 +183,8 @@ fn again_of(sizes: &Sizes, line: &Value) -> Result<Request, LineFault>
 
 #[tactic(auto, unfolding(crate::specs::Requests::request_of))]
 fn open_of(line: &Value) -> Result<Request, LineFault>
-    ensures { (s : Counts) → result ≡ lines.request_of s operation.Open (view line.now) }
+    ensures value { (s : Counts) → result ≡ lines.request_of s operation.Open (view line.now) }
+    ensures nodes { IfOk result (λ request. (s : Counts) → lines.NamesNodes s request) }
 {
     let user = user_of(line)?;
     Ok(Request::Client(ClientEvent::Open { user }))
@@ -178,7 +192,8 @@ fn open_of(line: &Value) -> Result<Request, LineFault>
 
 #[tactic(auto, unfolding(crate::specs::Requests::request_of))]
 fn assigned_users_of(line: &Value) -> Result<Request, LineFault>
-    ensures { (s : Counts) → result ≡ lines.request_of s operation.AssignedUsers (view line.now) }
+    ensures value { (s : Counts) → result ≡ lines.request_of s operation.AssignedUsers (view line.now) }
+    ensures nodes { IfOk result (λ request. (s : Counts) → lines.NamesNodes s request) }
 {
     let role = role_of(line)?;
     Ok(Request::Ask(Question::AssignedUsers(role)))
@@ -186,7 +201,8 @@ fn assigned_users_of(line: &Value) -> Result<Request, LineFault>
 
 #[tactic(auto, unfolding(crate::specs::Requests::request_of))]
 fn assigned_roles_of(line: &Value) -> Result<Request, LineFault>
-    ensures { (s : Counts) → result ≡ lines.request_of s operation.AssignedRoles (view line.now) }
+    ensures value { (s : Counts) → result ≡ lines.request_of s operation.AssignedRoles (view line.now) }
+    ensures nodes { IfOk result (λ request. (s : Counts) → lines.NamesNodes s request) }
 {
     let user = user_of(line)?;
     Ok(Request::Ask(Question::AssignedRoles(user)))
@@ -194,7 +210,8 @@ fn assigned_roles_of(line: &Value) -> Result<Request, LineFault>
 
 #[tactic(auto, unfolding(crate::specs::Requests::request_of))]
 fn role_permissions_of(line: &Value) -> Result<Request, LineFault>
-    ensures { (s : Counts) → result ≡ lines.request_of s operation.RolePermissions (view line.now) }
+    ensures value { (s : Counts) → result ≡ lines.request_of s operation.RolePermissions (view line.now) }
+    ensures nodes { IfOk result (λ request. (s : Counts) → lines.NamesNodes s request) }
 {
     let role = role_of(line)?;
     Ok(Request::Ask(Question::RolePermissions(role)))
@@ -202,7 +219,8 @@ fn role_permissions_of(line: &Value) -> Result<Request, LineFault>
 
 #[tactic(auto, unfolding(crate::specs::Requests::request_of))]
 fn user_permissions_of(line: &Value) -> Result<Request, LineFault>
-    ensures { (s : Counts) → result ≡ lines.request_of s operation.UserPermissions (view line.now) }
+    ensures value { (s : Counts) → result ≡ lines.request_of s operation.UserPermissions (view line.now) }
+    ensures nodes { IfOk result (λ request. (s : Counts) → lines.NamesNodes s request) }
 {
     let user = user_of(line)?;
     Ok(Request::Ask(Question::UserPermissions(user)))
@@ -210,7 +228,8 @@ fn user_permissions_of(line: &Value) -> Result<Request, LineFault>
 
 #[tactic(auto, unfolding(crate::specs::Requests::request_of))]
 fn session_roles_of(line: &Value) -> Result<Request, LineFault>
-    ensures { (s : Counts) → result ≡ lines.request_of s operation.SessionRoles (view line.now) }
+    ensures value { (s : Counts) → result ≡ lines.request_of s operation.SessionRoles (view line.now) }
+    ensures nodes { IfOk result (λ request. (s : Counts) → lines.NamesNodes s request) }
 {
     let session = session_of(line)?;
     Ok(Request::Ask(Question::SessionRoles(session)))
@@ -218,7 +237,8 @@ fn session_roles_of(line: &Value) -> Result<Request, LineFault>
 
 #[tactic(auto, unfolding(crate::specs::Requests::request_of))]
 fn reach_of(sizes: &Sizes, line: &Value) -> Result<Request, LineFault>
-    ensures { result ≡ lines.request_of sizes.now operation.Reach (view line.now) }
+    ensures value { result ≡ lines.request_of sizes.now operation.Reach (view line.now) }
+    ensures nodes { IfOk result (lines.NamesNodes sizes.now) }
 {
     let owner = owner_of(sizes, line)?;
     Ok(Request::Reach(owner))
@@ -226,7 +246,8 @@ fn reach_of(sizes: &Sizes, line: &Value) -> Result<Request, LineFault>
 
 #[tactic(auto, unfolding(crate::specs::Requests::request_of))]
 fn stop_of() -> Result<Request, LineFault>
-    ensures { (s : Counts) (line : Data) → result ≡ lines.request_of s operation.Stop line }
+    ensures value { (s : Counts) (line : Data) → result ≡ lines.request_of s operation.Stop line }
+    ensures nodes { IfOk result (λ request. (s : Counts) → lines.NamesNodes s request) }
 {
     Ok(Request::Stop)
 }
