@@ -1,1 +1,3 @@
 pub mod ShapeLemmas
+pub mod SetupLemmas
+pub mod AnswerLemmas

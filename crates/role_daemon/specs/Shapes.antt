@@ -1,6 +1,6 @@
 -- The members of a cluster text, in the order in which they are looked at. Each has its own shape; the first that is
 -- absent or has another is the fault.
-use Rattle.std.specs.Prelude.{ℕ, ◌^◌, ◌-◌, Bool, map, nat_le, if◌then◌else◌, List, [], ◌∷◌, Option, Some, None, option_map, option_and_then, is_some, Result, Ok, Err}
+use Rattle.std.specs.Prelude.{ℕ, ◌^◌, ◌-◌, Bool, nat_le, if◌then◌else◌, List, [], ◌∷◌, Option, Some, None, option_map, option_and_then, is_some, Result, Ok, Err}
 use Rattle.std.specs.List.{list_all, filter_map}
 use Rattle.std.specs.Result.{result_ok}
 use Rattle.hex.specs.Hex.{decode_sized}
@@ -116,8 +116,8 @@ shape_of mode text = do
 abbrev pub links_view : links.Links → Links
 links_view l =
     record {
-      keys = filter_map key_of (map view l.keys.now);
-      nodes = filter_map port_of (map view l.nodes.now);
+      keys = filter_map (λ v. key_of (view v)) l.keys.now;
+      nodes = filter_map (λ v. port_of (view v)) l.nodes.now;
       client = l.client;
     }
 
@@ -128,7 +128,7 @@ shape_view s =
       n = s.n;
       f = s.f;
       me = s.me;
-      roles = filter_map pair_of (map view s.roles.now);
+      roles = filter_map (λ v. pair_of (view v)) s.roles.now;
       keys = (links_view s.links).keys;
       nodes = (links_view s.links).nodes;
       client = (links_view s.links).client;

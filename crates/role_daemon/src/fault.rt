@@ -4,6 +4,7 @@ ghost use Rattle.std.specs.Prelude.{◌≡◌};
 ghost use Rattle.role_daemon.specs.Statuses.{words_status, cluster_status, pipe_status};
 
 use client_lines::Member;
+use link_frames::{AheadFault, DeviceFault};
 use quorum_sizes::SizeFault;
 use role_commands::TableFault;
 use std::alloc::AllocError;
@@ -105,6 +106,19 @@ impl From<SizeFault> for ClusterFault {
     }
 }
 
+impl From<TableFault> for ClusterFault {
+    ghost use Rattle.role_daemon.specs.TableFaults.{of_table_fault};
+
+    ghost from_gives = { λ fault e. e ≡ of_table_fault fault };
+
+    fn from(fault: TableFault) -> Self {
+        match fault {
+            TableFault::Memory => ClusterFault::Memory,
+            refusal => ClusterFault::Table(refusal),
+        }
+    }
+}
+
 /// Why a pipe ended before its end.
 #[derive(Debug, Drop, Error)]
 pub enum PipeFault {
@@ -139,5 +153,28 @@ impl From<AllocError> for PipeFault {
 
     fn from(_e: AllocError) -> Self {
         PipeFault::Memory
+    }
+}
+
+impl From<AheadFault> for PipeFault {
+    ghost use Rattle.role_daemon.specs.Steps.{of_ahead_fault};
+
+    ghost from_gives = { λ fault e. e ≡ of_ahead_fault fault };
+
+    fn from(fault: AheadFault) -> Self {
+        match fault {
+            AheadFault::Device => PipeFault::Device,
+            AheadFault::Memory => PipeFault::Memory,
+        }
+    }
+}
+
+impl From<DeviceFault> for PipeFault {
+    ghost use Rattle.role_daemon.specs.declared.fault.PipeFault.TheVariants.{Device};
+
+    ghost from_gives = { λ _ e. e ≡ Device };
+
+    fn from(_e: DeviceFault) -> Self {
+        PipeFault::Device
     }
 }

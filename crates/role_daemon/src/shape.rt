@@ -110,7 +110,7 @@ fn port_member(text: &Value, member: Member) -> Result<u16, ClusterFault>
 #[tactic(auto, unfolding(crate::specs::Shapes::list_member))]
 fn role_items<'a>(text: &'a Value) -> Result<&'a [Value], ClusterFault>
     ensures ok { IfOk result (λ items. list_member Roles shapes.pair_of (view text.entry.now)
-        ≡ Ok (filter_map shapes.pair_of (map view items.now))) }
+        ≡ Ok (filter_map (λ v. shapes.pair_of (view v)) items.now)) }
     ensures err { IfErr result (λ e. list_member Roles shapes.pair_of (view text.entry.now) ≡ Err e) }
 {
     let Some(value) = text.get(Member::Roles.name()) else {
@@ -129,7 +129,7 @@ fn role_items<'a>(text: &'a Value) -> Result<&'a [Value], ClusterFault>
 #[tactic(auto, unfolding(crate::specs::Shapes::list_member))]
 fn key_items<'a>(text: &'a Value) -> Result<&'a [Value], ClusterFault>
     ensures ok { IfOk result (λ items. list_member Keys shapes.key_of (view text.entry.now)
-        ≡ Ok (filter_map shapes.key_of (map view items.now))) }
+        ≡ Ok (filter_map (λ v. shapes.key_of (view v)) items.now)) }
     ensures err { IfErr result (λ e. list_member Keys shapes.key_of (view text.entry.now) ≡ Err e) }
 {
     let Some(value) = text.get(Member::Keys.name()) else {
@@ -148,7 +148,7 @@ fn key_items<'a>(text: &'a Value) -> Result<&'a [Value], ClusterFault>
 #[tactic(auto, unfolding(crate::specs::Shapes::list_member))]
 fn port_items<'a>(text: &'a Value) -> Result<&'a [Value], ClusterFault>
     ensures ok { IfOk result (λ items. list_member Nodes shapes.port_of (view text.entry.now)
-        ≡ Ok (filter_map shapes.port_of (map view items.now))) }
+        ≡ Ok (filter_map (λ v. shapes.port_of (view v)) items.now)) }
     ensures err { IfErr result (λ e. list_member Nodes shapes.port_of (view text.entry.now) ≡ Err e) }
 {
     let Some(value) = text.get(Member::Nodes.name()) else {
