@@ -14,9 +14,7 @@ ghost use Rattle.role_daemon.specs.Steps.{IsNodeOf, RefusesNode, Opened, Answere
 use crate::answers::answer;
 use crate::cluster::{MOST_TEXT_BYTES, Mode, read_cluster};
 use crate::fault::{ClusterFault, PipeFault};
-use client_lines::{
-    ClientAnswer, LineFault, MOST_LINE_BYTES, Request, answer_text, read_request,
-};
+use client_lines::{ClientAnswer, LineFault, MOST_LINE_BYTES, Request, answer_text, read_request};
 use link_frames::{Ahead, Next, Watched, write_whole};
 use role_node::Node;
 use std::alloc::{AllocError, Global};
@@ -65,7 +63,8 @@ fn open<R: Read>(
     ensures quiet { OnOk result (WentOn (watched_tally reader.old) (watched_tally reader.new)) }
 {
     match ahead.peek(reader, MOST_TEXT_BYTES)? {
-        Next::End | Next::TooLong => Err(PipeFault::Cluster(ClusterFault::NotJson)),
+        Next::End => Err(PipeFault::Cluster(ClusterFault::NotJson)),
+        Next::TooLong => Err(PipeFault::Cluster(ClusterFault::NotJson)),
         Next::Line(count) => {
             let node = make_node(alloc, &ahead.front()[..count])?;
             ahead.take(count + 1);
@@ -104,7 +103,7 @@ fn answer_lines<R: Read, W: Write>(
         ReaderFailed (watched_tally reader.old) (watched_tally reader.new)
         ⊎ (CallFailed (watched_tally writer.old) (watched_tally writer.new)
         ⊎ LinesEndless node.old (pending (R.remaining (watched_inner reader.old)) ahead.old)
-            (W.contents (watched_inner writer.old)) (W.contents (watched_inner writer.new)))) }
+        (W.contents (watched_inner writer.old)) (W.contents (watched_inner writer.new)))) }
 {
     let mut held = Vec::new(alloc);
     for number in 1..u64::MAX {
