@@ -1,0 +1,26 @@
+use Rattle.std.proofs.Common.{◌≡◌, ◌∙◌, ℕ, List, [], ◌∷◌, ap, ◌++◌, codes, get_or, string_bytes, take}
+use Rattle.std.specs.Fmt.{decimal}
+use Rattle.std.specs.List.{flat_map}
+use Rattle.client_lines.specs.AnswerTexts.{permission_text}
+use Rattle.client_lines.proofs.Joins.{written_more, all_joined, permission-grouped, permission-whole}
+use Rattle.client_lines.proofs.answer.permissions_text.Goals as goal
+
+pub loop-operation-preserved : goal.loop-operation-preserved
+loop-operation-preserved c =
+    let xs = c.in-Some.others.now in
+    let i = c.loop-operation.operation-index in
+    let p = get_or xs i (0, 0) in
+    let text = string_bytes c.loop-operation.text in
+    c.in_ok-write.ensures.bytes
+    ∙ ap (λ (item : List ℕ). text ++ item) (permission-grouped p)
+    ∙ ap (λ (front : List ℕ). front ++ (codes "," ++ permission_text p)) c.loop-operation.invariant
+    ∙ written_more (λ y. codes "," ++ permission_text y) _ xs i (0, 0) c.loop-operation-test.true
+
+pub returns : goal.returns
+returns c =
+    let i = c.loop-operation.operation-index in
+    let first = c.in-Some.field-0-0.now in
+    all_joined permission_text (codes ",") _ _ first _ i c.in-Some.ensures.cases.0 c.loop-operation-test.false
+    (c.loop-operation.invariant
+    ∙ ap (λ (front : List ℕ). front ++ flat_map (λ y. codes "," ++ permission_text y) (take i c.in-Some.others.now))
+    (c.in_ok-text.ensures.ok ∙ permission-whole first))

@@ -1,0 +1,74 @@
+ghost use Rattle.std.specs.Prelude.{◌≡◌};
+ghost use Rattle.client_lines.specs.Faults.{named_member};
+
+use crate::member::Member;
+use std::alloc::AllocError;
+use std::error::Error;
+use std::fmt;
+
+/// Why a line is no request. Written as its code and its name.
+#[derive(Clone, Copy, Debug, PartialEq, Eq, Hash)]
+pub enum LineFault {
+    /// The line has more than 4,096 bytes, or it is not JSON.
+    NotJson,
+    /// It is not an object.
+    NotObject,
+    /// It has no member `op` that is a string.
+    NoOp,
+    /// There is no such operation.
+    UnknownOp,
+    /// The operation has this member, and the line does not.
+    Missing(Member),
+    /// The member is not a whole number of its range.
+    OutOfRange(Member),
+    /// Memory is wanting.
+    Memory,
+}
+
+impl LineFault {
+    /// The member that it is about.
+    pub fn member(&self) -> Option<Member>
+        ensures { result ≡ named_member self.now }
+    {
+        match self {
+            LineFault::Missing(member) | LineFault::OutOfRange(member) => Some(*member),
+            LineFault::NotJson
+            | LineFault::NotObject
+            | LineFault::NoOp
+            | LineFault::UnknownOp
+            | LineFault::Memory => None,
+        }
+    }
+}
+
+impl fmt::Display for LineFault {
+    ghost use Rattle.std.specs.Prelude.{Some};
+    ghost use Rattle.client_lines.specs.Faults.{line_fault_text};
+
+    ghost output = { λ fault. Some (line_fault_text fault) };
+
+    fn fmt<W: fmt::Write>(&self, f: &mut fmt::Formatter<W>) -> fmt::Result {
+        match self {
+            LineFault::NotJson => write!(f, "J1 NotJson"),
+            LineFault::NotObject => write!(f, "J2 NotObject"),
+            LineFault::NoOp => write!(f, "J3 NoOp"),
+            LineFault::UnknownOp => write!(f, "J4 UnknownOp"),
+            LineFault::Missing(_) => write!(f, "J5 Missing"),
+            LineFault::OutOfRange(_) => write!(f, "J6 OutOfRange"),
+            LineFault::Memory => write!(f, "out of memory"),
+        }
+    }
+}
+
+impl Error for LineFault {}
+
+impl From<AllocError> for LineFault {
+    ghost use Rattle.std.specs.Prelude.{◌≡◌};
+    ghost use Rattle.client_lines.specs.declared.fault.LineFault.TheVariants.{Memory};
+
+    ghost from_gives = { λ _ fault. fault ≡ Memory };
+
+    fn from(_: AllocError) -> Self {
+        LineFault::Memory
+    }
+}

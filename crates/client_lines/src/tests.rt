@@ -1,0 +1,135 @@
+//! Lines that a client may send, and answers that it may hear.
+
+use crate::answer::{ClientAnswer, answer_text};
+use crate::fault::LineFault;
+use crate::member::Member;
+use crate::request::{Request, read_request};
+use quorum_sizes::Sizes;
+use role_commands::{Command, Items};
+use role_node::{ClientEvent, NodeFault, Question, Rule, Verdict};
+use std::alloc::Global;
+use std::test::Fail;
+
+fn read(alloc: Global, line: &[u8]) -> Result<Request, LineFault> {
+    match Sizes::new(4, 1) {
+        Ok(sizes) => read_request(alloc, &sizes, line),
+        Err(_) => Err(LineFault::NoOp),
+    }
+}
+
+#[test]
+fn requests(rt: HostRuntime) -> Result<(), Fail> {
+    let alloc = rt.alloc();
+    let revoke = Command::Revoke {
+        role: 65_535,
+        operation: 5,
+        object: 9,
+    };
+    let line = b"{\"op\":\"revoke\",\"role\":65535,\"operation\":5,\"object\":9}";
+    assert_eq!(rt; read(alloc, line)?, Request::Issue(revoke));
+    let activate = ClientEvent::Activate {
+        session: 18_446_744_073_709_551_615,
+        user: 7,
+        role: 2,
+    };
+    let line = b"{\"role\":2,\"user\":7,\"session\":18446744073709551615,\"op\":\"activate\"}";
+    assert_eq!(rt; read(alloc, line)?, Request::Client(activate));
+    let operations = Question::UserOperations { user: 7, object: 9 };
+    let line = b" {\"op\":\"user_operations\", \"user\":7, \"object\":9, \"more\":[{}]} ";
+    assert_eq!(rt; read(alloc, line)?, Request::Ask(operations));
+    assert_eq!(rt; read(alloc, b"{\"op\":\"stop\"}")?, Request::Stop);
+    Ok(())
+}
+
+#[test]
+fn refused_lines(rt: HostRuntime) {
+    let user_range = LineFault::OutOfRange(Member::User);
+    let cases: [(&[u8], LineFault); 14] = [
+        (b"", LineFault::NotJson),
+        (b"\xff", LineFault::NotJson),
+        (b"{\"op\":\"stop\"", LineFault::NotJson),
+        (b"[1]", LineFault::NotObject),
+        (b"{}", LineFault::NoOp),
+        (b"{\"op\":7}", LineFault::NoOp),
+        (b"{\"op\":\"fly\"}", LineFault::UnknownOp),
+        (
+            b"{\"op\":\"assign\",\"role\":-1}",
+            LineFault::Missing(Member::User),
+        ),
+        (b"{\"op\":\"open\",\"user\":-1}", user_range),
+        (b"{\"op\":\"open\",\"user\":\"7\"}", user_range),
+        (b"{\"op\":\"open\",\"user\":null}", user_range),
+        (b"{\"op\":\"open\",\"user\":7.0}", user_range),
+        (b"{\"op\":\"open\",\"user\":4294967296}", user_range),
+        (
+            b"{\"op\":\"reach\",\"owner\":4}",
+            LineFault::OutOfRange(Member::Owner),
+        ),
+    ];
+    for (line, fault) in cases {
+        assert_eq!(rt; read(rt.alloc(), line), Err(fault));
+    }
+}
+
+#[test]
+fn a_line_has_at_most_4096_bytes(rt: HostRuntime) -> Result<(), Fail> {
+    let mut line = b"{\"op\":\"open\",\"user\":7}".to_vec(rt.alloc())?;
+    line.resize(4096, b' ')?;
+    let open = Request::Client(ClientEvent::Open { user: 7 });
+    assert_eq!(rt; read(rt.alloc(), &line), Ok(open));
+    line.push(b' ')?;
+    assert_eq!(rt; read(rt.alloc(), &line), Err(LineFault::NotJson));
+    Ok(())
+}
+
+/// Whether a line is read whose ignored member has so many nested lists.
+fn is_read_with(rt: &HostRuntime, lists: usize) -> Result<bool, Fail> {
+    let mut line = b"{\"op\":\"stop\",\"x\":".to_vec(rt.alloc())?;
+    for _ in 0..lists {
+        line.push(b'[')?;
+    }
+    for _ in 0..lists {
+        line.push(b']')?;
+    }
+    line.push(b'}')?;
+    Ok(read(rt.alloc(), &line) == Ok(Request::Stop))
+}
+
+#[test]
+fn ignored_members_nest_100_deep(rt: HostRuntime) -> Result<(), Fail> {
+    assert!(rt; is_read_with(&rt, 100)?);
+    assert!(rt; !is_read_with(&rt, 200)?);
+    Ok(())
+}
+
+#[test]
+fn answers(rt: HostRuntime) -> Result<(), Fail> {
+    let alloc = rt.alloc();
+    let verdict = Verdict::Deny(Rule::NoActiveRole);
+    let text = answer_text(alloc, &ClientAnswer::Verdict { at: 9, verdict })?;
+    assert_eq!(rt; text.as_str(), "{\"allow\":false,\"at\":9,\"rule\":\"N3\"}");
+    let verdict = Verdict::Allow(2);
+    let text = answer_text(alloc, &ClientAnswer::Verdict { at: 10, verdict })?;
+    assert_eq!(rt; text.as_str(), "{\"allow\":true,\"at\":10,\"role\":2}");
+    let permissions = Items::new(vec![in alloc; (5, 9), (6, 0)]?);
+    let text = answer_text(
+        alloc,
+        &ClientAnswer::Permissions {
+            at: 10,
+            permissions,
+        },
+    )?;
+    assert_eq!(rt; text.as_str(), "{\"at\":10,\"permissions\":[[5,9],[6,0]]}");
+    let text = answer_text(alloc, &ClientAnswer::Issued { place: 0, reach: 1 })?;
+    assert_eq!(rt; text.as_str(), "{\"issued\":0,\"reach\":1}");
+    let fault = NodeFault::Beyond { place: 64, end: 64 };
+    let text = answer_text(alloc, &ClientAnswer::Refused(fault))?;
+    assert_eq!(rt; text.as_str(), "{\"error\":\"S1 Beyond\"}");
+    let fault = LineFault::Missing(Member::User);
+    let text = answer_text(alloc, &ClientAnswer::BadLine(fault))?;
+    assert_eq!(rt;
+        text.as_str(),
+        "{\"error\":\"J5 Missing\",\"name\":\"user\"}"
+    );
+    Ok(())
+}

@@ -1,0 +1,6 @@
+pub mod ShapeLemmas
+pub mod SetupLemmas
+pub mod AnswerLemmas
+pub mod PipeLemmas
+pub mod RunLemmas
+pub mod OpenLemmas

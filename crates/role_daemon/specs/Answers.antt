@@ -1,0 +1,128 @@
+-- What a node answers to a client's request, and what the request makes of it.
+use Rattle.std.specs.Prelude.{ℕ, zero, suc, ◌+◌, List, length, Option, Some, None, is_some, Bool, true, false, if◌then◌else◌, Result, Ok, Err}
+use Rattle.std.specs.Option.{option_map_or}
+use Rattle.link_frames.specs.Packets.{PacketValue, packet_due}
+use Rattle.link_frames.specs.declared.packet.Message.{Message}
+use Rattle.role_commands.specs.declared.command.Command.{Command}
+use Rattle.role_sessions.specs.declared.faults.SessionFault.TheVariants as session
+use Rattle.role_node.specs.Access.{reach_at, sessions_at, sent_at}
+use Rattle.role_node.specs.Listed.{answer_after}
+use Rattle.role_node.specs.Nodes.{NodeValue, due_at, after_reply, with_event}
+use Rattle.role_node.specs.Questions.{ask_due}
+use Rattle.role_node.specs.declared.event.Event.{Event}
+use Rattle.role_node.specs.declared.event.Event.TheVariants as event
+use Rattle.role_node.specs.declared.event.NodeAgain.{NodeAgain}
+use Rattle.role_node.specs.declared.event.Reply.{Reply}
+use Rattle.role_node.specs.declared.event.Reply.TheVariants as reply
+use Rattle.role_node.specs.declared.faults.NodeFault.{NodeFault}
+use Rattle.role_node.specs.declared.faults.NodeFault.TheVariants as fault
+use Rattle.role_node.specs.declared.question.Answer.{Answer}
+use Rattle.role_node.specs.declared.question.Answer.TheVariants as answer
+use Rattle.role_node.specs.declared.question.Question.{Question}
+use Rattle.client_lines.specs.declared.answer.ClientAnswer.{ClientAnswer}
+use Rattle.client_lines.specs.declared.answer.ClientAnswer.TheVariants.{Issued, Session, Done, Verdict, Users, Roles, Permissions, Operations, Reach, Again, Stopped, Refused}
+use Rattle.client_lines.specs.declared.request.Request.{Request}
+use Rattle.client_lines.specs.declared.request.Request.TheVariants as request
+
+-- the node after it gave this answer to the event
+abbrev pub after_answer : NodeValue → Event → Result Reply NodeFault → NodeValue
+after_answer node e (Ok r) = after_reply node e r
+after_answer node e (Err f) = node
+
+-- the node after the event
+unfoldable pub after_event : NodeValue → Event → NodeValue
+after_event node e = after_answer node e (due_at node e)
+
+-- ---- the node's own packets
+
+-- the message that an answer has the node send to all
+abbrev pub sent_by : Result Reply NodeFault → Option Message
+sent_by (Ok reply.Idle) = None
+sent_by (Ok (reply.Issued message)) = Some message
+sent_by (Ok (reply.Counted send delivered from to)) = send
+sent_by (Ok (reply.Session id)) = None
+sent_by (Ok reply.Done) = None
+sent_by (Err f) = None
+
+-- the packet of a message of a node to itself
+abbrev pub own_packet : NodeValue → Message → Option PacketValue
+own_packet node message = packet_due node.me node.me message
+
+-- the node after it took the packet; if it is refused it is lost
+abbrev pub after_own : NodeValue → Option PacketValue → NodeValue
+after_own node None = node
+after_own node (Some p) = after_event node (event.Take p)
+
+-- what taking it has the node send
+abbrev pub sent_own : NodeValue → Option PacketValue → Option Message
+sent_own node None = None
+sent_own node (Some p) = sent_by (due_at node (event.Take p))
+
+-- Own packets are taken until none is left, and so many at most. With one node a message is one packet, and a packet
+-- causes one message at most, so no more than one waits.
+unfoldable pub take_own : ℕ → NodeValue → Option Message → NodeValue
+take_own zero node waiting = node
+take_own (suc k) node None = node
+take_own (suc k) node (Some message) =
+    take_own k (after_own node (own_packet node message)) (sent_own node (own_packet node message))
+
+-- the node after it took its SEND, the ECHO that this causes, and the READY that that causes
+unfoldable pub settled : NodeValue → Option Message → NodeValue
+settled node waiting = take_own 3 node waiting
+
+-- The node after the event and its own packets. Only a command that is published sends one.
+unfoldable pub after_taken : NodeValue → Event → NodeValue
+after_taken node e = settled (after_event node e) (sent_by (due_at node e))
+
+-- ---- requests
+
+-- the node after the request
+unfoldable pub after_request : NodeValue → Request → NodeValue
+after_request node (request.Issue command) = after_taken node (event.Issue command)
+after_request node (request.Client act) = after_taken node (event.Client act)
+after_request node (request.Ask question) = node
+after_request node (request.Reach owner) = node
+after_request node (request.Again owner place) = node
+after_request node request.Stop = node
+
+-- a reply as a client hears it, where the node is then this one
+abbrev pub replied : NodeValue → Result Reply NodeFault → ClientAnswer
+replied node (Ok reply.Idle) = Done
+replied node (Ok (reply.Issued message)) = Issued message.place (reach_at node.config.roles.sizes node.history node.me)
+replied node (Ok (reply.Counted send delivered from to)) = Done
+replied node (Ok (reply.Session id)) = Session id
+replied node (Ok reply.Done) = Done
+replied node (Err f) = Refused f
+
+-- an answer to a question as a client hears it, after so many events
+abbrev pub listed : ℕ → Answer → ClientAnswer
+listed at (answer.Verdict verdict) = Verdict at verdict
+listed at (answer.Users users) = Users at users
+listed at (answer.Roles roles) = Roles at roles
+listed at (answer.Permissions permissions) = Permissions at permissions
+listed at (answer.Operations operations) = Operations at operations
+
+-- the answer to a question; only a session that is to be listed may not be open
+unfoldable pub asked : NodeValue → Question → ClientAnswer
+asked node question =
+    option_map_or (λ f. Refused (fault.Session session.NoSession)) (ask_due (sessions_at node.history) question)
+    (listed (length node.history) (answer_after node.config.roles node.history question))
+
+-- one for each message that there is
+abbrev pub one_if : Option Command → ℕ
+one_if message = if is_some message then 1 else 0
+
+-- how many messages were sent at the place
+abbrev pub sent_count : NodeAgain → ℕ
+sent_count again = one_if again.send + one_if again.echo + one_if again.ready
+
+-- the answer that is due to the request: by the history so far, and to a command that is published by the history after
+-- the node took its own packets
+unfoldable pub answer_to : NodeValue → Request → ClientAnswer
+answer_to node (request.Issue command) = replied (after_taken node (event.Issue command)) (due_at node (event.Issue command))
+answer_to node (request.Client act) = replied (after_taken node (event.Client act)) (due_at node (event.Client act))
+answer_to node (request.Ask question) = asked node question
+answer_to node (request.Reach owner) = Reach (reach_at node.config.roles.sizes node.history owner)
+answer_to node (request.Again owner place) =
+    Again (sent_count (sent_at node.config.roles.sizes node.me node.history owner place))
+answer_to node request.Stop = Stopped

@@ -1,0 +1,9 @@
+pub mod Shapes
+pub mod Results
+pub mod TableFaults
+pub mod Setups
+pub mod Statuses
+pub mod Answers
+pub mod Pipes
+pub mod Runs
+pub mod Steps

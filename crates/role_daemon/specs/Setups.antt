@@ -1,0 +1,83 @@
+-- The node that a cluster text sets up.
+use Rattle.std.specs.Prelude.{◌≡◌, ◌<◌, ◌⊎◌, ℕ, nat_lt, ◌==◌, not, ◌&&◌, if◌then◌else◌, List, [], ◌∷◌, length, Option, Some, None, is_some, Result, Ok, Err}
+use Rattle.serde_json.specs.Data.{Data}
+use Rattle.serde_json.specs.Find.{as_object}
+use Rattle.quorum_sizes.specs.Sizes.{Counts}
+use Rattle.quorum_sizes.specs.Refusals.{sizes_due}
+use Rattle.quorum_sizes.specs.declared.sizes.SizeFault.{SizeFault}
+use Rattle.role_commands.specs.Tables.{Table, no_roles, with_role}
+use Rattle.role_commands.specs.TableFaults.{add_due}
+use Rattle.role_commands.specs.declared.table.TableFault.{TableFault}
+use Rattle.role_node.specs.Configs.{most_events}
+use Rattle.client_lines.specs.Json.{json_of}
+use Rattle.client_lines.specs.Results.{◌>>=◌}
+use Rattle.client_lines.specs.declared.member.Member.TheVariants.{N, Me, Keys, Nodes}
+use Rattle.role_daemon.specs.Shapes.{Shape, shape_of}
+use Rattle.role_daemon.specs.declared.cluster.Mode.{Mode}
+use Rattle.role_daemon.specs.declared.cluster.Mode.TheVariants.{Pipe, Serve}
+use Rattle.role_daemon.specs.declared.cluster.Setup.{Setup}
+use Rattle.role_daemon.specs.declared.fault.ClusterFault.{ClusterFault}
+use Rattle.role_daemon.specs.declared.fault.ClusterFault.TheVariants as fault
+
+-- the most bytes of a cluster text
+abbrev pub most_text_bytes : ℕ
+most_text_bytes = 65536
+
+abbrev pub or_sizes_fault : Result Counts SizeFault → Result Counts ClusterFault
+or_sizes_fault (Ok s) = Ok s
+or_sizes_fault (Err f) = Err (fault.Sizes f)
+
+-- the node's own name is a node's, and a pipe has one node
+unfoldable pub name_of : Mode → Counts → ℕ → Result ℕ ClusterFault
+name_of Pipe s me =
+    if not (s.nodes == 1) then Err (fault.OutOfRange N) else (if nat_lt me s.nodes then Ok me else Err (fault.OutOfRange Me))
+name_of Serve s me = if nat_lt me s.nodes then Ok me else Err (fault.OutOfRange Me)
+
+abbrev pub or_table_fault : Table → Option TableFault → Result Table ClusterFault
+or_table_fault t None = Ok t
+or_table_fault t (Some f) = Err (fault.Table f)
+
+-- the table with these roles and their owners, added in their order
+unfoldable pub table_of : Table → List (ℕ × ℕ) → Result Table ClusterFault
+table_of t [] = Ok t
+table_of t (pair ∷ pairs) = do
+  more ← or_table_fault (with_role t pair.0 pair.1) (add_due t pair.0 pair.1)
+  table_of more pairs
+
+-- a server has a key and a port of each node
+unfoldable pub counted : Mode → Counts → ℕ → ℕ → Result (Unit {0}) ClusterFault
+counted Pipe s keys nodes = Ok tt
+counted Serve s keys nodes =
+    if not (keys == s.nodes) then Err (fault.OutOfRange Keys)
+    else (if not (nodes == s.nodes) then Err (fault.OutOfRange Nodes) else Ok tt)
+
+-- the setup of these members, or the first fault that holds
+unfoldable pub setup_of : Mode → Shape → Result Setup ClusterFault
+setup_of mode shape = do
+  s ← or_sizes_fault (sizes_due shape.n shape.f)
+  me ← name_of mode s shape.me
+  roles ← table_of (no_roles s) shape.roles
+  all ← counted mode s (length shape.keys) (length shape.nodes)
+  Ok (record { config = record { cluster = shape.cluster; roles = roles; limit = most_events }; me = me; keys = shape.keys; nodes = shape.nodes; client = shape.client })
+
+unfoldable pub setup_of_value : Mode → Data → Result Setup ClusterFault
+setup_of_value mode text = if is_some (as_object text) then shape_of mode text >>= setup_of mode else Err fault.NotObject
+
+abbrev pub setup_if_json : Mode → Option Data → Result Setup ClusterFault
+setup_if_json mode None = Err fault.NotJson
+setup_if_json mode (Some text) = setup_of_value mode text
+
+-- the setup that a text of these bytes says, or the first fault that holds
+unfoldable pub setup_due : Mode → List ℕ → Result Setup ClusterFault
+setup_due mode bytes = if nat_lt most_text_bytes (length bytes) then Err fault.NotJson else setup_if_json mode (json_of bytes)
+
+-- ---- steps of the code
+
+-- the roles were added, or the first fault was met, or memory was wanting
+abbrev pub Adds : Table → List (ℕ × ℕ) → Result (Unit {0}) ClusterFault → Table → Type 0
+Adds old pairs (Ok done) new = table_of old pairs ≡ Ok new
+Adds old pairs (Err f) new = (table_of old pairs ≡ Err f) ⊎ (f ≡ fault.Memory)
+
+-- the node's own name is a node's
+abbrev pub IsNodeSetup : Setup → Type 0
+IsNodeSetup setup = setup.me < setup.config.roles.sizes.nodes

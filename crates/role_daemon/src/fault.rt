@@ -1,0 +1,180 @@
+//! Why the program ends before its end.
+
+ghost use Rattle.std.specs.Prelude.{◌≡◌};
+ghost use Rattle.role_daemon.specs.Statuses.{words_status, cluster_status, pipe_status};
+
+use client_lines::Member;
+use link_frames::{AheadFault, DeviceFault};
+use quorum_sizes::SizeFault;
+use role_commands::TableFault;
+use std::alloc::AllocError;
+use thiserror::Error;
+
+/// Why the words are not taken.
+#[derive(Debug, Drop, Error)]
+pub enum WordsFault {
+    /// The program has no such words.
+    #[error("words")]
+    Refused,
+    /// There was no memory.
+    #[error("out of memory")]
+    Memory,
+}
+
+impl WordsFault {
+    /// The exit status of the program: 2 at words that are refused, 5 for want of memory.
+    pub fn status(&self) -> u8
+        ensures { result ≡ words_status self.now }
+    {
+        match self {
+            WordsFault::Refused => 2,
+            WordsFault::Memory => 5,
+        }
+    }
+}
+
+impl From<AllocError> for WordsFault {
+    ghost use Rattle.role_daemon.specs.declared.fault.WordsFault.TheVariants.{Memory};
+
+    ghost from_gives = { λ _ e. e ≡ Memory };
+
+    fn from(_e: AllocError) -> Self {
+        WordsFault::Memory
+    }
+}
+
+/// Why a text sets up no node. Written as its code and its name, and the member that it is about.
+#[derive(Debug, Drop, Error)]
+pub enum ClusterFault {
+    /// There is no text, it has more than 65,536 bytes, or it is not JSON.
+    #[error("U1 NotJson")]
+    NotJson,
+    /// It is not an object.
+    #[error("U2 NotObject")]
+    NotObject,
+    /// It does not have this member.
+    #[error("U3 Missing {0}")]
+    Missing(Member),
+    /// The member is not of its shape, or not of its range.
+    #[error("U4 OutOfRange {0}")]
+    OutOfRange(Member),
+    /// There are no such sizes.
+    #[error(transparent)]
+    Sizes(SizeFault),
+    /// A role is refused.
+    #[error(transparent)]
+    Table(TableFault),
+    /// There was no memory.
+    #[error("out of memory")]
+    Memory,
+}
+
+impl ClusterFault {
+    /// The exit status of the program: 3 at a text that is refused, 5 for want of memory.
+    pub fn status(&self) -> u8
+        ensures { result ≡ cluster_status self.now }
+    {
+        match self {
+            ClusterFault::NotJson
+            | ClusterFault::NotObject
+            | ClusterFault::Missing(_)
+            | ClusterFault::OutOfRange(_)
+            | ClusterFault::Sizes(_)
+            | ClusterFault::Table(_) => 3,
+            ClusterFault::Memory => 5,
+        }
+    }
+}
+
+impl From<AllocError> for ClusterFault {
+    ghost use Rattle.role_daemon.specs.declared.fault.ClusterFault.TheVariants.{Memory};
+
+    ghost from_gives = { λ _ e. e ≡ Memory };
+
+    fn from(_e: AllocError) -> Self {
+        ClusterFault::Memory
+    }
+}
+
+impl From<SizeFault> for ClusterFault {
+    ghost use Rattle.role_daemon.specs.declared.fault.ClusterFault.TheVariants.{Sizes};
+
+    ghost from_gives = { λ fault e. e ≡ Sizes fault };
+
+    fn from(fault: SizeFault) -> Self {
+        ClusterFault::Sizes(fault)
+    }
+}
+
+impl From<TableFault> for ClusterFault {
+    ghost use Rattle.role_daemon.specs.TableFaults.{of_table_fault};
+
+    ghost from_gives = { λ fault e. e ≡ of_table_fault fault };
+
+    fn from(fault: TableFault) -> Self {
+        match fault {
+            TableFault::Memory => ClusterFault::Memory,
+            refusal => ClusterFault::Table(refusal),
+        }
+    }
+}
+
+/// Why a pipe ended before its end.
+#[derive(Debug, Drop, Error)]
+pub enum PipeFault {
+    /// The first line sets up no node; never for want of memory.
+    #[error(transparent)]
+    Cluster(ClusterFault),
+    /// The reader or the writer failed, or there is no number for another line.
+    #[error("device")]
+    Device,
+    /// There was no memory.
+    #[error("out of memory")]
+    Memory,
+}
+
+impl PipeFault {
+    /// The exit status of the program: 3 at a text that is refused, 4 at a failed device, 5 for want of memory.
+    pub fn status(&self) -> u8
+        ensures { result ≡ pipe_status self.now }
+    {
+        match self {
+            PipeFault::Cluster(fault) => fault.status(),
+            PipeFault::Device => 4,
+            PipeFault::Memory => 5,
+        }
+    }
+}
+
+impl From<AllocError> for PipeFault {
+    ghost use Rattle.role_daemon.specs.declared.fault.PipeFault.TheVariants.{Memory};
+
+    ghost from_gives = { λ _ e. e ≡ Memory };
+
+    fn from(_e: AllocError) -> Self {
+        PipeFault::Memory
+    }
+}
+
+impl From<AheadFault> for PipeFault {
+    ghost use Rattle.role_daemon.specs.Steps.{of_ahead_fault};
+
+    ghost from_gives = { λ fault e. e ≡ of_ahead_fault fault };
+
+    fn from(fault: AheadFault) -> Self {
+        match fault {
+            AheadFault::Device => PipeFault::Device,
+            AheadFault::Memory => PipeFault::Memory,
+        }
+    }
+}
+
+impl From<DeviceFault> for PipeFault {
+    ghost use Rattle.role_daemon.specs.declared.fault.PipeFault.TheVariants.{Device};
+
+    ghost from_gives = { λ _ e. e ≡ Device };
+
+    fn from(_e: DeviceFault) -> Self {
+        PipeFault::Device
+    }
+}

@@ -1,0 +1,220 @@
+//! The pipe: one node, whose clients speak in lines.
+
+ghost use Rattle.std.specs.Prelude.{◌≡◌, ◌<◌, ◌≤◌, ◌++◌, ◌⊎◌, length, IfOk, IfErr, OnOk, OnErr, Ok};
+ghost use Rattle.link_frames.specs.Watching.{watched_inner, watched_tally};
+ghost use Rattle.link_frames.specs.Devices.{WentOn, CallFailed, ReaderFailed, AppendsFront};
+ghost use Rattle.link_frames.specs.Lines.{ended};
+ghost use Rattle.link_frames.specs.LinePrograms.{Moved};
+ghost use Rattle.link_frames.specs.Aheads.{pending};
+ghost use Rattle.client_lines.specs.AnswerTexts.{IsWritten, answer_text};
+ghost use Rattle.role_daemon.specs.Pipes.{stops, line_text, after_line};
+ghost use Rattle.role_daemon.specs.Runs.{PipeRan, IsEndless};
+ghost use Rattle.role_daemon.specs.Steps.{IsNodeOf, RefusesNode, Opened, Answered, LinesRan, LinesEndless, Finished};
+
+use crate::answers::answer;
+use crate::cluster::{MOST_TEXT_BYTES, Mode, read_cluster};
+use crate::fault::{ClusterFault, PipeFault};
+use client_lines::{ClientAnswer, LineFault, MOST_LINE_BYTES, Request, answer_text, read_request};
+use link_frames::{Ahead, Next, Watched, write_whole};
+use role_node::Node;
+use std::alloc::{AllocError, Global};
+use std::io::{Read, Write};
+
+/// How many bytes of answers are held back at most before they are written.
+const MOST_HELD_BYTES: usize = 8192;
+
+/// Sets up the node that the first line says, and answers each later line, up to the first that stops the node.
+///
+/// Each answer is written before the reader is asked for more. Memory grows with the events that the node records.
+///
+/// # Errors
+///
+/// `Cluster` where the first line sets up no node, when nothing is written. `Device` where the reader or the writer has
+/// failed, or where there is no number for another line, and `Memory`; a front of the text that is due is written then.
+pub fn run_pipe<R: Read, W: Write>(
+    alloc: Global,
+    reader: &mut Watched<R>,
+    writer: &mut Watched<W>,
+) -> Result<(), PipeFault>
+    ensures ran { PipeRan (R.remaining (watched_inner reader.old)) (R.remaining (watched_inner reader.new))
+        (W.contents (watched_inner writer.old)) (W.contents (watched_inner writer.new)) result }
+    ensures device { IfErr result (λ e. e ≡ PipeFault.Device →
+        ReaderFailed (watched_tally reader.old) (watched_tally reader.new)
+        ⊎ (CallFailed (watched_tally writer.old) (watched_tally writer.new)
+        ⊎ IsEndless (R.remaining (watched_inner reader.old)) (W.contents (watched_inner writer.old)) (W.contents (watched_inner writer.new)))) }
+{
+    let mut ahead = Ahead::new(alloc);
+    let Some(mut node) = open(alloc, &mut ahead, reader)? else {
+        return Ok(());
+    };
+    answer_lines(alloc, &mut node, &mut ahead, reader, writer)
+}
+
+/// Reads the first line, and sets up its node; `None` where no other line comes behind it.
+fn open<R: Read>(
+    alloc: Global,
+    ahead: &mut Ahead,
+    reader: &mut Watched<R>,
+) -> Result<Option<Node>, PipeFault>
+    ensures opened { Opened (pending (R.remaining (watched_inner reader.old)) ahead.old)
+        (pending (R.remaining (watched_inner reader.new)) ahead.new) (R.remaining (watched_inner reader.new)) result }
+    ensures device { IfErr result (λ e. e ≡ PipeFault.Device →
+        ReaderFailed (watched_tally reader.old) (watched_tally reader.new)) }
+    ensures quiet { OnOk result (WentOn (watched_tally reader.old) (watched_tally reader.new)) }
+{
+    match ahead.peek(reader, MOST_TEXT_BYTES)? {
+        Next::End => Err(PipeFault::Cluster(ClusterFault::NotJson)),
+        Next::TooLong => Err(PipeFault::Cluster(ClusterFault::NotJson)),
+        Next::Line(count) => {
+            let node = make_node(alloc, &ahead.front()[..count])?;
+            ahead.take(count + 1);
+            Ok(Some(node))
+        }
+        Next::Last(_) => {
+            let _node = make_node(alloc, ahead.front())?;
+            Ok(None)
+        }
+    }
+}
+
+/// The node that a cluster text sets up.
+fn make_node(alloc: Global, text: &[u8]) -> Result<Node, PipeFault>
+    ensures ok { IfOk result (IsNodeOf text.now) }
+    ensures err { IfErr result (RefusesNode text.now) }
+{
+    match read_cluster(alloc, text, Mode::Pipe) {
+        Ok(setup) => Ok(Node::new(alloc, setup.config, setup.me)?),
+        Err(ClusterFault::Memory) => Err(PipeFault::Memory),
+        Err(fault) => Err(PipeFault::Cluster(fault)),
+    }
+}
+
+/// Answers client lines, up to the first that stops the node.
+fn answer_lines<R: Read, W: Write>(
+    alloc: Global,
+    node: &mut Node,
+    ahead: &mut Ahead,
+    reader: &mut Watched<R>,
+    writer: &mut Watched<W>,
+) -> Result<(), PipeFault>
+    ensures ran { LinesRan node.old (pending (R.remaining (watched_inner reader.old)) ahead.old) (R.remaining (watched_inner reader.new))
+        (W.contents (watched_inner writer.old)) (W.contents (watched_inner writer.new)) result }
+    ensures device { IfErr result (λ e. e ≡ PipeFault.Device →
+        ReaderFailed (watched_tally reader.old) (watched_tally reader.new)
+        ⊎ (CallFailed (watched_tally writer.old) (watched_tally writer.new)
+        ⊎ LinesEndless node.old (pending (R.remaining (watched_inner reader.old)) ahead.old)
+        (W.contents (watched_inner writer.old)) (W.contents (watched_inner writer.new)))) }
+{
+    let mut held = Vec::new(alloc);
+    for number in 1..u64::MAX {
+        write_when_due(ahead, &mut held, writer)?;
+        if !answer_next(alloc, node, ahead, &mut held, reader)? {
+            return finish(writer, &held, Ok(()));
+        }
+    }
+    finish(writer, &held, Err(PipeFault::Device))
+}
+
+/// Answers what comes next. Whether another line may come behind it.
+fn answer_next<R: Read>(
+    alloc: Global,
+    node: &mut Node,
+    ahead: &mut Ahead,
+    held: &mut Vec<u8>,
+    reader: &mut Watched<R>,
+) -> Result<bool, PipeFault>
+    ensures answered { IfOk result (Answered (pending (R.remaining (watched_inner reader.old)) ahead.old)
+        (pending (R.remaining (watched_inner reader.new)) ahead.new) (R.remaining (watched_inner reader.new))
+        node.old node.new held.old.items held.new.items) }
+    ensures device { IfErr result (λ e. e ≡ PipeFault.Device →
+        ReaderFailed (watched_tally reader.old) (watched_tally reader.new)) }
+    ensures kind { IfErr result (λ e. (e ≡ PipeFault.Device) ⊎ (e ≡ PipeFault.Memory)) }
+    ensures quiet { OnOk result (WentOn (watched_tally reader.old) (watched_tally reader.new)) }
+{
+    match ahead.peek(reader, MOST_LINE_BYTES)? {
+        Next::End => Ok(false),
+        Next::Line(count) => {
+            let stopped = answer_line(alloc, node, held, &ahead.front()[..count])?;
+            ahead.take(count + 1);
+            Ok(!stopped)
+        }
+        Next::Last(_) => {
+            let _stopped = answer_line(alloc, node, held, ahead.front())?;
+            Ok(false)
+        }
+        Next::TooLong => {
+            let had_end = ahead.pass_line(reader)?;
+            hold(alloc, held, &ClientAnswer::BadLine(LineFault::NotJson))?;
+            Ok(had_end)
+        }
+    }
+}
+
+/// Answers a line, and holds the answer behind the others. Whether the line stops the node.
+#[tactic(auto, unfolding(crate::specs::Pipes::stops, crate::specs::Pipes::line_text, crate::specs::Pipes::after_line))]
+fn answer_line(
+    alloc: Global,
+    node: &mut Node,
+    held: &mut Vec<u8>,
+    line: &[u8],
+) -> Result<bool, AllocError>
+    ensures stops { IfOk result (λ stopped. stopped ≡ stops node.old line.now) }
+    ensures text { OnOk result (held.new.items ≡ held.old.items ++ ended (line_text node.old line.now)) }
+    ensures after { OnOk result (node.new ≡ after_line node.old line.now) }
+{
+    let sizes = node.config().roles().sizes();
+    match read_request(alloc, &sizes, line) {
+        Ok(request) => {
+            let answer = answer(node, request)?;
+            hold(alloc, held, &answer)?;
+            Ok(matches!(request, Request::Stop))
+        }
+        Err(LineFault::Memory) => Err(AllocError),
+        Err(fault) => {
+            hold(alloc, held, &ClientAnswer::BadLine(fault))?;
+            Ok(false)
+        }
+    }
+}
+
+/// Holds the text of an answer behind the others.
+fn hold(alloc: Global, held: &mut Vec<u8>, answer: &ClientAnswer) -> Result<(), AllocError>
+    requires { IsWritten answer.now }
+    ensures { OnOk result (held.new.items ≡ held.old.items ++ ended (answer_text answer.now)) }
+{
+    let text = answer_text(alloc, answer)?;
+    held.extend_from_slice(text.as_bytes())?;
+    held.push(b'\n')?;
+    Ok(())
+}
+
+/// Writes what is held if it is much, or if more bytes have to be read for the next line.
+fn write_when_due<W: Write>(
+    ahead: &Ahead,
+    held: &mut Vec<u8>,
+    writer: &mut Watched<W>,
+) -> Result<(), PipeFault>
+    ensures ok { OnOk result (Moved (W.contents (watched_inner writer.old)) (W.contents (watched_inner writer.new)) held.old.items held.new.items) }
+    ensures err { OnErr result (AppendsFront (W.contents (watched_inner writer.old)) (W.contents (watched_inner writer.new)) held.old.items) }
+    ensures quiet { OnOk result (WentOn (watched_tally writer.old) (watched_tally writer.new)) }
+    ensures device { IfErr result (λ e. (e ≡ PipeFault.Device) × CallFailed (watched_tally writer.old) (watched_tally writer.new)) }
+{
+    if held.len() >= MOST_HELD_BYTES || ahead.begins(MOST_LINE_BYTES).is_none() {
+        write_whole(writer, held)?;
+        held.clear();
+    }
+    Ok(())
+}
+
+/// Writes this text, and then ends so.
+fn finish<W: Write>(
+    writer: &mut Watched<W>,
+    text: &[u8],
+    ending: Result<(), PipeFault>,
+) -> Result<(), PipeFault>
+    ensures { Finished (W.contents (watched_inner writer.old)) (W.contents (watched_inner writer.new)) text.now ending result
+        (CallFailed (watched_tally writer.old) (watched_tally writer.new)) }
+{
+    write_whole(writer, text)?;
+    ending
+}

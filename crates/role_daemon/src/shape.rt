@@ -1,0 +1,233 @@
+//! The members of a cluster text, before they are held against each other. Nothing here takes memory.
+
+ghost use Rattle.std.specs.Prelude.{◌≡◌, ◌≤◌, ◌^◌, ◌-◌, map, option_map, is_some, IfSome, IfOk, IfErr, Ok, Err};
+ghost use Rattle.std.specs.List.{list_all, filter_map};
+ghost use Rattle.serde_json.specs.View.{view};
+ghost use Rattle.client_lines.specs.declared.member.Member.TheVariants.{Roles, Keys, Nodes};
+ghost use Rattle.role_daemon.specs.Shapes as shapes;
+ghost use Rattle.role_daemon.specs.Shapes.{list_member};
+
+use crate::cluster::Mode;
+use crate::fault::ClusterFault;
+use client_lines::{Member, MemberFault, member_number};
+use hex::FromHex;
+use serde_json::Value;
+
+/// What a cluster text says of a server's links; in a pipe there is none of it.
+#[derive(Drop)]
+pub struct Links<'a> {
+    /// The key that the node shares with each node, as 64 hexadecimal digits.
+    pub keys: &'a [Value],
+    /// The ports of the nodes.
+    pub nodes: &'a [Value],
+    /// The port for clients.
+    pub client: u16,
+}
+
+/// What a cluster text says. Each member has its own shape.
+#[derive(Drop)]
+pub struct Shape<'a> {
+    pub cluster: u32,
+    pub n: u8,
+    pub f: u8,
+    pub me: u8,
+    /// Pairs of a role and its owner.
+    pub roles: &'a [Value],
+    pub links: Links<'a>,
+}
+
+/// The members of the text, in the order in which they are looked at.
+#[tactic(auto, unfolding(crate::specs::Shapes::shape_of))]
+pub fn shape_of<'a>(mode: Mode, text: &'a Value) -> Result<Shape<'a>, ClusterFault>
+    ensures ok { IfOk result (λ shape. shapes.shape_of mode (view text.entry.now) ≡ Ok (shapes.shape_view shape)) }
+    ensures err { IfErr result (λ e. shapes.shape_of mode (view text.entry.now) ≡ Err e) }
+{
+    let cluster = number(text, Member::Cluster, u64::from(u32::MAX))?;
+    let n = number(text, Member::N, u64::from(u8::MAX))?;
+    let f = number(text, Member::F, u64::from(u8::MAX))?;
+    let me = number(text, Member::Me, u64::from(u8::MAX))?;
+    let roles = role_items(text)?;
+    let links = links_of(mode, text)?;
+    Ok(Shape {
+        cluster: cluster as u32,
+        n: n as u8,
+        f: f as u8,
+        me: me as u8,
+        roles,
+        links,
+    })
+}
+
+#[tactic(auto, unfolding(crate::specs::Shapes::links_of))]
+fn links_of<'a>(mode: Mode, text: &'a Value) -> Result<Links<'a>, ClusterFault>
+    ensures ok { IfOk result (λ links. shapes.links_of mode (view text.entry.now) ≡ Ok (shapes.links_view links)) }
+    ensures err { IfErr result (λ e. shapes.links_of mode (view text.entry.now) ≡ Err e) }
+{
+    match mode {
+        Mode::Pipe => Ok(Links {
+            keys: &[],
+            nodes: &[],
+            client: 0,
+        }),
+        Mode::Serve => {
+            let keys = key_items(text)?;
+            let nodes = port_items(text)?;
+            let client = port_member(text, Member::Client)?;
+            Ok(Links {
+                keys,
+                nodes,
+                client,
+            })
+        }
+    }
+}
+
+#[tactic(auto, unfolding(crate::specs::Shapes::number_of))]
+fn number(text: &Value, member: Member, most: u64) -> Result<u64, ClusterFault>
+    ensures value { result ≡ shapes.number_of member most (view text.now) }
+    ensures within { IfOk result (λ n. n ≤ most) }
+{
+    match member_number(text, member, most) {
+        Ok(number) => Ok(number),
+        Err(MemberFault::Missing) => Err(ClusterFault::Missing(member)),
+        Err(MemberFault::OutOfRange) => Err(ClusterFault::OutOfRange(member)),
+    }
+}
+
+#[tactic(auto, unfolding(crate::specs::Shapes::port_member))]
+fn port_member(text: &Value, member: Member) -> Result<u16, ClusterFault>
+    ensures { result ≡ shapes.port_member member (view text.now) }
+{
+    let Some(value) = text.get(member.name()) else {
+        return Err(ClusterFault::Missing(member));
+    };
+    match port_of(value) {
+        Some(port) => Ok(port),
+        None => Err(ClusterFault::OutOfRange(member)),
+    }
+}
+
+#[tactic(auto, unfolding(crate::specs::Shapes::list_member))]
+fn role_items<'a>(text: &'a Value) -> Result<&'a [Value], ClusterFault>
+    ensures ok { IfOk result (λ items. list_member Roles shapes.pair_of (view text.entry.now)
+        ≡ Ok (filter_map (λ v. shapes.pair_of (view v)) items.now)) }
+    ensures err { IfErr result (λ e. list_member Roles shapes.pair_of (view text.entry.now) ≡ Err e) }
+{
+    let Some(value) = text.get(Member::Roles.name()) else {
+        return Err(ClusterFault::Missing(Member::Roles));
+    };
+    let Some(items) = list_of(value) else {
+        return Err(ClusterFault::OutOfRange(Member::Roles));
+    };
+    if are_pairs(items) {
+        Ok(items)
+    } else {
+        Err(ClusterFault::OutOfRange(Member::Roles))
+    }
+}
+
+#[tactic(auto, unfolding(crate::specs::Shapes::list_member))]
+fn key_items<'a>(text: &'a Value) -> Result<&'a [Value], ClusterFault>
+    ensures ok { IfOk result (λ items. list_member Keys shapes.key_of (view text.entry.now)
+        ≡ Ok (filter_map (λ v. shapes.key_of (view v)) items.now)) }
+    ensures err { IfErr result (λ e. list_member Keys shapes.key_of (view text.entry.now) ≡ Err e) }
+{
+    let Some(value) = text.get(Member::Keys.name()) else {
+        return Err(ClusterFault::Missing(Member::Keys));
+    };
+    let Some(items) = list_of(value) else {
+        return Err(ClusterFault::OutOfRange(Member::Keys));
+    };
+    if are_keys(items) {
+        Ok(items)
+    } else {
+        Err(ClusterFault::OutOfRange(Member::Keys))
+    }
+}
+
+#[tactic(auto, unfolding(crate::specs::Shapes::list_member))]
+fn port_items<'a>(text: &'a Value) -> Result<&'a [Value], ClusterFault>
+    ensures ok { IfOk result (λ items. list_member Nodes shapes.port_of (view text.entry.now)
+        ≡ Ok (filter_map (λ v. shapes.port_of (view v)) items.now)) }
+    ensures err { IfErr result (λ e. list_member Nodes shapes.port_of (view text.entry.now) ≡ Err e) }
+{
+    let Some(value) = text.get(Member::Nodes.name()) else {
+        return Err(ClusterFault::Missing(Member::Nodes));
+    };
+    let Some(items) = list_of(value) else {
+        return Err(ClusterFault::OutOfRange(Member::Nodes));
+    };
+    if are_ports(items) {
+        Ok(items)
+    } else {
+        Err(ClusterFault::OutOfRange(Member::Nodes))
+    }
+}
+
+fn are_pairs(items: &[Value]) -> bool
+    ensures { result ≡ list_all (λ v. is_some (shapes.pair_of (view v))) items.now }
+{
+    items.iter().all(|item| pair_of(item).is_some())
+}
+
+fn are_keys(items: &[Value]) -> bool
+    ensures { result ≡ list_all (λ v. is_some (shapes.key_of (view v))) items.now }
+{
+    items.iter().all(|item| key_of(item).is_some())
+}
+
+fn are_ports(items: &[Value]) -> bool
+    ensures { result ≡ list_all (λ v. is_some (shapes.port_of (view v))) items.now }
+{
+    items.iter().all(|item| port_of(item).is_some())
+}
+
+/// A role and its owner.
+#[tactic(auto, unfolding(crate::specs::Shapes::pair_of))]
+pub fn pair_of(value: &Value) -> Option<(u16, u8)>
+    ensures { result ≡ shapes.pair_of (view value.now) }
+{
+    match list_of(value)? {
+        [role, owner] => {
+            let role = number_most(role, u64::from(u16::MAX))?;
+            let owner = number_most(owner, u64::from(u8::MAX))?;
+            Some((role as u16, owner as u8))
+        }
+        _ => None,
+    }
+}
+
+/// A key, as 64 hexadecimal digits.
+#[tactic(auto, unfolding(crate::specs::Shapes::key_of))]
+pub fn key_of(value: &Value) -> Option<[u8; 32]>
+    ensures { result ≡ shapes.key_of (view value.now) }
+{
+    <[u8; 32] as FromHex>::from_hex(value.as_str()?).ok()
+}
+
+/// A port, from 1.
+#[tactic(auto, unfolding(crate::specs::Shapes::port_of))]
+pub fn port_of(value: &Value) -> Option<u16>
+    ensures { result ≡ shapes.port_of (view value.now) }
+{
+    let port = number_most(value, u64::from(u16::MAX))?;
+    if port >= 1 { Some(port as u16) } else { None }
+}
+
+fn number_most(value: &Value, most: u64) -> Option<u64>
+    ensures value { result ≡ shapes.number_most most (view value.now) }
+    ensures within { IfSome result (λ n. n ≤ most) }
+{
+    let number = value.as_u64()?;
+    if number <= most { Some(number) } else { None }
+}
+
+/// The items of a list.
+fn list_of(value: &Value) -> Option<&[Value]>
+    ensures { option_map (λ items. map view items.now) result ≡ shapes.list_of (view value.now) }
+{
+    match value.as_array() {
+        Some(items) => Some(items.as_slice()),
+        None => None,
+    }
+}

@@ -1,0 +1,196 @@
+//! Cluster texts, words, and pipes that end in every way.
+
+use crate::cluster::{Mode, read_cluster};
+use crate::fault::{ClusterFault, PipeFault, WordsFault};
+use crate::pipe::run_pipe;
+use crate::words::{Words, read_words};
+use link_frames::Watched;
+use std::alloc::Global;
+use std::io;
+use std::io::{ErrorKind, Read, Write};
+use std::test::Fail;
+
+/// The fault of a cluster text, as it is written; empty where it has none.
+fn fault_of(alloc: Global, text: &[u8], mode: Mode) -> Result<String, Fail> {
+    match read_cluster(alloc, text, mode) {
+        Ok(_) => Ok(String::new(alloc)),
+        Err(fault) => Ok(format!(in alloc; "{fault}")?),
+    }
+}
+
+#[test]
+fn cluster_texts(rt: HostRuntime) -> Result<(), Fail> {
+    let cases: [(&[u8], &str); 10] = [
+        (b"", "U1 NotJson"),
+        (b"[]", "U2 NotObject"),
+        (b"{\"cluster\":1,\"f\":1,\"n\":1}", "U3 Missing me"),
+        (
+            b"{\"cluster\":1,\"f\":0,\"me\":0,\"n\":1}",
+            "U3 Missing roles",
+        ),
+        (
+            b"{\"cluster\":1,\"f\":1,\"me\":0,\"n\":1,\"roles\":[]}",
+            "Q3 TooManyLiars",
+        ),
+        (
+            b"{\"cluster\":1,\"f\":0,\"me\":0,\"n\":2,\"roles\":[]}",
+            "U4 OutOfRange n",
+        ),
+        (
+            b"{\"cluster\":1,\"f\":0,\"me\":1,\"n\":1,\"roles\":[]}",
+            "U4 OutOfRange me",
+        ),
+        (
+            b"{\"cluster\":1,\"f\":0,\"me\":0,\"n\":1,\"roles\":[[2,1]]}",
+            "C1 NoSuchNode",
+        ),
+        (
+            b"{\"cluster\":1,\"f\":0,\"me\":0,\"n\":1,\"roles\":[[2,0],[2,0]]}",
+            "C2 Repeated",
+        ),
+        (
+            b"{\"cluster\":1,\"f\":0,\"me\":0,\"n\":1,\"roles\":[[2,0]]}",
+            "",
+        ),
+    ];
+    for (text, fault) in cases {
+        assert_eq!(rt; fault_of(rt.alloc(), text, Mode::Pipe)?.as_str(), fault);
+    }
+    let text = b"{\"cluster\":1,\"f\":0,\"me\":0,\"n\":1,\"roles\":[[2,0]]}";
+    assert_eq!(rt;
+        fault_of(rt.alloc(), text, Mode::Serve)?.as_str(),
+        "U3 Missing keys"
+    );
+    Ok(())
+}
+
+#[test]
+fn a_server_has_keys_and_ports(rt: HostRuntime) -> Result<(), Fail> {
+    let text =
+        b"{\"client\":9,\"cluster\":1,\"f\":0,\"keys\":[\"000102030405060708090a0b0c0d0e0f101112131415161718191A1B1C1D1E1F\"],\"me\":0,\"n\":1,\"nodes\":[65535],\"roles\":[[2,0]]}";
+    let setup = read_cluster(rt.alloc(), text, Mode::Serve)?;
+    assert_eq!(rt; setup.nodes.as_slice(), [65_535].as_slice());
+    assert_eq!(rt; setup.client, 9);
+    match setup.keys.as_slice() {
+        [key] => assert_eq!(rt; key[31], 31),
+        _ => assert!(rt; false),
+    }
+    let text =
+        b"{\"client\":9,\"cluster\":1,\"f\":0,\"keys\":[],\"me\":0,\"n\":1,\"nodes\":[1],\"roles\":[]}";
+    assert_eq!(rt;
+        fault_of(rt.alloc(), text, Mode::Serve)?.as_str(),
+        "U4 OutOfRange keys"
+    );
+    let text =
+        b"{\"client\":9,\"cluster\":1,\"f\":0,\"keys\":[],\"me\":0,\"n\":1,\"nodes\":[0],\"roles\":[]}";
+    assert_eq!(rt;
+        fault_of(rt.alloc(), text, Mode::Serve)?.as_str(),
+        "U4 OutOfRange nodes"
+    );
+    Ok(())
+}
+
+/// The words of a text.
+fn words_of(alloc: Global, words: &[&str]) -> Result<Result<Words, WordsFault>, Fail> {
+    let mut all = Vec::new(alloc);
+    for word in words {
+        all.push(String::from_str(alloc, word)?)?;
+    }
+    Ok(read_words(alloc, all))
+}
+
+#[test]
+fn words(rt: HostRuntime) -> Result<(), Fail> {
+    let alloc = rt.alloc();
+    assert!(rt; matches!(words_of(alloc, &[])?, Ok(Words::Pipe)));
+    for words in [["x"].as_slice(), &["--help"], &["serve", "--cluster", "a"]] {
+        match words_of(alloc, words)? {
+            Ok(_) => assert!(rt; false),
+            Err(fault) => assert_eq!(rt; fault.status(), 2),
+        }
+    }
+    Ok(())
+}
+
+/// A reader that fails where its bytes end.
+#[derive(Drop)]
+struct Failing<'a> {
+    rest: &'a [u8],
+}
+
+impl Read for Failing<'_> {
+    ghost use Rattle.std.specs.Prelude.{Some};
+
+    ghost remaining = { λ s. Some s.rest.now };
+
+    fn read(&mut self, buf: &mut [u8]) -> io::Result<usize> {
+        if self.rest.is_empty() {
+            return Err(io::Error::from(ErrorKind::TimedOut));
+        }
+        self.rest.read(buf)
+    }
+}
+
+const OPENING: &str = "{\"cluster\":1,\"f\":0,\"me\":0,\"n\":1,\"roles\":[[2,0]]}\n";
+
+#[test]
+fn refusals(rt: HostRuntime) -> Result<(), Fail> {
+    let lines =
+        "nope\n[1]\n{}\n{\"op\":\"fly\"}\n{\"op\":\"open\"}\n{\"op\":\"open\",\"user\":4294967296}\n{\"op\":\"open\",\"user\":4294967295,\"x\":null}\n{\"op\":\"reach\",\"owner\":1}\n{\"op\":\"again\",\"owner\":0,\"place\":0}\n{\"op\":\"grant\",\"object\":9,\"operation\":5,\"role\":3}\n{\"op\":\"stop\"}\nnope\n";
+    let due =
+        "{\"error\":\"J1 NotJson\"}\n{\"error\":\"J2 NotObject\"}\n{\"error\":\"J3 NoOp\"}\n{\"error\":\"J4 UnknownOp\"}\n{\"error\":\"J5 Missing\",\"name\":\"user\"}\n{\"error\":\"J6 OutOfRange\",\"name\":\"user\"}\n{\"session\":1}\n{\"error\":\"J6 OutOfRange\",\"name\":\"owner\"}\n{\"again\":0}\n{\"error\":\"F1 NotMine\"}\n{\"stopped\":true}\n";
+    let input = format!(in rt.alloc(); "{OPENING}{lines}")?;
+    let mut held = Vec::new(rt.alloc());
+    let mut writer = Watched::new(&mut held);
+    let mut reader = Watched::new(input.as_bytes());
+    run_pipe(rt.alloc(), &mut reader, &mut writer)?;
+    assert_eq!(rt; held.as_slice(), due.as_bytes());
+    Ok(())
+}
+
+#[test]
+fn an_answer_is_written_before_the_next_line_is_waited_for(rt: HostRuntime) -> Result<(), Fail> {
+    let line = "{\"op\":\"assign\",\"role\":2,\"user\":7}\n{\"op\":";
+    let input = format!(in rt.alloc(); "{OPENING}{line}")?;
+    let mut held = Vec::new(rt.alloc());
+    let mut writer = Watched::new(&mut held);
+    let mut reader = Watched::new(Failing {
+        rest: input.as_bytes(),
+    });
+    let ended = run_pipe(rt.alloc(), &mut reader, &mut writer);
+    assert!(rt; matches!(ended, Err(PipeFault::Device)));
+    assert_eq!(rt; held.as_slice(), "{\"issued\":0,\"reach\":1}\n".as_bytes());
+    Ok(())
+}
+
+#[test]
+fn a_long_line_is_passed_over(rt: HostRuntime) -> Result<(), Fail> {
+    let mut input = String::from_str(rt.alloc(), OPENING)?;
+    for _ in 0..20_000u32 {
+        input.push('a')?;
+    }
+    input.push_str("\n{\"op\":\"stop\"}")?;
+    let mut held = Vec::new(rt.alloc());
+    let mut writer = Watched::new(&mut held);
+    let mut reader = Watched::new(input.as_bytes());
+    run_pipe(rt.alloc(), &mut reader, &mut writer)?;
+    let due = "{\"error\":\"J1 NotJson\"}\n{\"stopped\":true}\n";
+    assert_eq!(rt; held.as_slice(), due.as_bytes());
+    Ok(())
+}
+
+#[test]
+fn an_absent_line_sets_up_no_node(rt: HostRuntime) -> Result<(), Fail> {
+    let mut held = Vec::new(rt.alloc());
+    let mut writer = Watched::new(&mut held);
+    let mut reader = Watched::new([].as_slice());
+    match run_pipe(rt.alloc(), &mut reader, &mut writer) {
+        Err(fault) => {
+            assert!(rt; matches!(&fault, PipeFault::Cluster(ClusterFault::NotJson)));
+            assert_eq!(rt; fault.status(), 3);
+        }
+        Ok(()) => assert!(rt; false),
+    }
+    assert!(rt; held.is_empty());
+    Ok(())
+}
