@@ -12,11 +12,13 @@ written_more f begun xs i d h =
     flat_map_more f begun (take i xs) (get_or xs i d) ∙ ap (λ ys. begun ++ flat_map f ys) (sym (take_more xs i d h))
 
 -- all items are written
-pub all_joined : {X : Type 0} (f : X → List ℕ) (between text : List ℕ) (whole : List X) (first : X) (others : List X) (i : ℕ)
+pub all_joined : {X : Type 0} (f : X
+    → List ℕ) (between text : List ℕ) (whole : List X) (first : X) (others : List X) (i : ℕ)
     → whole ≡ first ∷ others → length others ≤ i
     → text ≡ f first ++ flat_map (λ y. between ++ f y) (take i others) → text ≡ join_by f between whole
 all_joined f between text whole first others i parts h written =
-    written ∙ ap (λ ys. f first ++ flat_map (λ y. between ++ f y) ys) (take_all i others h) ∙ ap (join_by f between) (sym parts)
+    written ∙ ap (λ ys. f first ++ flat_map (λ y. between ++ f y) ys) (take_all i others h)
+    ∙ ap (join_by f between) (sym parts)
 
 -- a permission as it is written piece by piece, behind a comma
 pub permission-grouped : (p : ℕ × ℕ)

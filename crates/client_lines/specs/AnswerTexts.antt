@@ -45,7 +45,8 @@ permissions_text = join_by permission_text (codes ",")
 -- a fault, and the member that it names
 abbrev pub error_text : List ℕ → Option Member → List ℕ
 error_text fault None = codes "{\"error\":\"" ++ fault ++ codes "\"}"
-error_text fault (Some member) = codes "{\"error\":\"" ++ fault ++ codes "\",\"name\":\"" ++ member_name member ++ codes "\"}"
+error_text fault (Some member) =
+    codes "{\"error\":\"" ++ fault ++ codes "\",\"name\":\"" ++ member_name member ++ codes "\"}"
 
 abbrev pub answer_text : ClientAnswer → List ℕ
 answer_text (Issued place reach) = issued_text place reach

@@ -48,7 +48,8 @@ unfolding asked
 asked-answer node q a due is within =
     let one = one_answer node.config.roles node.history q a is within in
     ap (listed (length node.history)) one
-    ∙ sym (ap (λ o. option_map_or (λ f. Refused (fault.Session session.NoSession)) o (listed (length node.history) (answer_after node.config.roles node.history q))) due)
+    ∙ sym (ap (λ o. option_map_or (λ f. Refused (fault.Session session.NoSession)) o (listed (length node.history)
+    (answer_after node.config.roles node.history q))) due)
 
 recorded_with_room : (full : Bool) (o : Result Effect NodeFault) (r : Reply)
     → is_recorded (answered (unless_full full o) r) ≡ true → full ≡ false
@@ -66,7 +67,8 @@ legal_is_short node legal most = by_length (length node.history) refl
     by_length zero e = omega arith
     by_length (suc k) e = by_event (slice_get_cases node.history k).1
       where
-        by_event : ((event : Event) × (k < length node.history) × (slice_get node.history k ≡ Some event) × (get_or node.history k event ≡ event))
+        by_event : ((event : Event) × (k < length node.history) × (slice_get node.history k ≡ Some event)
+            × (get_or node.history k event ≡ event))
             ⊎ ((length node.history ≤ k) × (slice_get node.history k ≡ None))
             → length node.history ≤ most_events
         by_event (inr past) = let p = past.0 in omega arith

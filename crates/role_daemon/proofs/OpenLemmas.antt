@@ -37,7 +37,8 @@ setup_due-long line long =
 module _ (p q reader known : Option (List ℕ)) (front : List ℕ) (kept : Keeps p (prepend_known front known)) where
   -- the first line of bytes ahead
   first_of : (n : ℕ) → EndsAt front n
-      → (rest : List ℕ) × HasBytes p (front ++ rest) × (lines_of (front ++ rest) ≡ take n front ∷ lines_of (drop (n + 1) front ++ rest))
+      → (rest : List ℕ) × HasBytes p (front ++ rest)
+      × (lines_of (front ++ rest) ≡ take n front ∷ lines_of (drop (n + 1) front ++ rest))
   first_of n (none, within, is) =
       let (rest, has) = tail_of known front in
       let line = take n front in
@@ -55,10 +56,12 @@ module _ (p q reader known : Option (List ℕ)) (front : List ℕ) (kept : Keeps
       let behind = drop (n + 1) front in
       let joined : front ≡ ended line ++ behind = is ∙ sym (append_assoc line (line_end ∷ []) behind) in
       let took = Consumes-trans p (prepend_known front known) _ [] (ended line)
-      (Consumes-kept p p (prepend_known front known) [] (Consumes-nil p) kept) (Consumes-front known front (ended line) behind joined) in
+      (Consumes-kept p p (prepend_known front known) [] (Consumes-nil p) kept) (Consumes-front known front
+      (ended line) behind joined) in
       (line, none, subst (λ (l : List ℕ). Consumes p (prepend_known l known) (ended line)) (sym left_is) took, made)
 
-  pub opened-refused_line : (n : ℕ) (e : PipeFault) → EndsAt front n → RefusesNode (take n front) e → Opened p q reader (Err e)
+  pub opened-refused_line : (n : ℕ) (e : PipeFault) → EndsAt front n → RefusesNode (take n front) e
+      → Opened p q reader (Err e)
   opened-refused_line n (Cluster fault) at refused =
       let (rest, has, lines) = first_of n at in (front ++ rest, has, inr (take n front, _, lines, refused))
   opened-refused_line n Device at refused = tt
@@ -74,7 +77,8 @@ module _ (p q reader known : Option (List ℕ)) (front : List ℕ) (kept : Keeps
     (setup, due),
   )
 
-  pub opened-refused_last : (limit n : ℕ) (e : PipeFault) → Begins limit front (Last n) → IsAtEnd known → RefusesNode front e
+  pub opened-refused_last : (limit n : ℕ) (e : PipeFault) → Begins limit front (Last n) → IsAtEnd known
+      → RefusesNode front e
       → Opened p q reader (Err e)
   opened-refused_last limit n (Cluster fault) (none, all, some, short) end refused = (
     front,
@@ -102,10 +106,17 @@ module _ (p q reader known : Option (List ℕ)) (front : List ℕ) (kept : Keeps
       ap (λ l. l ++ rest) (sym (take-append-drop (most_text_bytes + 1) front)) ∙ append_assoc cut behind rest in (
         front ++ rest,
         HasBytes-kept p _ _ kept has,
-        inr (begun.line, begun.lines, ap lines_of joined ∙ begun.is, setup_due-long begun.line (omega (arith, begun.long, whole))),
+        inr (
+          begun.line,
+          begun.lines,
+          ap lines_of joined
+              ∙ begun.is,
+          setup_due-long begun.line (omega (arith, begun.long, whole)),
+        ),
       )
 
-pub opened-fault : (p q reader : Option (List ℕ)) (f : AheadFault) (e : PipeFault) → e ≡ of_ahead_fault f → Opened p q reader (Err e)
+pub opened-fault : (p q reader : Option (List ℕ)) (f : AheadFault) (e : PipeFault) → e ≡ of_ahead_fault f
+    → Opened p q reader (Err e)
 opened-fault p q reader ahead.Device e is = subst (λ (e : PipeFault). Opened p q reader (Err e)) (sym is) tt
 opened-fault p q reader ahead.Memory e is = subst (λ (e : PipeFault). Opened p q reader (Err e)) (sym is) tt
 
@@ -121,7 +132,9 @@ made_node text setup node (inr memory) is = absurd cc
 known_is : (known : Option (List ℕ)) (front : List ℕ) → front ≡ [] → prepend_known front known ≡ known
 known_is known front none = ap (λ l. prepend_known l known) none ∙ prepend_known-nil known
 
-module _ (known p : Option (List ℕ)) (front first : List ℕ) (node : NodeValue) (none_ahead : front ≡ []) (none : NoLineEnd first) (took : Consumes (prepend_known front known) p (ended first)) (made : IsNodeOf first node) where
+module _ (known p : Option (List ℕ)) (front first : List ℕ) (node : NodeValue) (none_ahead : front
+    ≡ []) (none : NoLineEnd first) (took : Consumes (prepend_known front known) p (ended first))
+    (made : IsNodeOf first node) where
   lines_are : (input : List ℕ) → lines_of (ended first ++ input) ≡ first ∷ lines_of input
   lines_are input = ap lines_of (append_assoc first (line_end ∷ []) input) ∙ lines_of-line first input none
 
@@ -152,7 +165,8 @@ module _ (known p : Option (List ℕ)) (front first : List ℕ) (node : NodeValu
       (ended first ++ input, has_all input has, (written, rest, text_is input ∙ is, wrote))
 
   -- the first line, and then client lines
-  pub whole_run : (reader a c : Option (List ℕ)) (result : Result (Unit {0}) PipeFault) → LinesRan node p reader a c result
+  pub whole_run : (reader a c : Option (List ℕ)) (result : Result (Unit {0}) PipeFault)
+      → LinesRan node p reader a c result
       → PipeRan known reader a c result
   whole_run reader a c (Ok x) (input, has, end, wrote) = (
     ended first ++ input,
@@ -197,7 +211,8 @@ module _ (known p reader a : Option (List ℕ)) (front : List ℕ) (none_ahead :
       )
 
   -- the first line sets up no node, or it was not read
-  pub not_opened : (e : PipeFault) → Opened (prepend_known front known) p reader (Err e) → PipeRan known reader a a (Err e)
+  pub not_opened : (e : PipeFault) → Opened (prepend_known front known) p reader (Err e)
+      → PipeRan known reader a a (Err e)
   unfolding opening_fault
   not_opened (Cluster fault) (input, has, inl (none, is)) =
       (input, known_has input has, ap fault_of_lines none ∙ ap Some (sym is), Keeps-refl a)

@@ -45,7 +45,8 @@ stop_line : (node : NodeValue) (line : List ℕ) → stops node line ≡ true �
 unfolding stops line_text
 stop_line node line e = stop_said node (request_in node line) e
 
-same_number : (m k : ℕ) (f g : NodeValue × List ℕ → Option ℕ) → ((p : NodeValue × List ℕ) → is_some (f p) ≡ is_some (g p))
+same_number : (m k : ℕ) (f g : NodeValue × List ℕ → Option ℕ) → ((p : NodeValue × List ℕ)
+    → is_some (f p) ≡ is_some (g p))
     → (o : Option (NodeValue × List ℕ)) → is_some (option_map_or f o (Some m)) ≡ is_some (option_map_or g o (Some k))
 same_number m k f g same None = refl
 same_number m k f g same (Some p) = same p
@@ -115,6 +116,7 @@ pub long_goes_on : (node : NodeValue) (line : List ℕ) → most_line_bytes < le
 unfolding stops
 long_goes_on node line long = ap asks_to_stop (long_request node line long)
 
-pub long_changes_nothing : (node : NodeValue) (line : List ℕ) → most_line_bytes < length line → node ≡ after_line node line
+pub long_changes_nothing : (node : NodeValue) (line : List ℕ) → most_line_bytes < length line
+    → node ≡ after_line node line
 unfolding after_line
 long_changes_nothing node line long = sym (ap (after_said node) (long_request node line long))

@@ -28,11 +28,13 @@ HasBytes-kept None q input kept has = tt
 HasBytes-kept (Some xs) None input kept has = absurd kept
 HasBytes-kept (Some xs) (Some ys) input kept has = sym kept ∙ has
 
-pub tail_of : (known : Option (List ℕ)) (front : List ℕ) → (rest : List ℕ) × HasBytes (prepend_known front known) (front ++ rest)
+pub tail_of : (known : Option (List ℕ)) (front : List ℕ)
+    → (rest : List ℕ) × HasBytes (prepend_known front known) (front ++ rest)
 tail_of None front = ([], tt)
 tail_of (Some ys) front = (ys, refl)
 
-pub tail_at_end : (known : Option (List ℕ)) (front : List ℕ) → IsAtEnd known → HasBytes (prepend_known front known) front
+pub tail_at_end : (known : Option (List ℕ)) (front : List ℕ) → IsAtEnd known
+    → HasBytes (prepend_known front known) front
 tail_at_end None front end = tt
 tail_at_end (Some ys) front end = ap (λ l. front ++ l) end ∙ append-nil front
 
@@ -51,7 +53,8 @@ end_behind (Some xs) front end = no_more front xs end
 -- ---- one more line
 
 -- a line with its end was answered; whether it stops the node
-pub line_answered : (p known reader : Option (List ℕ)) (front left : List ℕ) (n : ℕ) (old new : NodeValue) (held more : List ℕ)
+pub line_answered : (p known reader : Option (List ℕ)) (front left : List ℕ) (n : ℕ) (old new : NodeValue)
+    (held more : List ℕ)
     (stopped : Bool) → Keeps p (prepend_known front known) → EndsAt front n
     → left ≡ drop (n + 1) front → stopped ≡ stops old (take n front)
     → new ≡ after_line old (take n front) → more ≡ held ++ ended (line_text old (take n front))
@@ -61,14 +64,23 @@ line_answered p known reader front left n old new held more false kept (none, wi
     let behind = drop (n + 1) front in
     let joined : front ≡ ended line ++ behind = is ∙ sym (append_assoc line (line_end ∷ []) behind) in
     let took = Consumes-trans p (prepend_known front known) _ [] (ended line)
-    (Consumes-kept p p (prepend_known front known) [] (Consumes-nil p) kept) (Consumes-front known front (ended line) behind joined) in
-    (line, none, subst (λ (l : List ℕ). Consumes p (prepend_known l known) (ended line)) (sym left_is) took, sym so, after, grown)
+    (Consumes-kept p p (prepend_known front known) [] (Consumes-nil p) kept) (Consumes-front known front
+    (ended line) behind joined) in (
+      line,
+      none,
+      subst (λ (l : List ℕ). Consumes p (prepend_known l known) (ended line))
+          (sym left_is) took,
+      sym so,
+      after,
+      grown,
+    )
 line_answered p known reader front left n old new held more true kept (none, within, is) left_is so after grown =
     let line = take n front in
     let behind = drop (n + 1) front in
     let (rest, has) = tail_of known front in
     let lines : lines_of (front ++ rest) ≡ line ∷ lines_of (behind ++ rest) =
-    ap (λ l. lines_of (l ++ rest)) is ∙ ap lines_of (append_assoc line (line_end ∷ behind) rest) ∙ lines_of-line line (behind ++ rest) none in (
+    ap (λ l. lines_of (l ++ rest)) is ∙ ap lines_of (append_assoc line (line_end ∷ behind) rest)
+    ∙ lines_of-line line (behind ++ rest) none in (
       front ++ rest,
       HasBytes-kept p _ _ kept has,
       inr (ap (one_stops old) lines ∙ one_stops-stop old line _ (sym so)),
@@ -76,7 +88,8 @@ line_answered p known reader front left n old new held more true kept (none, wit
     )
 
 -- the last line was answered
-pub last_answered : (p q known : Option (List ℕ)) (front : List ℕ) (limit n : ℕ) (old new : NodeValue) (held more : List ℕ)
+pub last_answered : (p q known : Option (List ℕ)) (front : List ℕ) (limit n : ℕ) (old new : NodeValue)
+    (held more : List ℕ)
     → Keeps p (prepend_known front known) → Begins limit front (Last n) → IsAtEnd known
     → more ≡ held ++ ended (line_text old front) → Answered p q known old new held more false
 last_answered p q known front limit n old new held more kept (none, all, some, short) end grown =
@@ -99,7 +112,8 @@ end_answered p q known front old new held more kept none end same = (
 )
 
 -- a line that is too long was passed over and answered
-pub long_answered : (p q known reader : Option (List ℕ)) (ahead front : List ℕ) (node new : NodeValue) (held more : List ℕ)
+pub long_answered : (p q known reader : Option (List ℕ)) (ahead front : List ℕ) (node new : NodeValue)
+    (held more : List ℕ)
     (had_end : Bool) → Keeps p q → PassedLine front q (prepend_known ahead known) had_end
     → Begins most_line_bytes front TooLong → new ≡ node → more ≡ held ++ ended (answer_text (BadLine NotJson))
     → Answered p (prepend_known ahead known) known node new held more had_end
@@ -115,7 +129,8 @@ long_answered p q known reader ahead front node new held more true kept passed l
 long_answered p q known reader ahead front node new held more false kept passed long same grown =
     let far = passed.long most_line_bytes long in
     let (took, end) = passed.passed in
-    let has = subst (HasBytes q) (append-nil passed.line) (HasBytes-done q _ passed.line [] took (nothing_left _ end)) in
+    let has = subst (HasBytes q) (append-nil passed.line) (HasBytes-done q _ passed.line [] took
+    (nothing_left _ end)) in
     let last = lines_of-last passed.line passed.none (omega (arith, far)) in (
       passed.line,
       HasBytes-kept p q _ kept has,
@@ -127,7 +142,8 @@ long_answered p q known reader ahead front node new held more false kept passed 
 -- ---- a run
 
 -- nothing was read and nothing is held
-pub Lines-start : (start : NodeValue) (k a : Option (List ℕ)) (held : List ℕ) → held ≡ [] → Ran going_on start k k a a held start 1
+pub Lines-start : (start : NodeValue) (k a : Option (List ℕ)) (held : List ℕ) → held ≡ []
+    → Ran going_on start k k a a held start 1
 Lines-start start k a held empty =
     record {
       done = [];
@@ -139,14 +155,16 @@ Lines-start start k a held empty =
       counted = λ rest. omega arith;
     }
 
-text_front : (start : NodeValue) (k a c : Option (List ℕ)) → WroteFront (λ input. text_by going_on start (lines_of input)) k a c
+text_front : (start : NodeValue) (k a c : Option (List ℕ))
+    → WroteFront (λ input. text_by going_on start (lines_of input)) k a c
     → WroteFront (client_text start) k a c
 unfolding answers_text
 text_front start k a c (input, has, (front, rest, is, wrote)) =
     let stop = stop_text (one_stops start (lines_of input)) in
     (input, has, (front, rest ++ stop, ap (λ t. t ++ stop) is ∙ append_assoc front rest stop, wrote))
 
-module _ {start node : NodeValue} {k p a b : Option (List ℕ)} {held : List ℕ} {number : ℕ} (ran : Ran going_on start k p a b held node number) where
+module _ {start node : NodeValue} {k p a b : Option (List ℕ)} {held : List ℕ} {number : ℕ}
+    (ran : Ran going_on start k p a b held node number) where
   run_stops : (tail : List ℕ) → one_stops start (lines_of (ran.done ++ tail)) ≡ one_stops node (lines_of tail)
   run_stops tail = ap is_some (ran.stops tail) ∙ any_number number 1 node (lines_of tail)
 
@@ -155,7 +173,8 @@ module _ {start node : NodeValue} {k p a b : Option (List ℕ)} {held : List ℕ
   run_text tail =
       ap (λ t. t ++ stop_text (one_stops start (lines_of (ran.done ++ tail)))) (ran.goes tail)
       ∙ ap (λ b. ((ran.sent ++ held) ++ text_by going_on node (lines_of tail)) ++ stop_text b) (run_stops tail)
-      ∙ append_assoc (ran.sent ++ held) (text_by going_on node (lines_of tail)) (stop_text (one_stops node (lines_of tail)))
+      ∙ append_assoc (ran.sent ++ held) (text_by going_on node (lines_of tail)) (stop_text (one_stops node
+      (lines_of tail)))
 
   -- one more line was answered
   pub Ran-more : (q reader : Option (List ℕ)) (new : NodeValue) (more : List ℕ)
@@ -172,14 +191,16 @@ module _ {start node : NodeValue} {k p a b : Option (List ℕ)} {held : List ℕ
   Lines-kept = Lines-front b (AppendsFront-nothing b held)
 
   -- the run has ended, and what is held is written
-  pub Lines-end : (c q reader : Option (List ℕ)) (new : NodeValue) (more shown : List ℕ) (result : Result (Unit {0}) PipeFault) (Failed : Type 0)
+  pub Lines-end : (c q reader : Option (List ℕ)) (new : NodeValue) (more shown : List ℕ) (result : Result (Unit
+      {0}) PipeFault) (Failed : Type 0)
       → Answered p q reader node new held more false → shown ≡ more → Finished b c shown (Ok tt) result Failed
       → LinesRan start k reader a c result
   Lines-end c q reader new more shown result Failed (tail, has, end, grown) same finished =
       let input = ran.done ++ tail in
       let has_all = HasBytes-done k p ran.done tail ran.read has in
       let whole : client_text start input ≡ ran.sent ++ shown =
-      run_text tail ∙ append_assoc ran.sent held (client_text node tail) ∙ ap (λ l. ran.sent ++ l) (sym (same ∙ grown)) in
+      run_text tail ∙ append_assoc ran.sent held (client_text node tail) ∙ ap (λ l. ran.sent ++ l) (sym (same
+      ∙ grown)) in
       by_end input has_all whole (stopped end) finished
     where
       stopped : (IsAtEnd reader ⊎ (one_stops node (lines_of tail) ≡ true))
@@ -191,17 +212,32 @@ module _ {start node : NodeValue} {k p a b : Option (List ℕ)} {held : List ℕ
           → (IsAtEnd reader ⊎ (one_stops start (lines_of input) ≡ true))
           → Finished b c shown (Ok tt) result Failed → LinesRan start k reader a c result
       by_end input has_all whole ended_so (inl (is, wrote)) =
-          subst (LinesRan start k reader a c) (sym is)
-          (input, has_all, ended_so, subst (Appends a c) (sym whole) (Appends-trans a b c ran.sent shown ran.wrote wrote))
+          subst (LinesRan start k reader a c) (sym is) (
+            input,
+            has_all,
+            ended_so,
+            subst (Appends a c) (sym whole)
+                (Appends-trans a b c ran.sent shown ran.wrote wrote),
+          )
       by_end input has_all whole ended_so (inr (is, (front, rest, parts, wrote), failed)) =
-          subst (LinesRan start k reader a c) (sym is)
-          (input, has_all, (ran.sent ++ front, rest, whole ∙ ap (λ l. ran.sent ++ l) parts ∙ sym (append_assoc ran.sent front rest), Appends-trans a b c ran.sent front ran.wrote wrote))
+          subst (LinesRan start k reader a c) (sym is) (
+            input,
+            has_all,
+            (
+              ran.sent ++ front,
+              rest,
+              whole ∙ ap (λ l. ran.sent ++ l) parts
+                  ∙ sym (append_assoc ran.sent front rest),
+              Appends-trans a b c ran.sent front ran.wrote wrote,
+            ),
+          )
 
   -- there is no number for another line
   pub Lines-out : (c reader : Option (List ℕ)) (shown : List ℕ) (result : Result (Unit {0}) PipeFault) (Failed : Type 0)
       → shown ≡ held → Finished b c shown (Err Device) result Failed → LinesRan start k reader a c result
   Lines-out c reader shown result Failed same (inl (is, wrote)) =
-      subst (LinesRan start k reader a c) (sym is) (Lines-front c (AppendsFront-whole b c held (subst (Appends b c) same wrote)))
+      subst (LinesRan start k reader a c) (sym is) (Lines-front c (AppendsFront-whole b c held (subst
+      (Appends b c) same wrote)))
   Lines-out c reader shown result Failed same (inr (is, wrote, failed)) =
       subst (LinesRan start k reader a c) (sym is) (Lines-front c (subst (AppendsFront b c) same wrote))
 
@@ -219,12 +255,15 @@ module _ {start node : NodeValue} {k p a b : Option (List ℕ)} {held : List ℕ
 
 pub LinesRan-fault : (start : NodeValue) (k reader a c : Option (List ℕ)) (e : PipeFault) → (e ≡ Device) ⊎ (e ≡ Memory)
     → WroteFront (client_text start) k a c → LinesRan start k reader a c (Err e)
-LinesRan-fault start k reader a c e (inl is) wrote = subst (λ (f : PipeFault). LinesRan start k reader a c (Err f)) (sym is) wrote
-LinesRan-fault start k reader a c e (inr is) wrote = subst (λ (f : PipeFault). LinesRan start k reader a c (Err f)) (sym is) wrote
+LinesRan-fault start k reader a c e (inl is) wrote =
+    subst (λ (f : PipeFault). LinesRan start k reader a c (Err f)) (sym is) wrote
+LinesRan-fault start k reader a c e (inr is) wrote =
+    subst (λ (f : PipeFault). LinesRan start k reader a c (Err f)) (sym is) wrote
 
 -- ---- when the device has failed
 
-pub finish_device : (b c : Option (List ℕ)) (shown : List ℕ) (ending result : Result (Unit {0}) PipeFault) (old mid new : Tally) (R E : Type 0)
+pub finish_device : (b c : Option (List ℕ)) (shown : List ℕ) (ending result : Result (Unit {0}) PipeFault)
+    (old mid new : Tally) (R E : Type 0)
     → IfErr ending (λ e. e ≡ Device → Appends b c shown → E) → WentOn old mid
     → Finished b c shown ending result (CallFailed mid new)
     → IfErr result (λ e. e ≡ Device → R ⊎ (CallFailed old new ⊎ E))

@@ -33,7 +33,8 @@ pub refused : (t : Table) (role owner : ℕ) (f : TableFault) (e : ClusterFault)
     → (table_of t ((role, owner) ∷ []) ≡ Err e) ⊎ (e ≡ fault.Memory)
 refused t role owner table.NoSuchNode e due is = inl (refused_so t role owner table.NoSuchNode due ∙ ap Err (sym is))
 refused t role owner table.Repeated e due is = inl (refused_so t role owner table.Repeated due ∙ ap Err (sym is))
-refused t role owner table.TooManyRoles e due is = inl (refused_so t role owner table.TooManyRoles due ∙ ap Err (sym is))
+refused t role owner table.TooManyRoles e due is = inl (refused_so t role owner table.TooManyRoles due
+    ∙ ap Err (sym is))
 refused t role owner table.Memory e due is = inr is
 
 same_Ok : {A E : Type 0} (x y : A) → ◌≡◌ {A = Result A E} (Ok x) (Ok y) → x ≡ y
@@ -83,7 +84,8 @@ pairs-none items i h = ap pairs (drop_all i items h)
 
 -- ---- how the loop over the items goes on
 
-module _ (start t : Table) (whole items : List Value) (i : ℕ) (before : table_of start (pairs whole) ≡ table_of t (pairs (drop i items))) where
+module _ (start t : Table) (whole items : List Value) (i : ℕ) (before : table_of start (pairs whole)
+    ≡ table_of t (pairs (drop i items))) where
   pub added_on : (new : Table) (item : Value) → i < length items → item ≡ get_or items i item
       → table_of t (cons_option (pair_of (view item)) []) ≡ Ok new
       → table_of start (pairs whole) ≡ table_of new (pairs (drop (i + 1) items))

@@ -20,11 +20,13 @@ filter_map-view : {A : Type 0} (shape : Data → Option A) (items : List Value)
 filter_map-view shape [] = refl
 filter_map-view shape (item ∷ items) = ap (cons_option (shape (view item))) (filter_map-view shape items)
 
-module _ {A : Type 0} (m : Member) (shape : Data → Option A) (text value : Data) (there : Some value ≡ member_of m text) where
+module _ {A : Type 0} (m : Member) (shape : Data
+    → Option A) (text value : Data) (there : Some value ≡ member_of m text) where
   -- the member's list, from its value
   member_listed : list_member m shape text ≡ present m (Some (option_and_then (values_of shape) (list_of value)))
   unfolding list_member
-  member_listed = ap (λ v. present m (option_map (λ value. option_and_then (values_of shape) (list_of value)) v)) (sym there)
+  member_listed =
+      ap (λ v. present m (option_map (λ value. option_and_then (values_of shape) (list_of value)) v)) (sym there)
 
   pub list_member-no_list : list_of value ≡ None → list_member m shape text ≡ Err (OutOfRange m)
   list_member-no_list none = member_listed ∙ ap (λ l. present m (Some (option_and_then (values_of shape) l))) none

@@ -119,7 +119,8 @@ sent_count again = one_if again.send + one_if again.echo + one_if again.ready
 -- the answer that is due to the request: by the history so far, and to a command that is published by the history after
 -- the node took its own packets
 unfoldable pub answer_to : NodeValue → Request → ClientAnswer
-answer_to node (request.Issue command) = replied (after_taken node (event.Issue command)) (due_at node (event.Issue command))
+answer_to node (request.Issue command) =
+    replied (after_taken node (event.Issue command)) (due_at node (event.Issue command))
 answer_to node (request.Client act) = replied (after_taken node (event.Client act)) (due_at node (event.Client act))
 answer_to node (request.Ask question) = asked node question
 answer_to node (request.Reach owner) = Reach (reach_at node.config.roles.sizes node.history owner)

@@ -7,10 +7,11 @@ use Rattle.role_daemon.specs.Pipes.{pipe_text, opening_fault, pipe_stops}
 use Rattle.role_daemon.specs.declared.fault.PipeFault.{PipeFault}
 use Rattle.role_daemon.specs.declared.fault.PipeFault.TheVariants.{Cluster, Device, Memory}
 
--- Of what the reader had, `reader_new` is left, and `writer_old` has become `writer_new`. At the end the reader has ended
--- or a line stopped the node, and the text that is due is written. Where the first line sets up no node nothing is
--- written, and else a front of the text.
-abbrev pub PipeRan : Option (List ℕ) → Option (List ℕ) → Option (List ℕ) → Option (List ℕ) → Result (Unit {0}) PipeFault → Type 0
+-- Of what the reader had, `reader_new` is left, and `writer_old` has become `writer_new`. At the end the reader has
+-- ended or a line stopped the node, and the text that is due is written. Where the first line sets up no node nothing
+-- is written, and else a front of the text.
+abbrev pub PipeRan : Option (List ℕ) → Option (List ℕ) → Option (List ℕ) → Option (List ℕ)
+    → Result (Unit {0}) PipeFault → Type 0
 PipeRan reader_old reader_new writer_old writer_new (Ok _) =
     (input : List ℕ) × HasBytes reader_old input × (opening_fault input ≡ None)
     × (IsAtEnd reader_new ⊎ (pipe_stops input ≡ true)) × Appends writer_old writer_new (pipe_text input)

@@ -30,7 +30,8 @@ or_sizes_fault (Err f) = Err (fault.Sizes f)
 -- the node's own name is a node's, and a pipe has one node
 unfoldable pub name_of : Mode → Counts → ℕ → Result ℕ ClusterFault
 name_of Pipe s me =
-    if not (s.nodes == 1) then Err (fault.OutOfRange N) else (if nat_lt me s.nodes then Ok me else Err (fault.OutOfRange Me))
+    if not (s.nodes == 1) then Err (fault.OutOfRange N)
+    else (if nat_lt me s.nodes then Ok me else Err (fault.OutOfRange Me))
 name_of Serve s me = if nat_lt me s.nodes then Ok me else Err (fault.OutOfRange Me)
 
 abbrev pub or_table_fault : Table → Option TableFault → Result Table ClusterFault
@@ -58,10 +59,17 @@ setup_of mode shape = do
   me ← name_of mode s shape.me
   roles ← table_of (no_roles s) shape.roles
   all ← counted mode s (length shape.keys) (length shape.nodes)
-  Ok (record { config = record { cluster = shape.cluster; roles = roles; limit = most_events }; me = me; keys = shape.keys; nodes = shape.nodes; client = shape.client })
+  Ok (record {
+    config = record { cluster = shape.cluster; roles = roles; limit = most_events };
+    me = me;
+    keys = shape.keys;
+    nodes = shape.nodes;
+    client = shape.client;
+  })
 
 unfoldable pub setup_of_value : Mode → Data → Result Setup ClusterFault
-setup_of_value mode text = if is_some (as_object text) then shape_of mode text >>= setup_of mode else Err fault.NotObject
+setup_of_value mode text =
+    if is_some (as_object text) then shape_of mode text >>= setup_of mode else Err fault.NotObject
 
 abbrev pub setup_if_json : Mode → Option Data → Result Setup ClusterFault
 setup_if_json mode None = Err fault.NotJson
@@ -69,7 +77,8 @@ setup_if_json mode (Some text) = setup_of_value mode text
 
 -- the setup that a text of these bytes says, or the first fault that holds
 unfoldable pub setup_due : Mode → List ℕ → Result Setup ClusterFault
-setup_due mode bytes = if nat_lt most_text_bytes (length bytes) then Err fault.NotJson else setup_if_json mode (json_of bytes)
+setup_due mode bytes =
+    if nat_lt most_text_bytes (length bytes) then Err fault.NotJson else setup_if_json mode (json_of bytes)
 
 -- ---- steps of the code
 

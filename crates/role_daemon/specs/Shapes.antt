@@ -109,7 +109,16 @@ shape_of mode text = do
   me ← number_of Me (2 ^ 8 - 1) text
   roles ← list_member Roles pair_of text
   links ← links_of mode text
-  Ok (record { cluster = cluster; n = n; f = f; me = me; roles = roles; keys = links.keys; nodes = links.nodes; client = links.client })
+  Ok (record {
+    cluster = cluster;
+    n = n;
+    f = f;
+    me = me;
+    roles = roles;
+    keys = links.keys;
+    nodes = links.nodes;
+    client = links.client;
+  })
 
 -- ---- what the code keeps of a text
 

@@ -41,7 +41,8 @@ Opened before after reader (Ok None) =
     × ((setup : Setup) × (setup_due Pipe first ≡ Ok setup))
 Opened before after reader (Err (Cluster fault)) =
     (input : List ℕ) × HasBytes before input × ((lines_of input ≡ []) × (fault ≡ NotJson)
-    ⊎ ((first : List ℕ) × (later : List (List ℕ)) × (lines_of input ≡ first ∷ later) × (setup_due Pipe first ≡ Err fault)))
+    ⊎ ((first : List ℕ) × (later : List (List ℕ)) × (lines_of input ≡ first ∷ later)
+    × (setup_due Pipe first ≡ Err fault)))
 Opened before after reader (Err Device) = ⊤
 Opened before after reader (Err Memory) = ⊤
 
@@ -52,7 +53,8 @@ abbrev pub client_text : NodeValue → List ℕ → List ℕ
 client_text node input = answers_text node (lines_of input)
 
 -- What comes next was answered: `more` lines may come, or the reader has ended or a line stopped the node.
-abbrev pub Answered : Option (List ℕ) → Option (List ℕ) → Option (List ℕ) → NodeValue → NodeValue → List ℕ → List ℕ → Bool → Type 0
+abbrev pub Answered : Option (List ℕ) → Option (List ℕ) → Option (List ℕ) → NodeValue → NodeValue → List ℕ
+    → List ℕ → Bool → Type 0
 Answered before after reader node_old node_new held_old held_new true =
     (line : List ℕ) × NoLineEnd line × Consumes before after (ended line) × (stops node_old line ≡ false)
     × (node_new ≡ after_line node_old line) × (held_new ≡ held_old ++ ended (line_text node_old line))
@@ -61,13 +63,16 @@ Answered before after reader node_old node_new held_old held_new false =
     × (held_new ≡ held_old ++ client_text node_old tail)
 
 -- what running client lines does
-abbrev pub LinesRan : NodeValue → Option (List ℕ) → Option (List ℕ) → Option (List ℕ) → Option (List ℕ) → Result (Unit {0}) PipeFault → Type 0
+abbrev pub LinesRan : NodeValue → Option (List ℕ) → Option (List ℕ) → Option (List ℕ) → Option (List ℕ)
+    → Result (Unit {0}) PipeFault → Type 0
 LinesRan node known reader writer_old writer_new (Ok _) =
     (input : List ℕ) × HasBytes known input × (IsAtEnd reader ⊎ (one_stops node (lines_of input) ≡ true))
     × Appends writer_old writer_new (client_text node input)
 LinesRan node known reader writer_old writer_new (Err (Cluster fault)) = ⊥
-LinesRan node known reader writer_old writer_new (Err Device) = WroteFront (client_text node) known writer_old writer_new
-LinesRan node known reader writer_old writer_new (Err Memory) = WroteFront (client_text node) known writer_old writer_new
+LinesRan node known reader writer_old writer_new (Err Device) =
+    WroteFront (client_text node) known writer_old writer_new
+LinesRan node known reader writer_old writer_new (Err Memory) =
+    WroteFront (client_text node) known writer_old writer_new
 
 abbrev pub LinesEndless : NodeValue → Option (List ℕ) → Option (List ℕ) → Option (List ℕ) → Type 0
 LinesEndless node known writer_old writer_new =
@@ -75,7 +80,8 @@ LinesEndless node known writer_old writer_new =
     × Appends writer_old writer_new (client_text node input)
 
 -- all that was held was written, or a front of it when the writer failed
-abbrev pub Finished : Option (List ℕ) → Option (List ℕ) → List ℕ → Result (Unit {0}) PipeFault → Result (Unit {0}) PipeFault → Type 0 → Type 0
+abbrev pub Finished : Option (List ℕ) → Option (List ℕ) → List ℕ → Result (Unit {0}) PipeFault
+    → Result (Unit {0}) PipeFault → Type 0 → Type 0
 Finished writer_old writer_new held ending result Failed =
     ((result ≡ ending) × Appends writer_old writer_new held)
     ⊎ ((result ≡ Err Device) × AppendsFront writer_old writer_new held × Failed)

@@ -46,7 +46,8 @@ pub fn answer(node: &mut Node, request: Request) -> Result<ClientAnswer, AllocEr
 /// Has the node answer an event and take its own packets.
 #[tactic(auto, unfolding(crate::specs::Answers::after_taken))]
 fn take(node: &mut Node, event: Event) -> Result<ClientAnswer, AllocError>
-    ensures answer { IfOk result (λ answer. answer ≡ answers.replied (answers.after_taken node.old event) (due_at node.old event)) }
+    ensures answer { IfOk result (λ answer. answer
+        ≡ answers.replied (answers.after_taken node.old event) (due_at node.old event)) }
     ensures written { IfOk result IsWritten }
     ensures after { OnOk result (node.new ≡ answers.after_taken node.old event) }
 {
@@ -156,6 +157,7 @@ fn ask(node: &mut Node, question: Question) -> Result<ClientAnswer, AllocError>
 fn events_recorded(node: &Node) -> u32
     ensures { result ≡ length node.now.history }
 {
+    // what the node may record at most bounds its history
     let _limit = node.config().roles();
     node.history().len() as u32
 }

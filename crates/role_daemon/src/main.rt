@@ -1,5 +1,5 @@
-//! A node of the registry. Without words it is a pipe: the first line on standard input is a cluster text of one node, and
-//! each later one is a client's line, with one line of answer on standard output.
+//! A node of the registry. Without words it is a pipe: the first line on standard input is a cluster text of one
+//! node, and each later one is a client's line, with one line of answer on standard output.
 //!
 //! `specs/Setups.antt` says what a cluster text sets up, `specs/Answers.antt` what the node answers, `specs/Pipes.antt`
 //! which text is due for an input, and `specs/Runs.antt` what running the pipe does.

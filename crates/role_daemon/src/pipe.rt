@@ -41,7 +41,8 @@ pub fn run_pipe<R: Read, W: Write>(
     ensures device { IfErr result (λ e. e ≡ PipeFault.Device →
         ReaderFailed (watched_tally reader.old) (watched_tally reader.new)
         ⊎ (CallFailed (watched_tally writer.old) (watched_tally writer.new)
-        ⊎ IsEndless (R.remaining (watched_inner reader.old)) (W.contents (watched_inner writer.old)) (W.contents (watched_inner writer.new)))) }
+        ⊎ IsEndless (R.remaining (watched_inner reader.old))
+        (W.contents (watched_inner writer.old)) (W.contents (watched_inner writer.new)))) }
 {
     let mut ahead = Ahead::new(alloc);
     let Some(mut node) = open(alloc, &mut ahead, reader)? else {
@@ -97,7 +98,8 @@ fn answer_lines<R: Read, W: Write>(
     reader: &mut Watched<R>,
     writer: &mut Watched<W>,
 ) -> Result<(), PipeFault>
-    ensures ran { LinesRan node.old (pending (R.remaining (watched_inner reader.old)) ahead.old) (R.remaining (watched_inner reader.new))
+    ensures ran { LinesRan node.old (pending (R.remaining (watched_inner reader.old)) ahead.old)
+        (R.remaining (watched_inner reader.new))
         (W.contents (watched_inner writer.old)) (W.contents (watched_inner writer.new)) result }
     ensures device { IfErr result (λ e. e ≡ PipeFault.Device →
         ReaderFailed (watched_tally reader.old) (watched_tally reader.new)
@@ -194,10 +196,13 @@ fn write_when_due<W: Write>(
     held: &mut Vec<u8>,
     writer: &mut Watched<W>,
 ) -> Result<(), PipeFault>
-    ensures ok { OnOk result (Moved (W.contents (watched_inner writer.old)) (W.contents (watched_inner writer.new)) held.old.items held.new.items) }
-    ensures err { OnErr result (AppendsFront (W.contents (watched_inner writer.old)) (W.contents (watched_inner writer.new)) held.old.items) }
+    ensures ok { OnOk result (Moved (W.contents (watched_inner writer.old)) (W.contents (watched_inner writer.new))
+        held.old.items held.new.items) }
+    ensures err { OnErr result (AppendsFront (W.contents (watched_inner writer.old))
+        (W.contents (watched_inner writer.new)) held.old.items) }
     ensures quiet { OnOk result (WentOn (watched_tally writer.old) (watched_tally writer.new)) }
-    ensures device { IfErr result (λ e. (e ≡ PipeFault.Device) × CallFailed (watched_tally writer.old) (watched_tally writer.new)) }
+    ensures device { IfErr result (λ e. (e ≡ PipeFault.Device)
+        × CallFailed (watched_tally writer.old) (watched_tally writer.new)) }
 {
     if held.len() >= MOST_HELD_BYTES || ahead.begins(MOST_LINE_BYTES).is_none() {
         write_whole(writer, held)?;
@@ -212,8 +217,8 @@ fn finish<W: Write>(
     text: &[u8],
     ending: Result<(), PipeFault>,
 ) -> Result<(), PipeFault>
-    ensures { Finished (W.contents (watched_inner writer.old)) (W.contents (watched_inner writer.new)) text.now ending result
-        (CallFailed (watched_tally writer.old) (watched_tally writer.new)) }
+    ensures { Finished (W.contents (watched_inner writer.old)) (W.contents (watched_inner writer.new)) text.now
+        ending result (CallFailed (watched_tally writer.old) (watched_tally writer.new)) }
 {
     write_whole(writer, text)?;
     ending

@@ -7,4 +7,5 @@ returns-in-Ok-clause-value c = sym (json_of-some _ _ c.in-Ok.ensures.ok.0 c.in-O
 
 pub returns-else-is_memory-clause-value : goal.returns-else-is_memory-clause-value
 returns-else-is_memory-clause-value c =
-    sym (json_of-none _ (c.in-Err.ensures.err (λ memory. true≢false (sym (c.is_memory.ensures.1 memory) ∙ c.if-is_memory.false))))
+    sym (json_of-none _ (c.in-Err.ensures.err (λ memory. true≢false (sym (c.is_memory.ensures.1 memory)
+    ∙ c.if-is_memory.false))))

@@ -4,11 +4,13 @@ use Rattle.role_daemon.proofs.cluster.add_roles.Goals as goal
 
 pub returns-in-Err-clause-adds : goal.returns-in-Err-clause-adds
 returns-in-Err-clause-adds c =
-    refused_on _ _ _ _ _ c.loop-item.invariant.0 _ c.item-item.result c.loop-item-test.true c.item-item.is c.in-Err.ensures.adds
+    refused_on _ _ _ _ _ c.loop-item.invariant.0 _ c.item-item.result c.loop-item-test.true c.item-item.is
+    c.in-Err.ensures.adds
 
 pub loop-item-preserved : goal.loop-item-preserved
 loop-item-preserved c = (
-  added_on _ _ _ _ _ c.loop-item.invariant.0 _ c.item-item.result c.loop-item-test.true c.item-item.is c.in-Ok.ensures.adds,
+  added_on _ _ _ _ _ c.loop-item.invariant.0 _ c.item-item.result c.loop-item-test.true c.item-item.is
+      c.in-Ok.ensures.adds,
   c.in-Ok.ensures.sizes ∙ c.loop-item.invariant.1,
 )
 

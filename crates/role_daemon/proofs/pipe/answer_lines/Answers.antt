@@ -24,13 +24,15 @@ pub returns-in_err-answer_next-clause-ran : goal.returns-in_err-answer_next-clau
 returns-in_err-answer_next-clause-ran g c =
     let (ran, reads, writes) = c.loop-number.invariant in
     let moved = Ran-moved ran _ _ c.in_ok-write_when_due.ensures.ok in
-    let p = err_from_is_err_and c.from_residual-in_err-answer_next.result c.from_residual-in_err-answer_next.ensures.1 in
+    let p = err_from_is_err_and c.from_residual-in_err-answer_next.result
+    c.from_residual-in_err-answer_next.ensures.1 in
     rw (p.1, p.2) (LinesRan-fault _ _ None _ _ _ c.in_err-answer_next.ensures.kind (Lines-kept moved))
 
 pub returns-in_err-answer_next-clause-device : goal.returns-in_err-answer_next-clause-device
 returns-in_err-answer_next-clause-device g c =
     let (ran, reads, writes) = c.loop-number.invariant in
-    let p = err_from_is_err_and c.from_residual-in_err-answer_next.result c.from_residual-in_err-answer_next.ensures.1 in
+    let p = err_from_is_err_and c.from_residual-in_err-answer_next.result
+    c.from_residual-in_err-answer_next.ensures.1 in
     rw (p.1, p.2) (λ q. inl (ReaderFailed-later _ _ _ reads (c.in_err-answer_next.ensures.device q)))
 
 pub returns-then-not-branch-clause-ran : goal.returns-then-not-branch-clause-ran

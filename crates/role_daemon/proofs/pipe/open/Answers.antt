@@ -12,14 +12,16 @@ pub returns-in_err-node-in-Line-clause-opened : goal.returns-in_err-node-in-Line
 returns-in_err-node-in-Line-clause-opened g c =
     let begun = rw c.in-Line.is at c.in_ok-peek.ensures.begins in
     let refused = rw c.front.ensures at c.in_err-node-in-Line.ensures.err in
-    let p = err_from_is_err_and c.from_residual-in_err-node-in-Line.result c.from_residual-in_err-node-in-Line.ensures.1 in
+    let p = err_from_is_err_and c.from_residual-in_err-node-in-Line.result
+    c.from_residual-in_err-node-in-Line.ensures.1 in
     rw (p.1, p.2) (opened-refused_line _ None None _ _ c.in_ok-peek.ensures.keeps _ _ begun.0.1 refused)
 
 pub returns-in_err-_node-in-Last-clause-opened : goal.returns-in_err-_node-in-Last-clause-opened
 returns-in_err-_node-in-Last-clause-opened g c =
     let begun = rw c.in-Last.is at c.in_ok-peek.ensures.begins in
     let refused = rw c.front-in-Last.ensures at c.in_err-_node-in-Last.ensures.err in
-    let p = err_from_is_err_and c.from_residual-in_err-_node-in-Last.result c.from_residual-in_err-_node-in-Last.ensures.1 in
+    let p = err_from_is_err_and c.from_residual-in_err-_node-in-Last.result
+    c.from_residual-in_err-_node-in-Last.ensures.1 in
     rw (p.1, p.2) (opened-refused_last _ None None _ _ c.in_ok-peek.ensures.keeps _ _ _ begun.0 begun.1 refused)
 
 pub returns-in-End-clause-opened : goal.returns-in-End-clause-opened

@@ -22,4 +22,5 @@ pub returns-clause-device : goal.returns-clause-device
 returns-clause-device g c =
     let (first, none, took, made) = rw c.in-Some.is at c.in_ok-node.ensures.opened in
     later_device _ _ _ _ _ _ _ c.in_ok-node.ensures.quiet
-    (whole_endless _ _ _ first c.in-Some.node c.new-ahead.ensures.front none took made _ _) c.answer_lines.ensures.device
+    (whole_endless _ _ _ first c.in-Some.node c.new-ahead.ensures.front none took made _ _)
+    c.answer_lines.ensures.device

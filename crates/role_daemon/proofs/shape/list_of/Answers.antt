@@ -5,7 +5,8 @@ use Rattle.role_daemon.proofs.shape.list_of.Goals as goal
 
 pub returns-in-Some : goal.returns-in-Some
 unfolding list_of
-returns-in-Some c = rw c.as_slice.ensures.value (sym (ap Some (items_list-items_of _)) ∙ ap (option_map items_list) c.in-Some.ensures)
+returns-in-Some c = rw c.as_slice.ensures.value (sym (ap Some (items_list-items_of _))
+    ∙ ap (option_map items_list) c.in-Some.ensures)
 
 pub returns-in-None : goal.returns-in-None
 unfolding list_of
