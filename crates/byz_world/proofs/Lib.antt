@@ -14,6 +14,10 @@ pub mod Safety
 pub mod Policy
 pub mod Counts
 pub mod Rest
+pub mod Computed
+pub mod Example
+pub mod ExampleRests
+pub mod Headline
 pub mod Idle
 pub mod Telling
 pub mod Stepping

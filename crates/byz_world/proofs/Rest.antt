@@ -32,6 +32,9 @@ some_value : {A : Type 0} (o : Option A) → IsSome o → (x : A) × (o ≡ Some
 some_value None is = absurd cc
 some_value (Some x) is = (x, refl)
 
+some_same : {A : Type 0} (o : Option A) (x y : A) → o ≡ Some x → x ≡ y → o ≡ Some y
+some_same o x y e same = e ∙ ap Some same
+
 -- answers are one where each says what the other does
 same_answer : {A : Type 0} (a b : Option A) → ((x : A) → a ≡ Some x → b ≡ Some x) → ((x : A) → b ≡ Some x → a ≡ Some x)
     → a ≡ b
@@ -53,14 +56,14 @@ module _ (config : ConfigValue) (liars : Nodes) (run : Run) (cluster : IsCluster
   abbrev s : Counts
   s = config.roles.sizes
 
-  abbrev IsOne : ℕ → Type 0
-  IsOne name = IsCorrect config liars run cluster name
+  abbrev IsHonest : ℕ → Type 0
+  IsHonest name = IsCorrect config liars run cluster name
 
-  node_of : (name : ℕ) → IsOne name → name < s.nodes
+  node_of : (name : ℕ) → IsHonest name → name < s.nodes
   node_of name correct = ltb-true name s.nodes (and_parts _ _ correct).0
 
   -- what a correct node has sent, each correct node has taken
-  taken_there : (i name : ℕ) (kind : Kind) (owner place : ℕ) (c : Command) → IsOne i →
+  taken_there : (i name : ℕ) (kind : Kind) (owner place : ℕ) (c : Command) → IsHonest i →
       said_by s run name kind owner place ≡ Some c →
       IsIn (taken_by run i owner place) (record { kind = kind; from = name; command = c })
   unfolding takes_at
@@ -71,7 +74,7 @@ module _ (config : ConfigValue) (liars : Nodes) (run : Run) (cluster : IsCluster
       let number = number_of (packets (history_of i run)) p (rest p pooled correct) in
       is_picked (take_at owner place) (packets (history_of i run)) p (take_of p) number.0 number.1 (at_place p)
 
-  voted : (i name : ℕ) (kind : Kind) (owner place : ℕ) (c : Command) → IsOne i → IsOne name →
+  voted : (i name : ℕ) (kind : Kind) (owner place : ℕ) (c : Command) → IsHonest i → IsHonest name →
       said_by s run name kind owner place ≡ Some c → vote kind name (taken_by run i owner place) ≡ Some c
   unfolding vote
   voted i name kind owner place c correct sender e =
@@ -87,7 +90,7 @@ module _ (config : ConfigValue) (liars : Nodes) (run : Run) (cluster : IsCluster
       is ∙ sym said ∙ e
 
   -- .. and counted
-  supports : (i name : ℕ) (kind : Kind) (owner place : ℕ) (c : Command) → IsOne i → IsOne name →
+  supports : (i name : ℕ) (kind : Kind) (owner place : ℕ) (c : Command) → IsHonest i → IsHonest name →
       said_by s run name kind owner place ≡ Some c
       → sets.contains (supporters kind c (taken_by run i owner place)) name ≡ true
   supports i name kind owner place c correct sender e =
@@ -102,8 +105,8 @@ module _ (config : ConfigValue) (liars : Nodes) (run : Run) (cluster : IsCluster
       (whole_front config liars run cluster takes i owner place (front_itself takes)) kind c
 
   -- what all correct nodes have sent is supported by all but the liars
-  by_all : (i owner place : ℕ) (kind : Kind) (c : Command) → IsOne i →
-      ((name : ℕ) → IsOne name → said_by s run name kind owner place ≡ Some c) →
+  by_all : (i owner place : ℕ) (kind : Kind) (c : Command) → IsHonest i →
+      ((name : ℕ) → IsHonest name → said_by s run name kind owner place ≡ Some c) →
       s.nodes - s.liars ≤ sets.len (supporters kind c (taken_by run i owner place))
   by_all i owner place kind c correct sent =
       let h = len_all s liars (supporters kind c (taken_by run i owner place)) (are_nodes i owner place kind c)
@@ -123,8 +126,8 @@ module _ (config : ConfigValue) (liars : Nodes) (run : Run) (cluster : IsCluster
 
   pub amplified : (owner place : ℕ) (c : Command) (ready : Nodes) →
       ((name : ℕ) → sets.contains ready name ≡ true
-      → IsOne name × (readied s (taken_by run name owner place) ≡ Some c)) →
-      amplify_of s ≤ sets.len ready → (j : ℕ) → IsOne j → readied s (taken_by run j owner place) ≡ Some c
+      → IsHonest name × (readied s (taken_by run name owner place) ≡ Some c)) →
+      amplify_of s ≤ sets.len ready → (j : ℕ) → IsHonest j → readied s (taken_by run j owner place) ≡ Some c
   unfolding may_ready
   amplified owner place c ready are many j correct =
       let are_ready : AreNodes s ready = λ name is. node_of name (are name is).0 in
@@ -138,8 +141,8 @@ module _ (config : ConfigValue) (liars : Nodes) (run : Run) (cluster : IsCluster
 
   -- Who delivers: where all correct nodes are ready, each of them.
 
-  deliver_now : (i owner place : ℕ) (c : Command) → IsOne i →
-      ((name : ℕ) → IsOne name → readied s (taken_by run name owner place) ≡ Some c) →
+  deliver_now : (i owner place : ℕ) (c : Command) → IsHonest i →
+      ((name : ℕ) → IsHonest name → readied s (taken_by run name owner place) ≡ Some c) →
       (d : Command) × (delivered s (taken_by run i owner place) ≡ Some d)
   unfolding may_deliver
   deliver_now i owner place c correct ready =
@@ -150,7 +153,7 @@ module _ (config : ConfigValue) (liars : Nodes) (run : Run) (cluster : IsCluster
       some_value _ (delivery_comes s takes (length takes) c
       (ap (λ ts. may_deliver s ts c) (take_all (length takes) takes (le_refl _)) ∙ may))
 
-  pub delivered_there : (i j owner place : ℕ) (c : Command) → IsOne j
+  pub delivered_there : (i j owner place : ℕ) (c : Command) → IsHonest j
       → delivered s (taken_by run i owner place) ≡ Some c →
       delivered s (taken_by run j owner place) ≡ Some c
   unfolding may_deliver
@@ -170,7 +173,7 @@ module _ (config : ConfigValue) (liars : Nodes) (run : Run) (cluster : IsCluster
       let fewer = len_covered s liars for_c honest are are_honest (λ name is not_liar. each name
       ∙ and_from _ _ is (not_from_false _ not_liar)) in
       let few = cluster.few in
-      let ready : (name : ℕ) → IsOne name → readied s (taken_by run name owner place) ≡ Some c =
+      let ready : (name : ℕ) → IsHonest name → readied s (taken_by run name owner place) ≡ Some c =
       amplified owner place c honest
       (λ name is.
       let parts = and_parts _ _ (sym (each name) ∙ is) in
@@ -180,11 +183,11 @@ module _ (config : ConfigValue) (liars : Nodes) (run : Run) (cluster : IsCluster
       ))
       (omega arith) in
       let now = deliver_now j owner place c correct ready in
-      now.1 ∙ ap Some (deliver_one config liars run cluster j i owner place now.0 c now.1 e)
+      some_same _ now.0 c now.1 (deliver_one config liars run cluster j i owner place now.0 c now.1 e)
 
   -- A correct owner's command.
 
-  pub echoed_there : (i owner place : ℕ) (c : Command) → IsOne i → IsOne owner
+  pub echoed_there : (i owner place : ℕ) (c : Command) → IsHonest i → IsHonest owner
       → slice_get (issued (history_of owner run)) place ≡ Some c →
       echoed (taken_by run i owner place) ≡ Some c
   unfolding echoed
@@ -197,7 +200,7 @@ module _ (config : ConfigValue) (liars : Nodes) (run : Run) (cluster : IsCluster
       let is : echoed takes ≡ Some found.0.command = ap (option_map command_of) found.1 in
       is ∙ sym (echo_was_issued config liars run i owner place found.0.command cluster sender is) ∙ e
 
-  pub readied_there : (i owner place : ℕ) (c : Command) → IsOne i → IsOne owner
+  pub readied_there : (i owner place : ℕ) (c : Command) → IsHonest i → IsHonest owner
       → slice_get (issued (history_of owner run)) place ≡ Some c →
       readied s (taken_by run i owner place) ≡ Some c
   unfolding may_ready
@@ -207,7 +210,7 @@ module _ (config : ConfigValue) (liars : Nodes) (run : Run) (cluster : IsCluster
       let now = ready_now i owner place c (or_left _ _ (le-leb (echo_quorum_of s) _ (omega arith))) in
       now.1 ∙ sym (ready_was_issued config liars run cluster i owner place now.0 sender now.1) ∙ e
 
-  pub reached : (i owner place : ℕ) (c : Command) → IsOne i → IsOne owner
+  pub reached : (i owner place : ℕ) (c : Command) → IsHonest i → IsHonest owner
       → slice_get (issued (history_of owner run)) place ≡ Some c →
       HasReached config run i owner place c
   reached i owner place c correct sender e =

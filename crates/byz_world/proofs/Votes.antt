@@ -1,5 +1,5 @@
 -- Votes and what was sent: a correct node's vote, wherever it was counted, is for what that node had sent.
-use Rattle.std.proofs.Common.{◌≡◌, ℕ, ◌<◌, Bool, true, false, ◌==◌, if◌then◌else◌, List, length, take, find, slice_get, option_map, Option, Some, None, refl, sym, ap, ◌∙◌, eqb-true, eq-eqb}
+use Rattle.std.proofs.Common.{◌≡◌, ℕ, ◌<◌, Bool, true, false, ◌==◌, if◌then◌else◌, List, length, take, find, slice_get, option_map, Option, Some, None, refl, sym, ap, ◌∙◌, eqb-true}
 use Rattle.std.specs.FinSet as sets
 use Rattle.std.proofs.lemmas.Bool.{and_parts}
 use Rattle.quorum_sizes.specs.Sizes.{Counts}
@@ -87,7 +87,7 @@ pub vote_before : (config : ConfigValue) (liars : Nodes) (run : Run) (m node own
 vote_before config liars run m node owner place takes cluster front kind name c e =
     let s = config.roles.sizes in
     let found : IsFound kind name takes c = vote_found kind name takes c e in
-    let t = found.0 in
+    let t : Take = found.0 in
     let from : IsTakenIn run m node owner place t =
     taken_in m run node owner place t (in_front takes _ t front found.1) in
     let sender : from.packet.from ≡ name = ap (λ x. x.from) from.message_is ∙ found.3 in
@@ -98,16 +98,16 @@ vote_before config liars run m node owner place takes cluster front kind name c 
       of_node = rw sender at route.1;
       sent = λ correct.
           sym (λ i. said_by s (take from.at run) (found.3 i) (found.2 i) owner place)
-          ∙ sent_before config liars run m node owner place t cluster from (ap (is_correct s liars) found.3 ∙ correct)
+          ∙ sent_before config liars run m node owner place t cluster from
+          (ap (is_correct s liars) found.3 ∙ correct)
           ∙ ap Some found.4;
     }
 
--- an ECHO is for what the owner issued at that place, if it is correct
-own_is : (b : Bool) (commands : List Command) (place : ℕ) (c : Command) → b ≡ true
-    → (if b then slice_get commands place else None) ≡ Some c →
-    slice_get commands place ≡ Some c
-own_is true commands place c is e = e
-own_is false commands place c is e = absurd cc
+-- an answer that is given under a test: the test holds, and that is the answer
+pub if_own : (b : Bool) (o : Option Command) (c : Command) → (if b then o else None) ≡ Some c
+    → (b ≡ true) × (o ≡ Some c)
+if_own true o c e = (refl, e)
+if_own false o c e = absurd cc
 
 send_by : (takes : List Take) (c : Command) (o : Option Take) → find (is_of_kind Send) takes ≡ o
     → option_map command_of o ≡ Some c →
@@ -122,6 +122,7 @@ send_found : (takes : List Take) (c : Command) → echoed takes ≡ Some c
 unfolding echoed
 send_found takes c e = send_by takes c _ refl e
 
+-- an ECHO is for what the owner issued at that place, if it is correct
 pub echo_was_issued : (config : ConfigValue) (liars : Nodes) (run : Run) (node owner place : ℕ) (c : Command) →
     IsClusterRun config liars run → is_correct config.roles.sizes liars owner ≡ true
     → echoed (taken_by run node owner place) ≡ Some c →
@@ -144,7 +145,7 @@ echo_was_issued config liars run node owner place c cluster correct e =
     ∙ sent_before config liars run (length run) node owner place t cluster from (ap (is_correct s liars) sender
     ∙ correct)
     ∙ ap Some found.3 in
-    own_is (owner == owner) _ place c (eq-eqb owner owner refl) (said_stays s from.at run owner Send owner place c sent)
+    (if_own (owner == owner) _ c (said_stays s from.at run owner Send owner place c sent)).1
 
 -- Supporters.
 

@@ -7,5 +7,7 @@ pub mod Resting
 pub mod Agreement
 pub mod Laws
 pub mod Inside
+pub mod Example
+pub mod Headline
 pub mod Fields
 pub mod Asking

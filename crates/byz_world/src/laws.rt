@@ -1,6 +1,8 @@
 //! The promises of the cluster, about every run of it.
 //!
 //! Each function's contract is its law, and its body is empty. `specs/Laws.antt` spells the laws out.
+ghost use Rattle.byz_world.specs.Example.{AnExample};
+ghost use Rattle.byz_world.specs.Headline.{Headline};
 ghost use Rattle.byz_world.specs.Laws.{Consistency, Integrity, SamePolicy, ReadyByAll, DeliveredByAll, IssuedReachesAll, AtRest};
 
 /// Correct nodes are ready for one command at a place of an owner's stream and deliver one there, and their streams
@@ -39,4 +41,15 @@ pub fn issued_reaches_all()
 /// node delivered, each did.
 pub fn law_at_rest()
     ensures { AtRest }
+{}
+
+/// There is a run of a cluster in which a node lies and two correct nodes deliver a command.
+pub fn an_example()
+    ensures { AnExample }
+{}
+
+/// For every list of steps, with no more liars than may lie: correct nodes decide as Core RBAC does over the streams
+/// that they delivered, these agree as far as they reach, and nothing in them is forged.
+pub fn law_headline()
+    ensures { Headline }
 {}

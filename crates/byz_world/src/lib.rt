@@ -12,7 +12,7 @@ mod step;
 mod world;
 
 pub use faults::WorldFault;
-pub use laws::{law_at_rest, law_consistency, law_integrity, law_same_policy};
+pub use laws::{law_at_rest, law_consistency, law_headline, law_integrity, law_same_policy};
 pub use step::{Step, StepReply};
 pub use world::World;
 
