@@ -1,4 +1,5 @@
 ghost use Rattle.std.specs.Prelude.{◌≡◌, ◌<◌, [], IfOk};
+ghost use Rattle.node_lock.specs.Inboxes.{IsPassTo};
 
 use super::*;
 use quorum_sizes::{NodeName, Sizes};
@@ -149,6 +150,29 @@ fn job(number: u32) -> Job {
     }
 }
 
+/// Finishes an inbox without one of its two passes, and then with it. The jobs that are left.
+fn finish_in_two<R: Wait>(
+    rt: &R,
+    alloc: Global,
+    inbox: Inbox,
+    pass: InboxPass,
+    kept: InboxPass,
+) -> Result<Vec<Job>, Fail>
+    requires pass { IsPassTo inbox pass }
+    requires kept { IsPassTo inbox kept }
+{
+    let mut one = Vec::new(alloc);
+    one.push(pass)?;
+    let Err(InboxFault::PassMissing { inbox, mut passes }) = inbox.finish(rt, alloc, one) else {
+        return Err("finished without a pass".into());
+    };
+    passes.push(kept)?;
+    let Ok(left) = inbox.finish(rt, alloc, passes) else {
+        return Err("not finished".into());
+    };
+    Ok(left)
+}
+
 #[test]
 fn an_inbox_gives_back_what_is_left(rt: HostRuntime) -> Result<(), Fail> {
     let alloc = rt.alloc();
@@ -156,18 +180,28 @@ fn an_inbox_gives_back_what_is_left(rt: HostRuntime) -> Result<(), Fail> {
     let Some(mut pass) = passes.pop() else {
         return Err("no pass".into());
     };
+    let Some(kept) = passes.pop() else {
+        return Err("no second pass".into());
+    };
     assert!(rt; inbox.put(&rt, &mut pass, job(0)).is_ok());
     assert!(rt; inbox.put(&rt, &mut pass, job(1)).is_ok());
     assert_eq!(rt; inbox.take(&rt, &mut pass), Some(job(0)));
-    let Err(InboxFault::PassMissing { inbox, mut passes }) = inbox.finish(&rt, alloc, passes) else {
-        return Err("finished without a pass".into());
-    };
-    passes.push(pass)?;
-    let Ok(left) = inbox.finish(&rt, alloc, passes) else {
-        return Err("not finished".into());
-    };
+    let left = finish_in_two(&rt, alloc, inbox, pass, kept)?;
     assert_eq!(rt; left.as_slice(), [job(1)].as_slice());
     Ok(())
+}
+
+/// Puts so many jobs into an inbox, and says whether it took them all.
+fn fill<R: Wait>(rt: &R, inbox: &Inbox, pass: &mut InboxPass, count: u32) -> bool
+    requires { IsPassTo inbox.now pass.old }
+    ensures { IsPassTo inbox.now pass.new }
+{
+    for number in 0..count {
+        if inbox.put(rt, pass, job(number)).is_err() {
+            return false;
+        }
+    }
+    true
 }
 
 #[test]
@@ -176,9 +210,7 @@ fn a_full_inbox_hands_the_job_back(rt: HostRuntime) -> Result<(), Fail> {
     let Some(mut pass) = passes.pop() else {
         return Err("no pass".into());
     };
-    for number in 0..1_024u32 {
-        assert!(rt; inbox.put(&rt, &mut pass, job(number)).is_ok());
-    }
+    assert!(rt; fill(&rt, &inbox, &mut pass, 1_024));
     assert_eq!(rt; inbox.put(&rt, &mut pass, job(1_024)), Err(job(1_024)));
     Ok(())
 }
