@@ -5,44 +5,55 @@ use Rattle.std.proofs.Math.Seq.{take-append-add}
 use Rattle.std.proofs.KnownBytes.{Consumes-trans, Consumes-kept}
 use Rattle.std.specs.Io.KnownBytes.{Consumes, Keeps}
 use borrow.Rule.Slice.PartMut.{put_mid, post_of}
-use Rattle.link_frames.specs.FrameReads.{GavePart, RoseBy}
-use Rattle.link_frames.specs.Watching.{one_more}
+use Rattle.link_frames.specs.FrameReads.{GavePart}
+use Rattle.link_frames.specs.Watching.{Tally, RoseBy, one_more}
 
 -- after so many reads that gave so many bytes
-pub record HasRead (before now : Option (List ℕ)) (old new reads have : ℕ) (frame : List ℕ) : Type 0 where
+pub record HasRead (before now : Option (List ℕ)) (old new : Tally) (reads have : ℕ) (frame : List ℕ) : Type 0 where
   pub len : length frame ≡ 52
   pub part : have < 52
   pub gave : Consumes before now (take have frame)
-  pub risen : RoseBy (reads - have) old new
-  pub few : new ≤ old + reads
+  pub risen : RoseBy (reads - have) old.faults new.faults
+  pub few : new.faults ≤ old.faults + reads
+  pub unbroken : new.breaks ≡ old.breaks
 
 -- a part of a frame was given, and then a read failed
-pub failed : {a b : Option (List ℕ)} {old new reads have : ℕ} {frame : List ℕ} (c : Option (List ℕ)) (last : ℕ)
-    → HasRead a b old new reads have frame → Keeps b c → last ≡ one_more new → GavePart a c × RoseBy 1 old last
-failed {have} {frame} c last h keeps count =
-    ((have, h.part, (take have frame, length-take-le have frame (omega arith), Consumes-kept _ _ _ _ h.gave keeps)), omega arith)
+pub failed : {a b : Option (List ℕ)} {old new : Tally} {reads have : ℕ} {frame : List ℕ} (c : Option (List ℕ))
+    (last : Tally)
+    → HasRead a b old new reads have frame → Keeps b c → last.faults ≡ one_more new.faults
+    → last.breaks ≡ one_more new.breaks
+    → GavePart a c × RoseBy 1 old.faults last.faults × (last.breaks ≡ one_more old.breaks)
+failed {have} {frame} c last h keeps faults breaks =
+    let len : length (take have frame) ≡ have = length-take-le have frame (omega (arith, h.len, h.part)) in
+    ((have, h.part, (take have frame, len, Consumes-kept _ _ _ _ h.gave keeps)), omega (arith, h.few), omega (arith, h.unbroken))
 
 -- a read was interrupted
-pub interrupted : {a b : Option (List ℕ)} {old new reads have : ℕ} {frame : List ℕ} (c : Option (List ℕ)) (last : ℕ) (after : List ℕ) → HasRead a b old new reads have frame → Keeps b c → last ≡ one_more new
-    → length after ≡ length frame → take have after ≡ take have frame → HasRead a c old last (reads + 1) have after
-interrupted c last after h keeps count len front = record {
-  len = omega arith;
+pub interrupted : {a b : Option (List ℕ)} {old new : Tally} {reads have : ℕ} {frame : List ℕ}
+    (c : Option (List ℕ)) (last : Tally) (after : List ℕ) → HasRead a b old new reads have frame → Keeps b c → last.faults ≡ one_more new.faults
+    → last.breaks ≡ new.breaks → length after ≡ length frame → take have after ≡ take have frame
+    → HasRead a c old last (reads + 1) have after
+interrupted c last after h keeps faults breaks len front = record {
+  len = omega (arith, h.len);
   part = h.part;
   gave = subst (Consumes _ _) (sym front) (Consumes-kept _ _ _ _ h.gave keeps);
-  risen = omega arith;
-  few = omega arith;
+  risen = omega (arith, h.risen, h.few);
+  few = omega (arith, h.few);
+  unbroken = breaks ∙ h.unbroken;
 }
 
 -- a read gave some bytes, and the frame is not whole
-pub gave_more : {a b : Option (List ℕ)} {old new reads have : ℕ} {frame : List ℕ} (c : Option (List ℕ)) (n last : ℕ) (after given : List ℕ) → HasRead a b old new reads have frame → Consumes b c given → last ≡ new
-    → 0 < n → have + n < 52 → length after ≡ length frame → take (have + n) after ≡ take have frame ++ given
+pub gave_more : {a b : Option (List ℕ)} {old new : Tally} {reads have : ℕ} {frame : List ℕ}
+    (c : Option (List ℕ)) (n : ℕ) (last : Tally) (after given : List ℕ) → HasRead a b old new reads have frame → Consumes b c given → last.faults ≡ new.faults
+    → last.breaks ≡ new.breaks → 0 < n → have + n < 52 → length after ≡ length frame
+    → take (have + n) after ≡ take have frame ++ given
     → HasRead a c old last (reads + 1) (have + n) after
-gave_more c n last after given h gave count some part len front = record {
-  len = omega arith;
+gave_more c n last after given h gave faults breaks some part len front = record {
+  len = omega (arith, h.len);
   part = part;
   gave = subst (Consumes _ _) (sym front) (Consumes-trans _ _ _ _ _ h.gave gave);
-  risen = omega arith;
-  few = omega arith;
+  risen = omega (arith, h.risen);
+  few = omega (arith, h.few);
+  unbroken = breaks ∙ h.unbroken;
 }
 
 -- the front of a buffer whose rest was read into

@@ -1,5 +1,16 @@
+pub mod Ending
+pub mod Exported
 pub mod FrameLaws
 pub mod FrameReadLemmas
+pub mod Fronts
+pub mod LineLemmas
+pub mod Onto
 pub mod OpeningLemmas
+pub mod Peeking
 pub mod PacketReading
+pub mod Passing
+pub mod Running
 pub mod SameTags
+pub mod TextLemmas
+pub mod Waiting
+pub mod Writing

@@ -1,18 +1,15 @@
 -- What reading one frame does: to the bytes that the reader has left, where those are known, and to the
--- count of its failed calls.
-use Rattle.std.specs.Prelude.{◌≡◌, ℕ, ◌+◌, ◌-◌, ◌^◌, ◌<◌, ◌≤◌, min, List, length, Option, Some, None, Result, Ok, Err}
+-- counts of its calls.
+use Rattle.std.specs.Prelude.{◌≡◌, ℕ, ◌+◌, ◌-◌, ◌<◌, List, length, Option, Some, None, Result, Ok, Err}
 use Rattle.std.specs.Io.KnownBytes.{Consumes, IsAtEnd}
 use Rattle.link_frames.specs.Layout.{frame_len}
+use Rattle.link_frames.specs.Watching.{Tally, RoseBy, one_more}
 use Rattle.link_frames.specs.declared.reading.ReadFault.{ReadFault}
 use Rattle.link_frames.specs.declared.reading.ReadFault.TheVariants.{Truncated, Device, TooManyTurns}
 
 -- the most reads for one frame
 abbrev pub most_reads : ℕ
 most_reads = 1024
-
--- a count has risen by k at least, or to its greatest value
-abbrev pub RoseBy : ℕ → ℕ → ℕ → Type 0
-RoseBy k old new = min (old + k) (2 ^ 64 - 1) ≤ new
 
 -- the reader has given so many bytes
 abbrev pub Gave : Option (List ℕ) → Option (List ℕ) → ℕ → Type 0
@@ -23,15 +20,21 @@ abbrev pub GavePart : Option (List ℕ) → Option (List ℕ) → Type 0
 GavePart before after = (k : ℕ) × (k < frame_len) × Gave before after k
 
 -- calls failed by interruptions alone, fewer than the reads
-abbrev pub WasInterrupted : ℕ → ℕ → Type 0
-WasInterrupted old new = RoseBy 0 old new × (new < old + most_reads)
+abbrev pub WasInterrupted : Tally → Tally → Type 0
+WasInterrupted old new =
+    RoseBy 0 old.faults new.faults × (new.faults < old.faults + most_reads) × (new.breaks ≡ old.breaks)
 
 -- a frame is the next bytes, and no more were taken; there is none where the reader ends before its first
--- byte, and it is truncated where the reader ends behind that. A device has failed where a call has. Of too
--- many reads each was interrupted or gave some bytes
-abbrev pub FrameRead : Option (List ℕ) → Option (List ℕ) → ℕ → ℕ → Result (Option (List ℕ)) ReadFault → Type 0
-FrameRead before after old new (Ok (Some frame)) = (length frame ≡ frame_len) × Consumes before after frame × WasInterrupted old new
+-- byte, and it is truncated where the reader ends behind that. A device has failed where a call has that was
+-- not interrupted. Of too many reads each was interrupted or gave some bytes
+abbrev pub FrameRead :
+    Option (List ℕ) → Option (List ℕ) → Tally → Tally → Result (Option (List ℕ)) ReadFault → Type 0
+FrameRead before after old new (Ok (Some frame)) =
+    (length frame ≡ frame_len) × Consumes before after frame × WasInterrupted old new
 FrameRead before after old new (Ok None) = IsAtEnd before × IsAtEnd after × WasInterrupted old new
-FrameRead before after old new (Err (Truncated k)) = (0 < k) × (k < frame_len) × Gave before after k × IsAtEnd after × WasInterrupted old new
-FrameRead before after old new (Err Device) = GavePart before after × RoseBy 1 old new
-FrameRead before after old new (Err TooManyTurns) = GavePart before after × RoseBy (most_reads - (frame_len - 1)) old new
+FrameRead before after old new (Err (Truncated k)) =
+    (0 < k) × (k < frame_len) × Gave before after k × IsAtEnd after × WasInterrupted old new
+FrameRead before after old new (Err Device) =
+    GavePart before after × RoseBy 1 old.faults new.faults × (new.breaks ≡ one_more old.breaks)
+FrameRead before after old new (Err TooManyTurns) =
+    GavePart before after × RoseBy (most_reads - (frame_len - 1)) old.faults new.faults × (new.breaks ≡ old.breaks)

@@ -1,3 +1,6 @@
+pub mod Aheads
+pub mod Blocks
+pub mod Devices
 pub mod FrameReads
 pub mod Frames
 pub mod Hmac
@@ -6,6 +9,9 @@ pub mod KeyRings
 pub mod Keys
 pub mod Laws
 pub mod Layout
+pub mod LinePrograms
+pub mod Lines
+pub mod Nexts
 pub mod Opening
 pub mod Packets
 pub mod Texts

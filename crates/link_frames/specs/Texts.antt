@@ -1,5 +1,7 @@
 -- How a fault is written: its code, a space and its name.
 use Rattle.std.specs.Prelude.{ℕ, List, codes}
+use Rattle.link_frames.specs.declared.blocks.AheadFault.{AheadFault}
+use Rattle.link_frames.specs.declared.blocks.AheadFault.TheVariants as aheads
 use Rattle.link_frames.specs.declared.keys.KeyFault.{KeyFault}
 use Rattle.link_frames.specs.declared.keys.KeyFault.TheVariants.{WrongCount, Memory}
 use Rattle.link_frames.specs.declared.opening.LinkFault.{LinkFault}
@@ -10,6 +12,10 @@ use Rattle.link_frames.specs.declared.reading.ReadFault.TheVariants.{Truncated, 
 abbrev pub key_fault_text : KeyFault → List ℕ
 key_fault_text WrongCount = codes "K1 WrongCount"
 key_fault_text Memory = codes "out of memory"
+
+abbrev pub ahead_fault_text : AheadFault → List ℕ
+ahead_fault_text aheads.Device = codes "device"
+ahead_fault_text aheads.Memory = codes "out of memory"
 
 abbrev pub read_fault_text : ReadFault → List ℕ
 read_fault_text (Truncated k) = codes "P1 Truncated"

@@ -1,22 +1,30 @@
 //! The messages of the broadcast, and the links that carry them.
 #![tactic(auto)]
 
+mod ahead;
+mod blocks;
+mod device;
 mod faulty;
 mod hmac;
 mod keys;
 mod kind;
 pub mod laws;
 mod layout;
+mod next;
 mod opening;
 mod packet;
 mod reading;
 mod sealing;
 mod watched;
 
+pub use ahead::Ahead;
+pub use blocks::AheadFault;
+pub use device::{DeviceFault, read_patiently, write_whole};
 pub use faulty::{Faulty, Mishap};
 pub use hmac::hmac_sha256;
 pub use keys::{KeyFault, PairKeys};
 pub use kind::Kind;
+pub use next::Next;
 pub use opening::{LinkFault, open_frame};
 pub use packet::{Message, Packet, Place};
 pub use reading::{ReadFault, read_frame};

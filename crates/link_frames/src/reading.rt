@@ -1,12 +1,12 @@
 ghost use Rattle.std.specs.Prelude.{◌≡◌};
 ghost use Rattle.link_frames.specs.FrameReads.{FrameRead};
-ghost use Rattle.link_frames.specs.Watching.{watched_inner, watched_faults};
+ghost use Rattle.link_frames.specs.Watching.{watched_inner, watched_tally};
 
 use crate::layout::FRAME_LEN;
-use crate::watched::Watched;
+use crate::watched::{Watched, is_interruption};
 use std::error::Error;
 use std::fmt;
-use std::io::{ErrorKind, Read};
+use std::io::Read;
 
 /// The most reads for one frame.
 const MOST_READS: u16 = 1024;
@@ -16,7 +16,7 @@ const MOST_READS: u16 = 1024;
 pub enum ReadFault {
     /// The reader ended after so many bytes of a frame.
     Truncated(u8),
-    /// A read failed.
+    /// A read failed, and was not only interrupted.
     Device,
     /// The reads gave too little, or were interrupted, too often.
     TooManyTurns,
@@ -46,7 +46,8 @@ impl Error for ReadFault {}
 ///
 /// The reader ends within the frame; a read fails; the frame is not whole after 1,024 reads.
 pub fn read_frame<R: Read>(reader: &mut Watched<R>) -> Result<Option<[u8; FRAME_LEN]>, ReadFault>
-    ensures { FrameRead (R.remaining (watched_inner reader.old)) (R.remaining (watched_inner reader.new)) (watched_faults reader.old) (watched_faults reader.new) result }
+    ensures { FrameRead (R.remaining (watched_inner reader.old)) (R.remaining (watched_inner reader.new))
+        (watched_tally reader.old) (watched_tally reader.new) result }
 {
     let mut frame = [0u8; FRAME_LEN];
     let mut have = 0;
@@ -60,7 +61,7 @@ pub fn read_frame<R: Read>(reader: &mut Watched<R>) -> Result<Option<[u8; FRAME_
                     return Ok(Some(frame));
                 }
             }
-            Err(e) if e.kind() == ErrorKind::Interrupted => {}
+            Err(error) if is_interruption(&error) => {}
             Err(_) => return Err(ReadFault::Device),
         }
     }

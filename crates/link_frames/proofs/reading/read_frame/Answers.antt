@@ -1,26 +1,37 @@
-use Rattle.std.proofs.Common.{◌≡◌, ◌+◌, ◌-◌, ◌<◌, ◌≤◌, length, drop, arith, le_refl, length-take, length-drop}
+use Rattle.std.proofs.Common.{◌≡◌, ◌+◌, ◌-◌, ◌<◌, ◌≤◌, length, drop, arith, sym, le_refl, length-take, length-drop}
 use Rattle.std.proofs.lemmas.Slice.{take-put_mid_below}
 use borrow.Rule.Slice.PartMut.{same_len_mid}
+use Rattle.link_frames.specs.Watching.{watched_tally}
 use Rattle.link_frames.proofs.FrameReadLemmas.{failed, interrupted, gave_more, front_read}
 use Rattle.link_frames.proofs.reading.read_frame.Goals as goal
 use Rattle.link_frames.proofs.reading.read_frame.Goals.{in-Ok+else-have-eq-FRAME_LEN, in-Err}
 
 pub returns-in-Err-2 : goal.returns-in-Err-2
-returns-in-Err-2 g c = failed _ _ c.loop.invariant c.in-Err-2.ensures.bytes c.in-Err-2.ensures.faults
+returns-in-Err-2 g c =
+    let broke = rw (sym c.if-is_interruption.ensures) at c.in-Err.ensures.breaks in
+    failed _ (watched_tally c.read.new.self) c.loop.invariant c.in-Err.ensures.bytes c.in-Err.ensures.faults broke
 
 pub loop-preserved : goal.loop-preserved
 loop-preserved g c =
     let so_far = c.loop.invariant in
     let have = c.loop.have in
-    let within : have ≤ length c.loop.frame = omega (arith, so_far.part, so_far.len) in
+    let frame = c.loop.frame in
+    let within : have ≤ length frame = omega (arith, so_far.part, so_far.len) in
     elim c.match-read.branch [
       | in-Ok+else-have-eq-FRAME_LEN w ↦
           let given = w.in-Ok.ensures in
           let n = w.in-Ok.n in
-          let room : length c.read.new.buf ≡ 52 - have = omega (arith, c.read.auto.buf, length-take (52 - have) (drop have c.loop.frame), length-drop have c.loop.frame, so_far.len) in
+          let room : length c.read.new.buf ≡ 52 - have =
+              omega (arith, c.read.auto.buf, length-take (52 - have) (drop have frame), length-drop have frame, so_far.len) in
           let some : 0 < n = omega (arith, w.in-Ok.n-test.1) in
-          let part : have + n < 52 = omega (arith, room, given.bound.0, so_far.part, w.if-have-eq-FRAME_LEN.false) in
+          let part : have + n < 52 =
+              omega (arith, room, given.bound.0, so_far.part, w.if-have-eq-FRAME_LEN.false) in
           let len = same_len_mid _ _ _ _ c.read.auto.buf in
-          rw w.have-is (gave_more _ n _ _ _ so_far given.bytes.0 given.faults some part len (front_read _ _ _ _ _ within given.bound.0))
-      | in-Err w ↦ rw w.have-is (interrupted _ _ _ so_far w.in-Err.ensures.bytes w.in-Err.ensures.faults (same_len_mid _ _ _ _ c.read.auto.buf) (take-put_mid_below _ _ _ _ _ (le_refl _) within))
+          let front = front_read _ _ _ _ _ within given.bound.0 in
+          rw w.have-is (gave_more _ n _ _ _ so_far given.bytes.0 given.faults given.breaks some part len front)
+      | in-Err w ↦
+          let again = rw (sym w.if-is_interruption.ensures) at w.in-Err.ensures.breaks in
+          let len = same_len_mid _ _ _ _ c.read.auto.buf in
+          let front = take-put_mid_below _ _ _ _ _ (le_refl _) within in
+          rw w.have-is (interrupted _ _ _ so_far w.in-Err.ensures.bytes w.in-Err.ensures.faults again len front)
     ]
