@@ -1,8 +1,9 @@
 //! What is true of scripts and of how they are written.
 
 ghost use Rattle.role_lab.specs.Spellings.{SizesAreRead, SizesAreSpelled, TakesAreRead, TakesAreSpelled};
-ghost use Rattle.role_lab.specs.Spellings.{ClustersAreRead, ClustersAreSpelled, RolesAreRead, RolesAreSpelled, OrdersAreRead, OrdersAreSpelled};
-ghost use Rattle.role_lab.specs.Laws.{FlushLeavesNone};
+ghost use Rattle.role_lab.specs.OrderSpellings.{ClustersAreRead, ClustersAreSpelled, SetupsAreRead, SetupsAreSpelled, OrdersAreRead, OrdersAreSpelled};
+ghost use Rattle.role_lab.specs.Rests.{RestsIsRest};
+ghost use Rattle.role_lab.specs.Laws.{StaysWithinLimit, FlushLeavesNone};
 
 /// A line of a script of one instance has one spelling, and reading and writing it undo each other.
 pub fn one_spelling()
@@ -16,13 +17,19 @@ pub fn one_spelling()
 pub fn one_spelling_of_orders()
     ensures clusters_read { ClustersAreRead }
     ensures clusters_spelled { ClustersAreSpelled }
-    ensures roles_read { RolesAreRead }
-    ensures roles_spelled { RolesAreSpelled }
+    ensures setups_read { SetupsAreRead }
+    ensures setups_spelled { SetupsAreSpelled }
     ensures orders_read { OrdersAreRead }
     ensures orders_spelled { OrdersAreSpelled }
 {}
 
-/// No packet waits once a flush is over.
+/// What a line `rest` tests is that the cluster is at rest.
+pub fn rests_is_rest()
+    ensures { RestsIsRest }
+{}
+
+/// No step takes the pool beyond its limit, and no packet waits once a flush is over.
 pub fn flush_leaves_none()
-    ensures { FlushLeavesNone }
+    ensures limit { StaysWithinLimit }
+    ensures none { FlushLeavesNone }
 {}

@@ -1,0 +1,154 @@
+//! A cluster as a script runs it: the world, and which packets of its pool were given.
+
+ghost use Rattle.std.specs.Prelude.{◌≡◌, false, IfOk, OnOk, string_bytes};
+ghost use Rattle.byz_world.specs.Steps.{step_due};
+ghost use Rattle.byz_world.specs.Worlds.{too_many_lie};
+ghost use Rattle.role_lab.specs.Labs.{lab_sizes, new_lab, after_doing, flush, after_order};
+ghost use Rattle.role_lab.specs.Inside.{IsWithinSizes};
+ghost use Rattle.role_lab.specs.OrderTexts as texts;
+
+use crate::given::Given;
+use crate::order_texts::{agreed_text, answer_text, reached_text, rest_text, step_reply_text};
+use crate::orders::Order;
+use byz_world::{Step, StepReply, World, WorldFault};
+use quorum_sizes::{NodeName, NodeSet, Sizes};
+use role_commands::RoleTable;
+use role_node::{Config, MOST_EVENTS, Question};
+use std::alloc::{AllocError, Global};
+
+/// The number of the cluster that a script makes.
+const CLUSTER: u32 = 1;
+
+/// A cluster, and the packets of its pool that were given.
+#[derive(Drop)]
+pub struct Lab {
+    world: World,
+    given: Given,
+}
+
+impl Lab {
+    ghost use Rattle.role_lab.specs.Inside.{lab_in};
+
+    /// The cluster of these roles and liars, before anything happens.
+    ///
+    /// # Errors
+    ///
+    /// Only for want of memory, as of the others here.
+    pub fn new(alloc: Global, roles: RoleTable, liars: NodeSet) -> Result<Lab, AllocError>
+        requires { too_many_lie roles.sizes liars ≡ false }
+        ensures { IfOk result (λ lab. lab_in lab ≡ new_lab roles liars) }
+    {
+        let config = Config::new(CLUSTER, roles, MOST_EVENTS).unwrap();
+        match World::new(alloc, config, liars) {
+            Ok(world) => Ok(Lab {
+                world,
+                given: Given::new(alloc),
+            }),
+            Err(_) => Err(AllocError),
+        }
+    }
+
+    /// How many nodes it has, and how many of them may lie.
+    pub fn sizes(&self) -> Sizes
+        ensures { result ≡ lab_sizes (lab_in self.now) }
+    {
+        self.world.sizes()
+    }
+
+    /// Does what a line asks. The text is what is due for the line.
+    #[tactic(auto, unfolding(crate::specs::OrderTexts::order_text))]
+    pub fn answer(&mut self, alloc: Global, order: Order) -> Result<String, AllocError>
+        requires { IsWithinSizes (lab_sizes (lab_in self.old)) order }
+        ensures text { IfOk result (λ text. string_bytes text ≡ texts.order_text (lab_in self.old) order) }
+        ensures after { OnOk result (lab_in self.new ≡ after_order (lab_in self.old) order) }
+    {
+        match order {
+            Order::Do(step) => self.step_text(alloc, step),
+            Order::Flush => {
+                let count = self.flush()?;
+                format!(in alloc; "flushed {count}")
+            }
+            Order::Rest => rest_text(alloc, self.world.at_rest()),
+            Order::Ask { node, question } => self.asked_text(alloc, node, question),
+            Order::Reach { node, owner } => self.reach_text(alloc, node, owner),
+            Order::Agree { one, other, owner } => {
+                agreed_text(alloc, self.world.agree(one, other, owner))
+            }
+        }
+    }
+
+    fn step_text(&mut self, alloc: Global, step: Step) -> Result<String, AllocError>
+        ensures text { IfOk result (λ text. string_bytes text ≡ texts.step_text (step_due self.old.world step)) }
+        ensures after { OnOk result (lab_in self.new ≡ after_doing (lab_in self.old) step) }
+    {
+        match self.take_step(step)? {
+            Ok(reply) => step_reply_text(alloc, &reply),
+            Err(fault) => format!(in alloc; "{fault}"),
+        }
+    }
+
+    /// Takes a step. The answer is the one that is due.
+    fn take_step(&mut self, step: Step) -> Result<Result<StepReply, WorldFault>, AllocError>
+        ensures due { IfOk result (λ answer. step_due self.old.world step ≡ answer) }
+        ensures after { OnOk result (lab_in self.new ≡ after_doing (lab_in self.old) step) }
+    {
+        let given = match step {
+            Step::Give { packet } if packet < self.world.sent_len() => Some(packet),
+            _ => None,
+        };
+        let answer = self.world.step(step);
+        if matches!(&answer, Err(WorldFault::Memory)) {
+            return Err(AllocError);
+        }
+        if let Some(number) = given {
+            self.given.mark(number)?;
+        }
+        Ok(answer)
+    }
+
+    /// Gives all packets that wait, those included that this sends. How many there were.
+    fn flush(&mut self) -> Result<u32, AllocError>
+        ensures count { IfOk result (λ count. count ≡ (flush (lab_in self.old)).count) }
+        ensures after { OnOk result (lab_in self.new ≡ (flush (lab_in self.old)).lab) }
+    {
+        let limit = self.world.config().limit();
+        for count in 0..limit {
+            let Some(packet) = self.given.next(self.world.sent_len()) else {
+                return Ok(count);
+            };
+            self.take_step(Step::Give { packet })?;
+        }
+        Ok(limit)
+    }
+
+    fn asked_text(
+        &mut self,
+        alloc: Global,
+        node: NodeName,
+        question: Question,
+    ) -> Result<String, AllocError>
+        ensures text { IfOk result (λ text. string_bytes text ≡ texts.asked_text self.old.world node question) }
+        ensures same { lab_in self.new ≡ lab_in self.old }
+    {
+        match self.world.ask(node, question) {
+            Ok(answer) => answer_text(alloc, &answer),
+            Err(WorldFault::Memory) => Err(AllocError),
+            Err(fault) => format!(in alloc; "{fault}"),
+        }
+    }
+
+    fn reach_text(
+        &self,
+        alloc: Global,
+        node: NodeName,
+        owner: NodeName,
+    ) -> Result<String, AllocError>
+        requires { IsWithinSizes (lab_sizes (lab_in self.now)) (Order.Reach node owner) }
+        ensures { IfOk result (λ text. string_bytes text ≡ texts.reach_text self.now.world node owner) }
+    {
+        match self.world.node(node) {
+            Some(node) => reached_text(alloc, node.reach(owner)),
+            None => format!(in alloc; "{}", WorldFault::NotCorrect),
+        }
+    }
+}
