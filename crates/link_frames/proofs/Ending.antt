@@ -69,7 +69,7 @@ module _ {S : Type 0} {next : S → List ℕ → Option (S × List ℕ)} {start 
       → WroteFront (λ input. text_by next start (lines_of input)) k a c
   Ended-front c (front, rest, is, wrote) =
       let all : text_by next start (lines_of end.input) ≡ (end.sent ++ front) ++ rest =
-          end.goes ∙ ap (λ l. end.sent ++ l) is ∙ sym (append_assoc end.sent front rest) in
+      end.goes ∙ ap (λ l. end.sent ++ l) is ∙ sym (append_assoc end.sent front rest) in
       (end.input, end.has, (end.sent ++ front, rest, all, Appends-trans a b c end.sent front end.wrote wrote))
 
 module _ {S : Type 0} {next : S → List ℕ → Option (S × List ℕ)} {start state : S} {k p a b : Option (List ℕ)} {held : List ℕ} {number : ℕ} (ran : Ran next start k p a b held state number) where
@@ -91,10 +91,10 @@ module _ {S : Type 0} {next : S → List ℕ → Option (S × List ℕ)} {start 
   last_at line text holds after none some has good grown =
       let last : lines_of line ≡ line ∷ [] = lines_of-last line none some in
       let due : text_by next state (lines_of line) ≡ ended text =
-          ap (text_by next state) last ∙ text_by-good next state after line text [] good
-          ∙ ap (λ l. ended text ++ l) (text_by-nil next after) ∙ append-nil (ended text) in
+      ap (text_by next state) last ∙ text_by-good next state after line text [] good
+      ∙ ap (λ l. ended text ++ l) (text_by-nil next after) ∙ append-nil (ended text) in
       let held_too : (ran.sent ++ held) ++ ended text ≡ ran.sent ++ holds =
-          append_assoc ran.sent held (ended text) ∙ ap (λ l. ran.sent ++ l) (sym grown) in record {
+      append_assoc ran.sent held (ended text) ∙ ap (λ l. ran.sent ++ l) (sym grown) in record {
         input = ran.done ++ line;
         sent = ran.sent;
         has = HasBytes-done k p ran.done line ran.read has;
@@ -109,9 +109,9 @@ module _ {S : Type 0} {next : S → List ℕ → Option (S × List ℕ)} {start 
       → next state line ≡ None → Ended next start k a b held (Some number)
   bad_at tail line lines has is bad =
       let silent : text_by next state (lines_of tail) ≡ [] =
-          ap (text_by next state) is ∙ text_by-bad next state line lines bad in
+      ap (text_by next state) is ∙ text_by-bad next state line lines bad in
       let first : bad_by next number state (lines_of tail) ≡ Some number =
-          ap (bad_by next number state) is ∙ bad_by-bad next number state line lines bad in
+      ap (bad_by next number state) is ∙ bad_by-bad next number state line lines bad in
       subst (λ (bad : Option ℕ). Ended next start k a b held bad) first (ended_at tail has silent)
 
   -- a front of what is held was written, whatever comes behind
@@ -121,7 +121,7 @@ module _ {S : Type 0} {next : S → List ℕ → Option (S × List ℕ)} {start 
       let (tail, has) = some_tail p in
       let more = text_by next state (lines_of tail) in
       let text : text_by next start (lines_of (ran.done ++ tail)) ≡ (ran.sent ++ front) ++ (rest ++ more) =
-          ran.goes tail ∙ rw is (simp append_assoc) in
+      ran.goes tail ∙ rw is (simp append_assoc) in
       let whole = Appends-trans a b c ran.sent front ran.wrote wrote in
       (ran.done ++ tail, HasBytes-done k p ran.done tail ran.read has, (ran.sent ++ front, rest ++ more, text, whole))
 
@@ -144,10 +144,10 @@ module _ {S : Type 0} {next : S → List ℕ → Option (S × List ℕ)} {start 
   pub Ran-end : front ≡ [] → IsAtEnd known → Ended next start k a b held None
   Ran-end none end =
       let has : HasBytes (prepend_known front known) [] =
-          subst (HasBytes (prepend_known front known)) none (tail_at_end known front end) in
+      subst (HasBytes (prepend_known front known)) none (tail_at_end known front end) in
       let silent : text_by next state (lines_of []) ≡ [] = ap (text_by next state) lines_of-nil ∙ text_by-nil next state in
       let good : bad_by next number state (lines_of []) ≡ None =
-          ap (bad_by next number state) lines_of-nil ∙ bad_by-nil next number state in
+      ap (bad_by next number state) lines_of-nil ∙ bad_by-nil next number state in
       subst (λ (bad : Option ℕ). Ended next start k a b held bad) good (ended_at ran [] has silent)
 
   -- a good last line is ahead, and what is due for it is held
@@ -165,8 +165,8 @@ module _ {S : Type 0} {next : S → List ℕ → Option (S × List ℕ)} {start 
       let line = take n front in
       let behind = drop (n + 1) front in
       let lines : lines_of (front ++ rest) ≡ line ∷ lines_of (behind ++ rest) =
-          ap (λ l. lines_of (l ++ rest)) is ∙ ap lines_of (append_assoc line (line_end ∷ behind) rest)
-          ∙ lines_of-line line (behind ++ rest) none in
+      ap (λ l. lines_of (l ++ rest)) is ∙ ap lines_of (append_assoc line (line_end ∷ behind) rest)
+      ∙ lines_of-line line (behind ++ rest) none in
       bad_at ran (front ++ rest) line _ has lines bad
 
   pub Ran-bad_last : (n : ℕ) (limit : ℕ) → Begins limit front (Last n) → IsAtEnd known → next state front ≡ None
@@ -184,7 +184,7 @@ module _ {S : Type 0} {next : S → List ℕ → Option (S × List ℕ)} {start 
       let whole : length cut ≡ limit + 1 = length-take-le (limit + 1) front (omega (arith, long)) in
       let begun = lines_of-begun cut (behind ++ rest) none (omega (arith, whole)) in
       let joined : front ++ rest ≡ cut ++ (behind ++ rest) =
-          ap (λ l. l ++ rest) (sym (take-append-drop (limit + 1) front)) ∙ append_assoc cut behind rest in
+      ap (λ l. l ++ rest) (sym (take-append-drop (limit + 1) front)) ∙ append_assoc cut behind rest in
       bad_at ran (front ++ rest) begun.line begun.lines has (ap lines_of joined ∙ begun.is)
       (bad begun.line (omega (arith, begun.long, whole)))
 

@@ -16,9 +16,9 @@ Onto-take {old} {n} blank resized filled buffer behind have room whole len fill 
     let all : take (have + room) old ≡ old = take_all (have + room) old (omega (arith, len)) in
     let filled_by : filled ≡ old ++ blank = shown ∙ fill ∙ ap (λ l. l ++ blank) all in
     let kept : take have filled ≡ old =
-        ap (take have) filled_by ∙ ap (λ m. take m (old ++ blank)) len ∙ take-append_seam old blank in
+    ap (take have) filled_by ∙ ap (λ m. take m (old ++ blank)) len ∙ take-append_seam old blank in
     let same : take whole (buffer ++ behind) ≡ buffer =
-        ap (λ m. take m (buffer ++ behind)) size ∙ take-append_seam buffer behind in
+    ap (λ m. take m (buffer ++ behind)) size ∙ take-append_seam buffer behind in
     record {
       given = take n (drop have buffer);
       counted = length-take-le n (drop have buffer) (omega (arith, within, length-drop have buffer));

@@ -47,7 +47,7 @@ starts_long : (front rest line : List ℕ) → front ≡ ended line ++ rest → 
     → limit < length line
 starts_long front rest line is limit (within, none) =
     let none' : NoLineEnd (take (limit + 1) (ended line ++ rest)) =
-        subst (λ (l : List ℕ). NoLineEnd (take (limit + 1) l)) is none in
+    subst (λ (l : List ℕ). NoLineEnd (take (limit + 1) l)) is none in
     let within' : limit < length (ended line ++ rest) = subst (λ (l : List ℕ). limit < length l) is within in
     let more = longer (limit + 1) line rest none' (omega (arith, within')) in
     omega (arith, more)

@@ -76,10 +76,10 @@ module _ {S : Type 0} {next : S → List ℕ → Option (S × List ℕ)} {start 
         goes = λ rest.
             let more = text_by next after (lines_of rest) in
             let line_due : text_by next state (lines_of (line ++ line_end ∷ rest)) ≡ ended text ++ more =
-                ap (text_by next state) (taken rest) ∙ text_by-good next state after line text (lines_of rest) good in
+            ap (text_by next state) (taken rest) ∙ text_by-good next state after line text (lines_of rest) good in
             let due : (ran.sent ++ held) ++ (ended text ++ more) ≡ (ran.sent ++ holds) ++ more =
-                sym (append_assoc (ran.sent ++ held) (ended text) more)
-                ∙ ap (λ l. l ++ more) (append_assoc ran.sent held (ended text) ∙ ap (λ l. ran.sent ++ l) (sym grown)) in
+            sym (append_assoc (ran.sent ++ held) (ended text) more)
+            ∙ ap (λ l. l ++ more) (append_assoc ran.sent held (ended text) ∙ ap (λ l. ran.sent ++ l) (sym grown)) in
             ap (λ l. text_by next start (lines_of l)) (regrouped rest) ∙ ran.goes (line ++ line_end ∷ rest)
             ∙ ap (λ l. (ran.sent ++ held) ++ l) line_due ∙ due;
         stops = λ rest.

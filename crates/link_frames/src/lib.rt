@@ -32,4 +32,6 @@ pub use sealing::seal;
 pub use watched::Watched;
 
 #[cfg(test)]
+mod device_tests;
+#[cfg(test)]
 mod tests;

@@ -1,6 +1,10 @@
-pub mod NumberLemmas
-pub mod WordLemmas
-pub mod SameLemmas
 pub mod ByteLemmas
-pub mod TableLemmas
 pub mod ByteReading
+pub mod Choosing
+pub mod Exported
+pub mod NumberLemmas
+pub mod PlainText
+pub mod SameLemmas
+pub mod Splitting
+pub mod TableLemmas
+pub mod WordLemmas

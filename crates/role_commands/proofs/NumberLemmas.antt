@@ -1,5 +1,5 @@
 -- A number has one spelling.
-use Rattle.std.proofs.Common.{◌≡◌, ◌≢◌, ℕ, ◌<◌, ◌≤◌, ◌^◌, Bool, true, false, ◌&&◌, if◌then◌else◌, nat_le, List, length, get_or, Some, None, Result, Ok, Err, sym, refl, ap, arith, rules, ◌∙◌, inl, inr}
+use Rattle.std.proofs.Common.{◌≡◌, ◌≢◌, ℕ, ◌<◌, ◌≤◌, ◌-◌, ◌^◌, Bool, true, false, ◌&&◌, if◌then◌else◌, nat_le, List, length, get_or, Some, None, Result, Ok, Err, sym, refl, ap, arith, rules, ◌∙◌, inl, inr}
 use Rattle.std.proofs.lemmas.Bool.Decides.{nat_tests}
 use Rattle.std.proofs.lemmas.Bool.{cases_lt}
 use Rattle.std.proofs.lemmas.Fmt.{decimal_is_IsNumeral, decimal-digits_value, first_decimal, digits_decimal, decimal_nonempty, length-decimal-le, parse-decimal}
@@ -8,7 +8,7 @@ use Rattle.std.proofs.lemmas.Str.Parse.{IsNumeralModel, numerals_by_value, tells
 use Rattle.std.specs.Fmt.{decimal}
 use Rattle.std.specs.Str.{bytes_eq}
 use Rattle.std.specs.Str.Parse.{AllDigits, digits_value, ParsesUnsigned}
-use Rattle.role_commands.specs.Numbers.{number_of, NumbersAreRead, NumbersAreSpelled}
+use Rattle.role_commands.specs.Numbers.{number_of, byte_number, narrow_number, wide_number, long_number, NumbersAreRead, NumbersAreSpelled}
 
 own : IsNumeralModel (AllDigits 10) (digits_value 10)
 own = numerals_by_value (AllDigits 10) tells_digits
@@ -34,6 +34,34 @@ number_of_spelled most n word e =
     let same : word ≡ decimal (digits_value 10 word) = (bytes_eq-Decides _ _).0 parts.0 in
     let fits : digits_value 10 word ≤ most = search (rules, nat_tests) in
     (same ∙ ap decimal parts.2, rw (← parts.2) fits)
+
+-- ---- numbers of 8, 16, 32 and 64 bits
+
+pub byte_read : (n : ℕ) → n < 2 ^ 8 → byte_number (decimal n) ≡ Some n
+byte_read n small = number_of-decimal (2 ^ 8 - 1) n (omega arith) (omega arith)
+
+pub narrow_read : (n : ℕ) → n < 2 ^ 16 → narrow_number (decimal n) ≡ Some n
+narrow_read n small = number_of-decimal (2 ^ 16 - 1) n (omega arith) (omega arith)
+
+pub wide_read : (n : ℕ) → n < 2 ^ 32 → wide_number (decimal n) ≡ Some n
+wide_read n small = number_of-decimal (2 ^ 32 - 1) n (omega arith) (omega arith)
+
+pub long_read : (n : ℕ) → n < 2 ^ 64 → long_number (decimal n) ≡ Some n
+long_read n small = number_of-decimal (2 ^ 64 - 1) n (omega arith) (omega arith)
+
+pub byte_spelled : (n : ℕ) (word : List ℕ) → byte_number word ≡ Some n → (word ≡ decimal n) × (n < 2 ^ 8)
+byte_spelled n word e = let s = number_of_spelled (2 ^ 8 - 1) n word e in (s.0, omega arith)
+
+pub narrow_spelled : (n : ℕ) (word : List ℕ) → narrow_number word ≡ Some n → (word ≡ decimal n) × (n < 2 ^ 16)
+narrow_spelled n word e = let s = number_of_spelled (2 ^ 16 - 1) n word e in (s.0, omega arith)
+
+pub wide_spelled : (n : ℕ) (word : List ℕ) → wide_number word ≡ Some n → (word ≡ decimal n) × (n < 2 ^ 32)
+wide_spelled n word e = let s = number_of_spelled (2 ^ 32 - 1) n word e in (s.0, omega arith)
+
+pub long_spelled : (n : ℕ) (word : List ℕ) → long_number word ≡ Some n → (word ≡ decimal n) × (n < 2 ^ 64)
+long_spelled n word e = let s = number_of_spelled (2 ^ 64 - 1) n word e in (s.0, omega arith)
+
+-- ---- words that are no number
 
 -- a word that is written for no number up to the limit is read as none
 pub number_of_none : (most : ℕ) (word : List ℕ) → ((n : ℕ) → n ≤ most → word ≡ decimal n → ⊥) → number_of most word ≡ None

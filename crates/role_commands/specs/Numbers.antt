@@ -1,6 +1,6 @@
 -- Words and numbers in a line of text: words have one space between them, and a number is written in
 -- decimal digits, with no sign and no zero in front, save `0` itself.
-use Rattle.std.specs.Prelude.{◌≡◌, ℕ, ◌≤◌, ◌<◌, ◌^◌, Bool, ◌==◌, ◌&&◌, nat_lt, nat_le, if◌then◌else◌, List, length, Option, Some, None}
+use Rattle.std.specs.Prelude.{◌≡◌, ℕ, ◌≤◌, ◌<◌, ◌-◌, ◌^◌, Bool, ◌==◌, ◌&&◌, nat_lt, nat_le, if◌then◌else◌, List, length, Option, Some, None}
 use Rattle.std.specs.List.{position_or_len, before_first, after_first}
 use Rattle.std.specs.Fmt.{decimal}
 use Rattle.std.specs.Str.{bytes_eq}
@@ -21,6 +21,22 @@ unfoldable pub number_of : ℕ → List ℕ → Option ℕ
 number_of most word =
     let n = digits_value 10 word in
     if bytes_eq word (decimal n) && nat_le n most then Some n else None
+
+-- numbers of 8, 16, 32 and 64 bits
+
+abbrev pub byte_number : List ℕ → Option ℕ
+byte_number = number_of (2 ^ 8 - 1)
+
+abbrev pub narrow_number : List ℕ → Option ℕ
+narrow_number = number_of (2 ^ 16 - 1)
+
+abbrev pub wide_number : List ℕ → Option ℕ
+wide_number = number_of (2 ^ 32 - 1)
+
+abbrev pub long_number : List ℕ → Option ℕ
+long_number = number_of (2 ^ 64 - 1)
+
+-- ---- what reading and writing a number are to each other
 
 -- a number that is written is read
 abbrev pub NumbersAreRead : Type 0

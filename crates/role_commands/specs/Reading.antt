@@ -1,18 +1,13 @@
 -- Which command a text is, if it is one: its first word names the kind, and behind it stand exactly the
 -- kind's numbers, each within its field. `one_spelling` says that this is the command with this spelling.
-use Rattle.std.specs.Prelude.{ℕ, ◌^◌, ◌-◌, List, if◌then◌else◌, codes, Option, None, option_and_then, option_map}
+use Rattle.std.specs.Prelude.{ℕ, List, if◌then◌else◌, codes, Option, None, option_and_then, option_map}
 use Rattle.std.specs.Str.{bytes_eq}
-use Rattle.role_commands.specs.Numbers.{split_word, number_of}
+use Rattle.role_commands.specs.Numbers.{split_word}
 use Rattle.role_commands.specs.declared.command.Command.{Command}
 use Rattle.role_commands.specs.declared.command.Command.TheVariants.{Assign, Deassign, Grant, Revoke}
 
--- users and objects have 32 bits
-abbrev pub wide_number : List ℕ → Option ℕ
-wide_number = number_of (2 ^ 32 - 1)
-
--- roles and operations have 16 bits
-abbrev pub narrow_number : List ℕ → Option ℕ
-narrow_number = number_of (2 ^ 16 - 1)
+-- users and objects have 32 bits, roles and operations have 16
+pub use Rattle.role_commands.specs.Numbers.{wide_number, narrow_number}
 
 -- a user and a role
 unfoldable pub user_and_role : List ℕ → Option (ℕ × ℕ)

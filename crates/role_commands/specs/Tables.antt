@@ -1,5 +1,6 @@
 -- A role table: the sizes of a cluster, and the one owner of each role.
-use Rattle.std.specs.Prelude.{◌≡◌, ℕ, ◌<◌, ◌≤◌, List, length, IfSome, refl}
+use Rattle.std.specs.Prelude.{◌≡◌, ℕ, ◌<◌, ◌≤◌, Bool, false, ◌==◌, List, length, IfSome, refl}
+use Rattle.std.specs.Option.{option_map_or}
 use Rattle.std.specs.Coded.{Coded, code_by, coded×, coded_ℕ}
 use Rattle.std.specs.FinMap as map
 use Rattle.std.specs.FinMap.{FinMap}
@@ -23,7 +24,12 @@ most_roles = 1024
 
 -- each owner is a node, and there are not too many roles
 abbrev pub IsTable : Table → Type 0
-IsTable t = ((role : ℕ) → IfSome (map.get t.owners role) (λ owner. owner < t.sizes.nodes)) × (map.len t.owners ≤ most_roles)
+IsTable t =
+    ((role : ℕ) → IfSome (map.get t.owners role) (λ owner. owner < t.sizes.nodes)) × (map.len t.owners ≤ most_roles)
+
+-- the table has the role, with this node as its owner
+abbrev pub owns : Table → ℕ → ℕ → Bool
+owns t node role = option_map_or (λ owner. owner == node) (map.get t.owners role) false
 
 -- the table with no roles
 abbrev pub no_roles : Counts → Table
@@ -39,4 +45,5 @@ table_of sizes entries = record { sizes = sizes; owners = map.from_entries entri
 
 -- the entries are a table's, one for each role
 abbrev pub AreEntries : Counts → List (ℕ × ℕ) → Type 0
-AreEntries sizes entries = IsTable (table_of sizes entries) × (map.len (table_of sizes entries).owners ≡ length entries)
+AreEntries sizes entries =
+    IsTable (table_of sizes entries) × (map.len (table_of sizes entries).owners ≡ length entries)

@@ -1,6 +1,6 @@
 ghost use Rattle.std.specs.Prelude.{◌≡◌, ◌<◌, IfSome, IfOk, OnOk, OnErr};
 ghost use Rattle.std.specs.FinMap as map;
-ghost use Rattle.role_commands.specs.Tables.{IsTable, no_roles, with_role};
+ghost use Rattle.role_commands.specs.Tables.{IsTable, owns, no_roles, with_role};
 ghost use Rattle.role_commands.specs.TableFaults.{add_due, AnswersDue};
 
 use quorum_sizes::{NodeName, Sizes};
@@ -108,6 +108,17 @@ impl RoleTable {
         ensures table { IsTable self.now }
     {
         self.owners.get(&role).copied()
+    }
+
+    /// Whether the table has the role, with this node as its owner.
+    pub fn is_owned_by(&self, role: u16, node: NodeName) -> bool
+        ensures value { result ≡ owns self.now node role }
+        ensures table { IsTable self.now }
+    {
+        match self.owner(role) {
+            Some(owner) => owner == node,
+            None => false,
+        }
     }
 
     /// The sizes of the cluster.

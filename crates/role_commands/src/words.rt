@@ -1,11 +1,10 @@
-ghost use Rattle.std.specs.Prelude.{◌≡◌, IfOk, IfSome, Some, option_map, string_bytes};
+ghost use Rattle.std.specs.Prelude.{◌≡◌, IfOk, IfSome, Some, string_bytes};
 ghost use Rattle.role_commands.specs.Words.{spelling, IsCommand};
-ghost use Rattle.role_commands.specs.Numbers.{split_word};
 ghost use Rattle.role_commands.specs.Reading as reading;
 ghost use Rattle.role_commands.specs.Reading.{command_of};
 
 use crate::command::Command;
-use crate::numbers::parse_number;
+use crate::numbers::{narrow_number, split_word, wide_number};
 use std::alloc::{AllocError, Global};
 
 /// The command as its name and its numbers, with one space between the words.
@@ -97,25 +96,4 @@ fn operation_and_object(text: &str) -> Option<(u16, u32)>
 {
     let (operation, object) = split_word(text)?;
     Some((narrow_number(operation)?, wide_number(object)?))
-}
-
-fn wide_number(word: &str) -> Option<u32>
-    ensures { result ≡ reading.wide_number word.now }
-{
-    let number = parse_number(word, u64::from(u32::MAX))?;
-    Some(number as u32)
-}
-
-fn narrow_number(word: &str) -> Option<u16>
-    ensures { result ≡ reading.narrow_number word.now }
-{
-    let number = parse_number(word, u64::from(u16::MAX))?;
-    Some(number as u16)
-}
-
-// What stands before the first space and what stands behind it.
-fn split_word(text: &str) -> Option<(&str, &str)>
-    ensures { split_word text.now ≡ option_map (λ words. (words.0.now, words.1.now)) result }
-{
-    text.split_once(' ')
 }

@@ -22,10 +22,10 @@ loop-preserved g c =
           let given = w.in-Ok.ensures in
           let n = w.in-Ok.n in
           let room : length c.read.new.buf ≡ 52 - have =
-              omega (arith, c.read.auto.buf, length-take (52 - have) (drop have frame), length-drop have frame, so_far.len) in
+          omega (arith, c.read.auto.buf, length-take (52 - have) (drop have frame), length-drop have frame, so_far.len) in
           let some : 0 < n = omega (arith, w.in-Ok.n-test.1) in
           let part : have + n < 52 =
-              omega (arith, room, given.bound.0, so_far.part, w.if-have-eq-FRAME_LEN.false) in
+          omega (arith, room, given.bound.0, so_far.part, w.if-have-eq-FRAME_LEN.false) in
           let len = same_len_mid _ _ _ _ c.read.auto.buf in
           let front = front_read _ _ _ _ _ within given.bound.0 in
           rw w.have-is (gave_more _ n _ _ _ so_far given.bytes.0 given.faults given.breaks some part len front)
