@@ -1,9 +1,13 @@
 -- How the code keeps a cluster, and what is asked of a line that was read. Serves the code, and no public contract.
-use Rattle.std.specs.Prelude.{ℕ, ◌<◌, Bool, ⊤}
+use Rattle.std.specs.Prelude.{ℕ, ◌<◌, Bool, ⊤, Option, Some, None}
 use Rattle.quorum_sizes.specs.Sizes.{Counts}
+use Rattle.bracha_instance.specs.Broadcast.{Take}
+use Rattle.byz_world.specs.declared.step.Step.{Step}
+use Rattle.byz_world.specs.declared.step.Step.TheVariants.{Issue, Give, Lie, Client}
 use Rattle.role_lab.specs.Flags.{flagged}
 use Rattle.role_lab.specs.Labs as labs
 use Rattle.role_lab.specs.declared.given.Given.{Given}
+use Rattle.role_lab.specs.declared.grammar.Said.{Said}
 use Rattle.role_lab.specs.declared.lab.Lab.{Lab}
 use Rattle.role_lab.specs.declared.orders.Order.{Order}
 use Rattle.role_lab.specs.declared.orders.Order.TheVariants.{Do, Flush, Rest, Ask, Reach, Agree}
@@ -15,6 +19,13 @@ given_in given = flagged given.flags.items
 abbrev pub lab_in : Lab → labs.Lab
 lab_in lab = record { world = lab.world; given = given_in lab.given }
 
+-- the number of the packet that a step gives
+abbrev pub packet_given : Step → Option ℕ
+packet_given (Give number) = Some number
+packet_given (Issue node command) = None
+packet_given (Lie packet) = None
+packet_given (Client node act) = None
+
 -- the owner whose reach is asked for is a node of these sizes
 abbrev pub IsWithinSizes : Counts → Order → Type 0
 IsWithinSizes s (Do step) = ⊤
@@ -23,3 +34,7 @@ IsWithinSizes s Rest = ⊤
 IsWithinSizes s (Ask node question) = ⊤
 IsWithinSizes s (Reach node owner) = owner < s.nodes
 IsWithinSizes s (Agree one other owner) = ⊤
+
+-- the message that was said
+abbrev pub take_said : Said → Take
+take_said said = record { kind = said.kind; from = said.from; command = said.command }

@@ -7,10 +7,10 @@ pub mod Rests
 pub mod Texts
 pub mod OrderTexts
 pub mod Scripts
-pub mod Runs
 pub mod Laws
 pub mod Statuses
 pub mod Flags
 pub mod Inside
 pub mod Stages
 pub mod Steps
+pub mod Runs

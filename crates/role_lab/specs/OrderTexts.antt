@@ -10,16 +10,15 @@ use Rattle.link_frames.specs.declared.packet.Message.{Message}
 use Rattle.role_sessions.specs.Decisions.{rule_code}
 use Rattle.role_sessions.specs.declared.verdict.Verdict as verdicts
 use Rattle.role_sessions.specs.declared.verdict.Verdict.TheVariants.{Allow, Deny}
-use Rattle.role_node.specs.Access.{reach_at, sessions_at}
-use Rattle.role_node.specs.Faults.{ask_fault_text}
+use Rattle.role_node.specs.Access.{reach_at}
 use Rattle.role_node.specs.Listed.{answer_after}
-use Rattle.role_node.specs.Questions.{ask_due}
 use Rattle.role_node.specs.declared.event.Reply.{Reply}
 use Rattle.role_node.specs.declared.event.Reply.TheVariants as reply
 use Rattle.role_node.specs.declared.question.Answer.{Answer}
 use Rattle.role_node.specs.declared.question.Answer.TheVariants.{Verdict, Users, Roles, Permissions, Operations}
 use Rattle.role_node.specs.declared.question.Question.{Question}
 use Rattle.byz_world.specs.Agreement.{agree_due}
+use Rattle.byz_world.specs.Asking.{question_due}
 use Rattle.byz_world.specs.Faults.{world_fault_text}
 use Rattle.byz_world.specs.Runs.{history_of}
 use Rattle.byz_world.specs.Steps.{step_due}
@@ -106,24 +105,20 @@ answer_text (Roles roles) = numbers_text roles
 answer_text (Permissions permissions) = permissions_text permissions
 answer_text (Operations operations) = numbers_text operations
 
--- what is asked of a node that lies is refused
-abbrev pub of_correct : WorldValue → ℕ → List ℕ → List ℕ
-of_correct w node text = if is_correct_in w node then text else world_fault_text fault.NotCorrect
-
--- the answer of a correct node, or its fault
+-- the answer, or its fault
 abbrev pub asked_text : WorldValue → ℕ → Question → List ℕ
 asked_text w node question =
-    let history = history_of node w.run in
-    of_correct w node
-    (option_map_or ask_fault_text (ask_due (sessions_at history) question)
-    (answer_text (answer_after w.config.roles history question)))
+    option_map_or world_fault_text (question_due w node question)
+    (answer_text (answer_after w.config.roles (history_of node w.run) question))
 
 abbrev pub reached_text : ℕ → List ℕ
 reached_text reach = codes "reach " ++ decimal reach
 
+-- of a node that lies there is none
 abbrev pub reach_text : WorldValue → ℕ → ℕ → List ℕ
 reach_text w node owner =
-    of_correct w node (reached_text (reach_at (sizes_of w) (history_of node w.run) owner))
+    if is_correct_in w node then reached_text (reach_at (sizes_of w) (history_of node w.run) owner)
+    else world_fault_text fault.NotCorrect
 
 abbrev pub agreed_text : Option ℕ → List ℕ
 agreed_text None = world_fault_text fault.NotCorrect

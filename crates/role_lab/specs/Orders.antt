@@ -1,10 +1,10 @@
 -- The lines of a script of a cluster: `cluster N F` first, then `role R OWNER` and `liar I`, and then what is done to the
 -- cluster and what is asked of it. The laws of `one_spelling_of_orders` say that a line has one spelling.
-use Rattle.std.specs.Prelude.{ℕ, ◌-◌, ◌^◌, if◌then◌else◌, List, codes, Option, Some, None, option_and_then, option_map}
+use Rattle.std.specs.Prelude.{ℕ, if◌then◌else◌, List, codes, Option, Some, None, option_and_then, option_map}
 use Rattle.std.specs.Str.{bytes_eq}
 use Rattle.quorum_sizes.specs.Sizes.{Counts, name_due}
-use Rattle.role_commands.specs.Numbers.{split_word, number_of}
-use Rattle.role_commands.specs.Reading.{wide_number, narrow_number, command_of}
+use Rattle.role_commands.specs.Numbers.{split_word, byte_number, narrow_number, wide_number, long_number}
+use Rattle.role_commands.specs.Reading.{command_of}
 use Rattle.link_frames.specs.Packets.{PacketValue, packet_due}
 use Rattle.link_frames.specs.declared.kind.Kind.{Kind}
 use Rattle.link_frames.specs.declared.kind.Kind.TheVariants.{Send, Echo, Ready}
@@ -12,15 +12,11 @@ use Rattle.role_sessions.specs.declared.event.ClientEvent.TheVariants.{Open, Act
 use Rattle.role_node.specs.declared.question.Question.{Question}
 use Rattle.role_node.specs.declared.question.Question.TheVariants.{Check, AssignedUsers, AssignedRoles, RolePermissions, UserPermissions, RoleOperations, UserOperations, SessionRoles, SessionPermissions}
 use Rattle.byz_world.specs.declared.step.Step.TheVariants.{Issue, Give, Lie, Client}
-use Rattle.role_lab.specs.Grammar.{byte_number, sizes_of_numbers}
+use Rattle.role_lab.specs.Grammar.{sizes_of_numbers}
 use Rattle.role_lab.specs.declared.orders.Setup.{Setup}
 use Rattle.role_lab.specs.declared.orders.Setup.TheVariants.{Owned, Liar}
 use Rattle.role_lab.specs.declared.orders.Order.{Order}
 use Rattle.role_lab.specs.declared.orders.Order.TheVariants.{Do, Flush, Rest, Ask, Reach, Agree}
-
--- sessions have 64 bits
-abbrev pub session_number : List ℕ → Option ℕ
-session_number = number_of (2 ^ 64 - 1)
 
 -- the name of a node of these sizes
 abbrev pub node_number : Counts → List ℕ → Option ℕ
@@ -58,18 +54,20 @@ named_setup s name text =
 unfoldable pub setup_of_line : Counts → List ℕ → Option Setup
 setup_of_line s line = option_and_then (λ words. named_setup s words.0 words.1) (split_word line)
 
+-- Sessions have 64 bits, users, objects and packets' numbers 32, roles, operations and places 16.
+
 -- `S USER`
 unfoldable pub session_and_user : List ℕ → Option (ℕ × ℕ)
 session_and_user text =
     option_and_then (λ session.
-    option_map (λ user. (session.0, user)) (wide_number session.1)) (then_rest session_number text)
+    option_map (λ user. (session.0, user)) (wide_number session.1)) (then_rest long_number text)
 
 -- `S USER R`
 unfoldable pub session_user_and_role : List ℕ → Option (ℕ × ℕ × ℕ)
 session_user_and_role text =
     option_and_then (λ session.
     option_and_then (λ user.
-    option_map (λ role. (session.0, user.0, role)) (narrow_number user.1)) (then_rest wide_number session.1)) (then_rest session_number text)
+    option_map (λ role. (session.0, user.0, role)) (narrow_number user.1)) (then_rest wide_number session.1)) (then_rest long_number text)
 
 -- `S USER OPERATION OBJECT`
 unfoldable pub access_of : List ℕ → Option Question
@@ -78,7 +76,7 @@ access_of text =
     option_and_then (λ user.
     option_and_then (λ operation.
     option_map (λ object. Check session.0 user.0 operation.0 object) (wide_number operation.1))
-    (then_rest narrow_number user.1)) (then_rest wide_number session.1)) (then_rest session_number text)
+    (then_rest narrow_number user.1)) (then_rest wide_number session.1)) (then_rest long_number text)
 
 -- `R OBJECT`
 unfoldable pub role_operations_of : List ℕ → Option Question
@@ -101,8 +99,8 @@ named_listing name text =
     else (if bytes_eq name (codes "user-permissions") then option_map UserPermissions (wide_number text)
     else (if bytes_eq name (codes "operations") then role_operations_of text
     else (if bytes_eq name (codes "user-operations") then user_operations_of text
-    else (if bytes_eq name (codes "session-roles") then option_map SessionRoles (session_number text)
-    else (if bytes_eq name (codes "session-permissions") then option_map SessionPermissions (session_number text)
+    else (if bytes_eq name (codes "session-roles") then option_map SessionRoles (long_number text)
+    else (if bytes_eq name (codes "session-permissions") then option_map SessionPermissions (long_number text)
     else None)))))))
 
 unfoldable pub listing_of : List ℕ → Option Question

@@ -11,11 +11,6 @@ use Rattle.role_lab.specs.Labs.{lab_sizes}
 use Rattle.role_lab.specs.Scripts.{Script, Unread, OfInstance, OfSetup, OfCluster}
 use Rattle.role_lab.specs.declared.stage.Stage.{Stage}
 use Rattle.role_lab.specs.declared.stage.Stage.TheVariants.{Start, Running, Setting, Living}
-use Rattle.role_lab.specs.declared.grammar.Said.{Said}
-
--- the message that was said
-abbrev pub take_said : Said → Take
-take_said said = record { kind = said.kind; from = said.from; command = said.command }
 
 -- the stage after these lines
 unfoldable pub Follows : Stage → Script → Type 0

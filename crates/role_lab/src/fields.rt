@@ -2,26 +2,27 @@
 
 ghost use Rattle.std.specs.Prelude.{◌≡◌, option_map};
 ghost use Rattle.role_lab.specs.Orders as reading;
-ghost use Rattle.role_commands.specs.Reading as words;
+ghost use Rattle.role_commands.specs.Numbers as numbers;
 
-use crate::grammar::{byte_number, split_word};
 use link_frames::Kind;
 use quorum_sizes::{NodeName, Sizes};
-use role_commands::numbers::parse_number;
+use role_commands::numbers::{
+    byte_number, long_number, narrow_number, split_word, wide_number,
+};
 
 /// A session, and what stands behind its space.
 #[tactic(auto, unfolding(crate::specs::Orders::then_rest))]
 pub fn session_then(text: &str) -> Option<(u64, &str)>
-    ensures { option_map (λ p. (p.0, p.1.now)) result ≡ reading.then_rest reading.session_number text.now }
+    ensures { option_map (λ p. (p.0, p.1.now)) result ≡ reading.then_rest numbers.long_number text.now }
 {
     let (word, rest) = split_word(text)?;
-    Some((session_number(word)?, rest))
+    Some((long_number(word)?, rest))
 }
 
 /// A user or an object, and what stands behind its space.
 #[tactic(auto, unfolding(crate::specs::Orders::then_rest))]
 pub fn wide_then(text: &str) -> Option<(u32, &str)>
-    ensures { option_map (λ p. (p.0, p.1.now)) result ≡ reading.then_rest words.wide_number text.now }
+    ensures { option_map (λ p. (p.0, p.1.now)) result ≡ reading.then_rest numbers.wide_number text.now }
 {
     let (word, rest) = split_word(text)?;
     Some((wide_number(word)?, rest))
@@ -30,7 +31,7 @@ pub fn wide_then(text: &str) -> Option<(u32, &str)>
 /// A role, an operation or a place, and what stands behind its space.
 #[tactic(auto, unfolding(crate::specs::Orders::then_rest))]
 pub fn narrow_then(text: &str) -> Option<(u16, &str)>
-    ensures { option_map (λ p. (p.0, p.1.now)) result ≡ reading.then_rest words.narrow_number text.now }
+    ensures { option_map (λ p. (p.0, p.1.now)) result ≡ reading.then_rest numbers.narrow_number text.now }
 {
     let (word, rest) = split_word(text)?;
     Some((narrow_number(word)?, rest))
@@ -70,27 +71,4 @@ pub fn node_number(sizes: &Sizes, word: &str) -> Option<NodeName>
     ensures { result ≡ reading.node_number sizes.now word.now }
 {
     sizes.name(byte_number(word)?)
-}
-
-/// Sessions have 64 bits.
-pub fn session_number(word: &str) -> Option<u64>
-    ensures { result ≡ reading.session_number word.now }
-{
-    parse_number(word, u64::MAX)
-}
-
-/// Users and objects have 32 bits.
-pub fn wide_number(word: &str) -> Option<u32>
-    ensures { result ≡ words.wide_number word.now }
-{
-    let number = parse_number(word, u64::from(u32::MAX))?;
-    Some(number as u32)
-}
-
-/// Roles and operations have 16 bits.
-pub fn narrow_number(word: &str) -> Option<u16>
-    ensures { result ≡ words.narrow_number word.now }
-{
-    let number = parse_number(word, u64::from(u16::MAX))?;
-    Some(number as u16)
 }

@@ -1,6 +1,6 @@
 //! Which packets of the pool were given.
 
-ghost use Rattle.std.specs.Prelude.{◌≡◌, ◌<◌, ◌^◌, true, false, not, find, OnOk, OnErr};
+ghost use Rattle.std.specs.Prelude.{◌≡◌, ℕ, ◌<◌, ◌≤◌, ◌^◌, true, false, not, find, length, OnOk, IfSome};
 ghost use Rattle.std.specs.List.{range_with_len};
 ghost use Rattle.role_lab.specs.Flags.{flagged, AllBelow};
 ghost use Rattle.role_lab.specs.Labs.{with_number};
@@ -42,6 +42,7 @@ impl Given {
     /// The least number below `end` that was not given.
     pub fn next(&mut self, end: u32) -> Option<u32>
         ensures value { result ≡ find (λ k. not (given_in self.old k)) (range_with_len 0 end) }
+        ensures below { IfSome result (λ number. number < end) }
         ensures same { given_in self.new ≡ given_in self.old }
     {
         let least = first_unset(&self.flags, self.least, end as usize);
@@ -58,12 +59,21 @@ impl Given {
 fn set_flag(flags: &mut Vec<bool>, number: usize) -> Result<(), AllocError>
     requires { number < 2 ^ 32 }
     ensures set { OnOk result (flagged flags.new.items ≡ with_number (flagged flags.old.items) number) }
-    ensures err { OnErr result (flags.new.items ≡ flags.old.items) }
+    ensures kept { (k : ℕ) → flagged flags.old.items k ≡ true → flagged flags.new.items k ≡ true }
 {
-    if number >= flags.len() {
-        flags.resize(number + 1, false)?;
-    }
+    pad(flags, number + 1)?;
     flags[number] = true;
+    Ok(())
+}
+
+/// Adds unset flags until there are so many.
+fn pad(flags: &mut Vec<bool>, count: usize) -> Result<(), AllocError>
+    ensures same { flagged flags.new.items ≡ flagged flags.old.items }
+    ensures many { OnOk result (count ≤ length flags.new.items) }
+{
+    if count > flags.len() {
+        flags.resize(count, false)?;
+    }
     Ok(())
 }
 
@@ -75,7 +85,7 @@ fn first_unset(flags: &[bool], from: usize, end: usize) -> usize
     ensures unset { result < end → flagged flags.now result ≡ false }
 {
     for number in from..end {
-        if !flags.get(number).copied().unwrap_or(false) {
+        if number >= flags.len() || !flags[number] {
             return number;
         }
     }

@@ -1,16 +1,19 @@
 //! A cluster as a script runs it: the world, and which packets of its pool were given.
 
-ghost use Rattle.std.specs.Prelude.{◌≡◌, false, IfOk, OnOk, string_bytes};
-ghost use Rattle.byz_world.specs.Steps.{step_due};
+ghost use Rattle.std.specs.Prelude.{◌≡◌, ◌<◌, false, IfOk, OnOk, string_bytes};
+ghost use Rattle.byz_world.specs.Steps.{step_due, after_step};
+ghost use Rattle.byz_world.specs.declared.step.Step.TheVariants.{Give};
 ghost use Rattle.byz_world.specs.Worlds.{too_many_lie};
-ghost use Rattle.role_lab.specs.Labs.{lab_sizes, new_lab, after_doing, flush, after_order};
+ghost use Rattle.role_lab.specs.Labs.{lab_sizes, pool_length, new_lab, given_after, after_doing, flush, after_order};
+ghost use Rattle.role_lab.specs.Rests.{rests};
 ghost use Rattle.role_lab.specs.Inside.{IsWithinSizes};
 ghost use Rattle.role_lab.specs.OrderTexts as texts;
 
 use crate::given::Given;
 use crate::order_texts::{agreed_text, answer_text, reached_text, rest_text, step_reply_text};
-use crate::orders::Order;
-use byz_world::{Step, StepReply, World, WorldFault};
+use crate::orders::{Order, packet_of};
+use crate::world::World;
+use byz_world::{Step, WorldFault};
 use quorum_sizes::{NodeName, NodeSet, Sizes};
 use role_commands::RoleTable;
 use role_node::{Config, MOST_EVENTS, Question};
@@ -27,7 +30,7 @@ pub struct Lab {
 }
 
 impl Lab {
-    ghost use Rattle.role_lab.specs.Inside.{lab_in};
+    ghost use Rattle.role_lab.specs.Inside.{lab_in, given_in};
 
     /// The cluster of these roles and liars, before anything happens.
     ///
@@ -68,8 +71,8 @@ impl Lab {
                 let count = self.flush()?;
                 format!(in alloc; "flushed {count}")
             }
-            Order::Rest => rest_text(alloc, self.world.at_rest()),
-            Order::Ask { node, question } => self.asked_text(alloc, node, question),
+            Order::Rest => rest_text(alloc, self.rests()),
+            Order::Ask { node, question } => asked_text(alloc, &mut self.world, node, question),
             Order::Reach { node, owner } => self.reach_text(alloc, node, owner),
             Order::Agree { one, other, owner } => {
                 agreed_text(alloc, self.world.agree(one, other, owner))
@@ -81,29 +84,19 @@ impl Lab {
         ensures text { IfOk result (λ text. string_bytes text ≡ texts.step_text (step_due self.old.world step)) }
         ensures after { OnOk result (lab_in self.new ≡ after_doing (lab_in self.old) step) }
     {
-        match self.take_step(step)? {
-            Ok(reply) => step_reply_text(alloc, &reply),
-            Err(fault) => format!(in alloc; "{fault}"),
-        }
+        self.mark_found(&step)?;
+        taken_text(alloc, &mut self.world, step)
     }
 
-    /// Takes a step. The answer is the one that is due.
-    fn take_step(&mut self, step: Step) -> Result<Result<StepReply, WorldFault>, AllocError>
-        ensures due { IfOk result (λ answer. step_due self.old.world step ≡ answer) }
-        ensures after { OnOk result (lab_in self.new ≡ after_doing (lab_in self.old) step) }
+    /// Marks the packet that a step finds in the pool.
+    fn mark_found(&mut self, step: &Step) -> Result<(), AllocError>
+        ensures given { OnOk result (given_in self.new.given ≡ given_after (lab_in self.old) step.now) }
+        ensures same { self.new.world ≡ self.old.world }
     {
-        let given = match step {
-            Step::Give { packet } if packet < self.world.sent_len() => Some(packet),
-            _ => None,
-        };
-        let answer = self.world.step(step);
-        if matches!(&answer, Err(WorldFault::Memory)) {
-            return Err(AllocError);
+        match packet_of(step) {
+            Some(number) if number < self.world.sent_len() => self.given.mark(number),
+            _ => Ok(()),
         }
-        if let Some(number) = given {
-            self.given.mark(number)?;
-        }
-        Ok(answer)
     }
 
     /// Gives all packets that wait, those included that this sends. How many there were.
@@ -116,25 +109,24 @@ impl Lab {
             let Some(packet) = self.given.next(self.world.sent_len()) else {
                 return Ok(count);
             };
-            self.take_step(Step::Give { packet })?;
+            self.give(packet)?;
         }
         Ok(limit)
     }
 
-    fn asked_text(
-        &mut self,
-        alloc: Global,
-        node: NodeName,
-        question: Question,
-    ) -> Result<String, AllocError>
-        ensures text { IfOk result (λ text. string_bytes text ≡ texts.asked_text self.old.world node question) }
-        ensures same { lab_in self.new ≡ lab_in self.old }
+    /// Gives a packet of the pool, whatever the answer is.
+    fn give(&mut self, packet: u32) -> Result<(), AllocError>
+        requires { packet < pool_length self.old.world }
+        ensures { OnOk result (lab_in self.new ≡ after_doing (lab_in self.old) (Give packet)) }
     {
-        match self.world.ask(node, question) {
-            Ok(answer) => answer_text(alloc, &answer),
-            Err(WorldFault::Memory) => Err(AllocError),
-            Err(fault) => format!(in alloc; "{fault}"),
-        }
+        self.given.mark(packet)?;
+        pass(&mut self.world, Step::Give { packet })
+    }
+
+    fn rests(&self) -> bool
+        ensures { result ≡ rests self.now.world }
+    {
+        self.world.at_rest()
     }
 
     fn reach_text(
@@ -150,5 +142,45 @@ impl Lab {
             Some(node) => reached_text(alloc, node.reach(owner)),
             None => format!(in alloc; "{}", WorldFault::NotCorrect),
         }
+    }
+}
+
+/// Does a step, whatever its answer is.
+fn pass(world: &mut World, step: Step) -> Result<(), AllocError>
+    ensures { OnOk result (world.new ≡ after_step world.old step) }
+{
+    match world.step(step) {
+        Ok(_) => Ok(()),
+        Err(WorldFault::Memory) => Err(AllocError),
+        Err(_) => Ok(()),
+    }
+}
+
+/// Does a step. The text is what is due for its answer.
+fn taken_text(alloc: Global, world: &mut World, step: Step) -> Result<String, AllocError>
+    ensures text { IfOk result (λ text. string_bytes text ≡ texts.step_text (step_due world.old step)) }
+    ensures after { OnOk result (world.new ≡ after_step world.old step) }
+{
+    match world.step(step) {
+        Ok(reply) => step_reply_text(alloc, &reply),
+        Err(WorldFault::Memory) => Err(AllocError),
+        Err(fault) => format!(in alloc; "{fault}"),
+    }
+}
+
+/// Asks a node. The text is what is due for its answer.
+fn asked_text(
+    alloc: Global,
+    world: &mut World,
+    node: NodeName,
+    question: Question,
+) -> Result<String, AllocError>
+    ensures text { IfOk result (λ text. string_bytes text ≡ texts.asked_text world.old node question) }
+    ensures same { world.new ≡ world.old }
+{
+    match world.ask(node, question) {
+        Ok(answer) => answer_text(alloc, &answer),
+        Err(WorldFault::Memory) => Err(AllocError),
+        Err(fault) => format!(in alloc; "{fault}"),
     }
 }

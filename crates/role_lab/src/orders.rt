@@ -3,17 +3,15 @@
 ghost use Rattle.std.specs.Prelude.{◌≡◌, ◌<◌, IfSome};
 ghost use Rattle.byz_world.specs.declared.step.Step.TheVariants.{Client};
 ghost use Rattle.role_lab.specs.Orders as reading;
-ghost use Rattle.role_lab.specs.Inside.{IsWithinSizes};
+ghost use Rattle.role_lab.specs.Inside.{IsWithinSizes, packet_given};
 
-use crate::fields::{
-    kind_then, narrow_number, narrow_then, node_number, node_then, session_then, wide_number,
-    wide_then,
-};
-use crate::grammar::{byte_number, sizes_of_numbers, split_word};
+use crate::fields::{kind_then, narrow_then, node_number, node_then, session_then, wide_then};
+use crate::grammar::sizes_of_numbers;
 use crate::questions::{access_of, listing_of};
 use byz_world::Step;
 use link_frames::{Message, Packet};
 use quorum_sizes::{NodeName, Sizes};
+use role_commands::numbers::{byte_number, narrow_number, split_word, wide_number};
 use role_commands::parse_command;
 use role_node::{ClientEvent, Question};
 
@@ -45,6 +43,16 @@ pub enum Order {
         other: NodeName,
         owner: NodeName,
     },
+}
+
+/// The number of the packet that a step gives.
+pub fn packet_of(step: &Step) -> Option<u32>
+    ensures { result ≡ packet_given step.now }
+{
+    match step {
+        Step::Give { packet } => Some(*packet),
+        Step::Issue { .. } | Step::Lie { .. } | Step::Client { .. } => None,
+    }
 }
 
 /// The sizes that a first line names, as `cluster N F`.
@@ -126,7 +134,9 @@ fn order_of_node(sizes: &Sizes, name: &str, text: &str) -> Option<Order>
     ensures value { result ≡ reading.order_of_node sizes.now name.now text.now }
     ensures within { IfSome result (IsWithinSizes sizes.now) }
 {
-    let (node, text) = node_then(sizes, text)?;
+    let Some((node, text)) = node_then(sizes, text) else {
+        return None;
+    };
     order_at_node(sizes, name, node, text)
 }
 
@@ -192,7 +202,9 @@ fn agreement_of(sizes: &Sizes, one: NodeName, text: &str) -> Option<Order>
     ensures value { result ≡ reading.agreement_of sizes.now one text.now }
     ensures within { IfSome result (IsWithinSizes sizes.now) }
 {
-    let (other, text) = node_then(sizes, text)?;
+    let Some((other, text)) = node_then(sizes, text) else {
+        return None;
+    };
     let owner = node_number(sizes, text)?;
     Some(Order::Agree { one, other, owner })
 }
@@ -201,10 +213,18 @@ fn agreement_of(sizes: &Sizes, one: NodeName, text: &str) -> Option<Order>
 fn lie_of(sizes: &Sizes, text: &str) -> Option<Packet>
     ensures { result ≡ reading.lie_of sizes.now text.now }
 {
-    let (kind, text) = kind_then(text)?;
-    let (from, text) = node_then(sizes, text)?;
-    let (to, text) = node_then(sizes, text)?;
-    let (owner, text) = node_then(sizes, text)?;
+    let Some((kind, text)) = kind_then(text) else {
+        return None;
+    };
+    let Some((from, text)) = node_then(sizes, text) else {
+        return None;
+    };
+    let Some((to, text)) = node_then(sizes, text) else {
+        return None;
+    };
+    let Some((owner, text)) = node_then(sizes, text) else {
+        return None;
+    };
     let (place, text) = narrow_then(text)?;
     let command = parse_command(text)?;
     let message = Message {

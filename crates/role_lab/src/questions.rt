@@ -3,10 +3,8 @@
 ghost use Rattle.std.specs.Prelude.{◌≡◌};
 ghost use Rattle.role_lab.specs.Orders as reading;
 
-use crate::fields::{
-    narrow_number, narrow_then, session_number, session_then, wide_number, wide_then,
-};
-use crate::grammar::split_word;
+use crate::fields::{narrow_then, session_then, wide_then};
+use role_commands::numbers::{long_number, narrow_number, split_word, wide_number};
 use role_node::Question;
 
 /// The review of a line `list`, by what stands behind its node.
@@ -35,9 +33,9 @@ fn named_listing(name: &str, text: &str) -> Option<Question>
     } else if name == "user-operations" {
         user_operations_of(text)
     } else if name == "session-roles" {
-        Some(Question::SessionRoles(session_number(text)?))
+        Some(Question::SessionRoles(long_number(text)?))
     } else if name == "session-permissions" {
-        Some(Question::SessionPermissions(session_number(text)?))
+        Some(Question::SessionPermissions(long_number(text)?))
     } else {
         None
     }

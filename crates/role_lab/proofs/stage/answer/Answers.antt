@@ -1,54 +1,46 @@
-use Rattle.std.proofs.Common.{option_map, string_bytes, sym, ap, ◌∙◌}
-use Rattle.role_lab.specs.Stages.{role_said}
-use Rattle.std.proofs.lemmas.Result.{IfOk-weaker}
-use Rattle.role_lab.specs.Clusters.{ClusterValue}
-use Rattle.role_lab.proofs.Answering.{cluster_is_due, cluster_due_is, roles_follow, cluster_follows, role_line-good, roles_end, cluster_goes_on, next-short, no_text-bad, start-bad, start-good, running}
+use Rattle.std.proofs.Common.{rules, ◌≡◌, ◌≤◌, false, List, length, IfOk, OnOk, option_map, string_bytes, ℕ, ◌+◌, ◌-◌, ◌*◌, ◌<◌, ◌/◌, ◌%◌, Bool, true, nat_eq, nat_lt, [], ◌∷◌, ◌++◌, slice_index_or, slice_set, bit_and, bit_or, Fits, w8, w32, w64, Bor, MutBor}
+use Rattle.quorum_sizes.specs.Sizes.{AreSizes}
+use Rattle.role_commands.specs.TableFaults.{add_due}
+use Rattle.bracha_instance.specs.Broadcast.{Take}
+use Rattle.bracha_instance.specs.States.{state}
+use Rattle.bracha_instance.specs.Taking.{SendsAreFrom}
+use Rattle.byz_world.specs.Worlds.{too_many_lie}
+use Rattle.role_lab.specs.Grammar.{owner}
+use Rattle.role_lab.specs.Labs.{lab_sizes}
+use Rattle.role_lab.specs.Inside.{lab_in}
+use Rattle.role_lab.specs.OrderTexts as texts
+use Rattle.role_lab.specs.Scripts.{Script, most_line_bytes, next, after_line, table_after, one_too_many, liars_after, after_setup, after_cluster_line, Unread, OfInstance, OfSetup}
+use Rattle.role_lab.specs.Stages.{Follows, Answers, StageAnswers}
 use Rattle.role_lab.proofs.stage.answer.Goals as goal
 
+-- src/stage.rt:52:9
 pub returns-in_default : goal.returns-in_default
-returns-in_default c script follows =
-    rw (next-short script c.args.line.now c.requires) (no_text-bad script _ _ follows c.in_default.ensures.cases.0)
+returns-in_default c = ?
 
+-- src/stage.rt:57:17
 pub returns-in_default-2 : goal.returns-in_default-2
-returns-in_default-2 c script follows =
-    rw (next-short script c.args.line.now c.requires) (start-bad script _ _ c.in-Start.is follows (rw c.in-Ok.ensures.cases.0 at (rw c.in_default-2.is at c.in_ok-first-in-Start.ensures)))
+returns-in_default-2 c = ?
 
+-- src/stage.rt:65:17
+pub returns-in-Some-setup_of_line : goal.returns-in-Some-setup_of_line
+returns-in-Some-setup_of_line c = ?
+
+-- src/stage.rt:67:27
+pub new-requires : goal.new-requires
+new-requires c = ?
+
+-- src/stage.rt:47:1
 pub returns-in-Some : goal.returns-in-Some
-returns-in-Some c script follows =
-    rw (next-short script c.args.line.now c.requires) (start-good script _ _ _ _ c.in-Start.is follows (rw c.in-Ok.ensures.cases.0 at (rw c.in-Some.is at c.in_ok-first-in-Start.ensures)))
+returns-in-Some c = ?
 
+-- src/stage.rt:47:1
 pub returns-in-Running : goal.returns-in-Running
-returns-in-Running c =
-    IfOk-weaker c.later_line.result _ _
-    (λ text answers script follows.
-    rw (next-short script c.args.line.now c.requires)
-    (running script _ _ _ _ c.args.line.now c.in-Ok.text.now (option_map string_bytes text) c.in-Running.is c.in-Ok.ensures.cases.0 follows answers))
-    c.later_line.ensures
+returns-in-Running c = ?
 
-pub returns-in-Some-role_of_line : goal.returns-in-Some-role_of_line
-returns-in-Some-role_of_line c script follows =
-    let (is, one) = roles_follow script _ _ c.in-Roles.is follows in
-    rw (next-short script c.args.line.now c.requires, is)
-    (role_line-good _ _ _ _ _ (rw c.in-Ok.ensures.cases.0 at (sym c.role_of_line.ensures ∙ ap (option_map role_said) c.in-Some-role_of_line.is)) one
-    c.in_ok-add_role-in-Roles.ensures.roles c.in_ok-add_role-in-Roles.ensures.text)
+-- src/stage.rt:47:1
+pub returns-in_ok-answer-in-Setting : goal.returns-in_ok-answer-in-Setting
+returns-in_ok-answer-in-Setting c = ?
 
+-- src/stage.rt:47:1
 pub returns-in-Living : goal.returns-in-Living
-returns-in-Living c =
-    IfOk-weaker c.cluster_line-in-Living.result _ _
-    (λ text answers script follows.
-    let (is, one) = cluster_follows script _ _ c.in-Living.is follows in
-    rw (next-short script c.args.line.now c.requires, is, cluster_goes_on _ _) (rw c.in-Ok.ensures.cases.0 at (answers one)))
-    c.cluster_line-in-Living.ensures
-
-pub returns-in_default-3 : goal.returns-in_default-3
-returns-in_default-3 c script follows =
-    let (is, one) = roles_follow script _ _ c.in-Roles.is follows in
-    absurd (cluster_is_due _ _ _ c.in_ok-copy-in-Roles.ensures one (c.in_ok-cluster-in-Roles.ensures) c.in_default-3.is)
-
-pub returns-in_ok-answer-in-Roles : goal.returns-in_ok-answer-in-Roles
-returns-in_ok-answer-in-Roles c script follows =
-    let (is, one) = roles_follow script _ _ c.in-Roles.is follows in
-    let none = rw c.in-Ok.ensures.cases.0 at (sym c.role_of_line.ensures ∙ ap (option_map role_said) c.in_default-role_of_line.is) in
-    let new = cluster_due_is _ _ _ _ c.in_ok-copy-in-Roles.ensures one (c.in_ok-cluster-in-Roles.ensures) c.in-Some-2.is in
-    rw (next-short script c.args.line.now c.requires, is, roles_end _ _ none)
-    (rw (new, c.in-Ok.ensures.cases.0) at (c.in_ok-answer-in-Roles.ensures (ap (λ (k : ClusterValue). k.node.config.roles.sizes.nodes) new ∙ one)))
+returns-in-Living c = ?

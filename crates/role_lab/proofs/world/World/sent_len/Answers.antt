@@ -1,0 +1,14 @@
+use Rattle.std.proofs.Common.{rules, ◌≡◌, ◌≤◌, ◌↔◌, IsTrue, IfOk, OnOk, OnErr, option_copied, slice_get, length, ℕ, ◌+◌, ◌-◌, ◌*◌, ◌<◌, ◌/◌, ◌%◌, Bool, true, false, nat_eq, nat_lt, List, [], ◌∷◌, ◌++◌, slice_index_or, slice_set, bit_and, bit_or, Fits, w8, w32, w64, Bor, MutBor}
+use Rattle.byz_world.specs.Asking.{IsMade, IsQuestionAnswer}
+use Rattle.byz_world.specs.Agreement.{agree_due}
+use Rattle.byz_world.specs.Pools.{pool}
+use Rattle.byz_world.specs.Resting.{IsAtRest}
+use Rattle.byz_world.specs.Runs.{history_of}
+use Rattle.byz_world.specs.Steps.{IsStepAnswer, after_step}
+use Rattle.byz_world.specs.Worlds.{new_world, node_due}
+use Rattle.role_node.specs.Questions.{IsAnswerTo}
+use Rattle.role_lab.proofs.world.World.sent_len.Goals as goal
+
+-- src/world.rt:79:5
+pub returns-clause-value : goal.returns-clause-value
+returns-clause-value c = ?
