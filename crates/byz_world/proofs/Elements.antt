@@ -24,6 +24,11 @@ at_front [] ys k x e = absurd cc
 at_front (y ∷ xs) ys zero x e = e
 at_front (y ∷ xs) ys (suc k) x e = at_front xs ys k x e
 
+pub before_seam : {A : Type 0} (xs ys : List A) (k : ℕ) → k < length xs → slice_get (xs ++ ys) k ≡ slice_get xs k
+before_seam [] ys k h = absurd (omega (arith, h))
+before_seam (x ∷ xs) ys zero h = refl
+before_seam (x ∷ xs) ys (suc k) h = before_seam xs ys k (omega (arith, h))
+
 -- what stands right behind a list
 pub at_seam : {A : Type 0} (xs ys : List A) (y : A) → slice_get (xs ++ y ∷ ys) (length xs) ≡ Some y
 at_seam [] ys y = refl

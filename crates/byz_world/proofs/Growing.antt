@@ -1,5 +1,5 @@
 -- A cluster run stays one when a correct node records an event that is true of the links.
-use Rattle.std.proofs.Common.{◌≡◌, ℕ, ◌<◌, ◌≤◌, ◌⊎◌, inl, inr, ⊎_elim, Bool, true, false, ◌==◌, List, [], ◌∷◌, ◌++◌, length, take, Option, Some, None, refl, sym, ap, ◌∙◌, subst, arith}
+use Rattle.std.proofs.Common.{◌≡◌, ℕ, ◌<◌, ◌≤◌, ⊎_elim, Bool, true, false, ◌==◌, List, [], ◌∷◌, ◌++◌, length, take, Some, refl, sym, ap, ◌∙◌, subst, arith}
 use Rattle.std.specs.Prelude.{IsTrue, slice_get}
 use Rattle.std.proofs.Math.Seq.{take-append_seam}
 use Rattle.std.proofs.lemmas.List.{take-append-le}
@@ -7,12 +7,13 @@ use Rattle.std.proofs.lemmas.Map.Views.{exact_unsigned_eq}
 use Rattle.std.specs.FinSet as sets
 use Rattle.quorum_sizes.specs.Sizes.{AreSizes}
 use Rattle.quorum_sizes.specs.NodeSets.{Nodes, nodes_among}
-use Rattle.link_frames.specs.Packets.{PacketValue, SentByOwner, message_of}
+use Rattle.link_frames.specs.Packets.{message_of}
 use Rattle.role_node.specs.Answers.{answer_due, is_recorded, IsLegal}
 use Rattle.role_node.specs.Configs.{ConfigValue}
 use Rattle.role_node.specs.declared.event.Event.{Event}
 use Rattle.role_node.specs.declared.event.Event.TheVariants.{Take}
-use Rattle.byz_world.specs.Runs.{Run, history_of, is_correct, has_sent, LinksAreTrue, SendsAreByOwners, IsClusterRun}
+use Rattle.byz_world.specs.Runs.{Run, history_of, is_correct, has_sent, IsClusterRun}
+use Rattle.byz_world.specs.Inside.{MayFollow}
 use Rattle.byz_world.proofs.Elements.{at_push}
 use Rattle.byz_world.proofs.Pushing.{history_of-none, history_of-push, history_of-push_other}
 
@@ -43,13 +44,6 @@ legal_by config run at e node true own legal recorded =
     subst (IsLegal config node) (sym (history_of-push node e run)) (legal_push config node (history_of node run) e legal (subst P same recorded)) in
     let Q : ℕ → Type 0 = λ n. IsLegal config node (history_of node (run ++ (n, e) ∷ [])) in
     subst Q (sym same) now
-
--- what an event needs of a run to be its next
-pub record MayFollow (config : ConfigValue) (liars : Nodes) (run : Run) (at : ℕ) (e : Event) : Type 0 where
-  pub correct : IsTrue (is_correct config.roles.sizes liars at)
-  pub sends : (p : PacketValue) → e ≡ Take p → SentByOwner p
-  pub links : (p : PacketValue) → e ≡ Take p → IsTrue (is_correct config.roles.sizes liars p.from) →
-      IsTrue (has_sent config.roles.sizes run p.from (message_of p))
 
 pub cluster_run_push : (config : ConfigValue) (liars : Nodes) (run : Run) (at : ℕ) (e : Event) → IsClusterRun config liars run →
     MayFollow config liars run at e → is_recorded (answer_due config at (history_of at run) e) ≡ true →

@@ -31,11 +31,11 @@ use Rattle.byz_world.proofs.Pushing.{history_of-append, history_of-none, history
 
 -- A message was sent where its command is the one that was sent there.
 
-is_for_some : (c : Command) (o : Option Command) → is_for c o ≡ true → o ≡ Some c
+pub is_for_some : (c : Command) (o : Option Command) → is_for c o ≡ true → o ≡ Some c
 is_for_some c None e = absurd cc
 is_for_some c (Some d) e = ap Some (sym (bracha.same_command-true c d e))
 
-some_is_for : (c : Command) (o : Option Command) → o ≡ Some c → is_for c o ≡ true
+pub some_is_for : (c : Command) (o : Option Command) → o ≡ Some c → is_for c o ≡ true
 some_is_for c o e = ap (is_for c) e ∙ bracha.same_command-refl c
 
 pub has_sent_is : (s : Counts) (run : Run) (node : ℕ) (m : Message) → IsTrue (has_sent s run node m) →
@@ -207,7 +207,7 @@ sender_is_correct config liars run sent is c =
 
 -- A packet to each node.
 
-name_at : (nodes k : ℕ) → k < nodes → slice_get (range_with_len 0 nodes) k ≡ Some k
+pub name_at : (nodes k : ℕ) → k < nodes → slice_get (range_with_len 0 nodes) k ≡ Some k
 name_at nodes k h =
     slice_get-get_or (range_with_len 0 nodes) k 0 (omega (arith, length-range_with_len 0 nodes, h))
     ∙ ap Some (get_or-range_with_len 0 nodes k 0 h ∙ zero_more k)
@@ -216,7 +216,7 @@ name_at nodes k h =
     zero_more k = omega arith
 
 -- packet k of a message's is to node k
-number_in : (nodes : ℕ) (sent : Sent) (k : ℕ) (p : PacketValue) → slice_get (packets_of nodes sent) k ≡ Some p →
+pub number_in : (nodes : ℕ) (sent : Sent) (k : ℕ) (p : PacketValue) → slice_get (packets_of nodes sent) k ≡ Some p →
     (k < nodes) × (packet_of sent.0 k sent.1 ≡ p)
 number_in nodes sent k p at =
     let within : k < nodes =
@@ -226,7 +226,7 @@ number_in nodes sent k p at =
     ∙ ap (option_map (λ to. packet_of sent.0 to sent.1)) (name_at nodes k within)) ∙ at in
     (within, cc)
 
-to_each : (from to nodes : ℕ) (m : Message) → to < nodes → Contains (packets_of nodes (from, m)) (packet_of from to m)
+pub to_each : (from to nodes : ℕ) (m : Message) → to < nodes → Contains (packets_of nodes (from, m)) (packet_of from to m)
 to_each from to nodes m h =
     contained (packets_of nodes (from, m)) to (packet_of from to m)
     (slice_get-map (λ n. packet_of from n m) (range_with_len 0 nodes) to ∙ ap (option_map (λ n. packet_of from n m)) (name_at nodes to h))

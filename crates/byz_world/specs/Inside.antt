@@ -1,12 +1,22 @@
 -- What holds of a world's fields. Serves the code, and no public contract.
-use Rattle.std.specs.Prelude.{◌≡◌, ℕ, ◌≤◌, ◌==◌, List, [], ◌∷◌, ◌++◌, length, count_by, slice_get, Option, Some, None, option_map, option_and_then}
+use Rattle.std.specs.Prelude.{◌≡◌, ⊤, ℕ, ◌≤◌, ◌==◌, Bool, true, false, IsTrue, Result, Ok, Err, List, [], ◌∷◌, ◌++◌, length, count_by, slice_get, Option, Some, None, option_map, option_and_then}
 use Rattle.quorum_sizes.specs.NodeSets.{Nodes}
 use Rattle.role_node.specs.Configs.{ConfigValue, most_events}
 use Rattle.role_node.specs.Nodes.{NodeValue}
 use Rattle.role_node.specs.declared.event.Event.{Event}
-use Rattle.byz_world.specs.Runs.{Run, IsClusterRun}
+use Rattle.role_node.specs.declared.event.Event.TheVariants.{Issue, Take, Client}
+use Rattle.link_frames.specs.Packets.{PacketValue, SentByOwner, message_of, packet_due}
+use Rattle.bracha_instance.specs.declared.instance.Effect.{Effect}
+use Rattle.bracha_instance.specs.declared.instance.Effect.TheVariants.{Idle, Counted}
+use Rattle.role_node.specs.Answers.{outlook}
+use Rattle.role_node.specs.declared.faults.NodeFault.{NodeFault}
+use Rattle.std.specs.List.{list_all}
+use Rattle.byz_world.specs.Runs.{Run, is_correct, has_sent, IsClusterRun}
 use Rattle.byz_world.specs.Pools.{Sent, listed, messages, pool}
+use Rattle.byz_world.specs.declared.step.Step.{Step}
+use Rattle.byz_world.specs.declared.step.Step.TheVariants as step
 use Rattle.byz_world.specs.Worlds.{WorldValue, node_due}
+use Rattle.byz_world.specs.Steps.{is_pool_full, Arrival}
 
 -- a node for each name, none for a liar's
 abbrev pub Members : Type 0
@@ -40,8 +50,60 @@ world_in config liars members order = record { config = config; liars = liars; r
 pub record IsWorldIn (config : ConfigValue) (liars : Nodes) (members : Members) (order : List ℕ) (sent : List Sent) : Type 0 where
   pub cluster : IsClusterRun config liars (run_in members order)
   pub one_each : length members ≡ config.roles.sizes.nodes
-  pub members : (name : ℕ) → member_in members name ≡ node_due (world_in config liars members order) name
-  pub order : (name : ℕ) → count_by (λ n. n == name) order ≡ length (history_in (member_in members name))
-  pub sent : sent ≡ messages config (run_in members order)
+  pub nodes : (name : ℕ) → member_in members name ≡ node_due (world_in config liars members order) name
+  pub named : (name : ℕ) → count_by (λ n. n == name) order ≡ length (history_in (member_in members name))
+  pub messages : sent ≡ messages config (run_in members order)
   pub within : length (pool config (run_in members order)) ≤ config.limit
   pub limit : config.limit ≤ most_events
+
+-- what an event needs of a run to be its next
+pub record MayFollow (config : ConfigValue) (liars : Nodes) (run : Run) (at : ℕ) (e : Event) : Type 0 where
+  pub correct : IsTrue (is_correct config.roles.sizes liars at)
+  pub sends : (p : PacketValue) → e ≡ Take p → SentByOwner p
+  pub links : (p : PacketValue) → e ≡ Take p → IsTrue (is_correct config.roles.sizes liars p.from) →
+      IsTrue (has_sent config.roles.sizes run p.from (message_of p))
+
+abbrev pub is_act : Event → Bool
+is_act (Issue command) = false
+is_act (Take p) = false
+is_act (Client act) = true
+
+-- .. and of the pool, unless a client acts: room for one more message to all nodes
+pub record MayHappen (w : WorldValue) (at : ℕ) (e : Event) : Type 0 where
+  pub follows : MayFollow w.config w.liars w.run at e
+  pub room : is_act e ≡ false → is_pool_full w ≡ false
+
+-- the step comes to such an event, if to any
+abbrev pub MayArrive : WorldValue → Arrival → Type 0
+MayArrive w (Ok (Some pair)) = MayHappen w pair.0 pair.1
+MayArrive w (Ok None) = ⊤
+MayArrive w (Err fault) = ⊤
+
+-- a packet that a step brings is one: a SEND comes from its owner
+abbrev pub IsSound : Step → Type 0
+IsSound (step.Issue node command) = ⊤
+IsSound (step.Give packet) = ⊤
+IsSound (step.Lie p) = SentByOwner p
+IsSound (step.Client node act) = ⊤
+
+-- the run of a world is a cluster run
+abbrev pub IsClusterRunOf : WorldValue → Type 0
+IsClusterRunOf w = IsClusterRun w.config w.liars w.run
+
+abbrev pub is_idle : Result Effect NodeFault → Bool
+is_idle (Ok Idle) = true
+is_idle (Ok Counted) = false
+is_idle (Err fault) = false
+
+-- the node has taken this packet: it is idle there
+abbrev pub has_taken_packet : NodeValue → Option PacketValue → Bool
+has_taken_packet node None = false
+has_taken_packet node (Some p) = is_idle (outlook node.config node.me node.history (Take p))
+
+abbrev pub has_taken : NodeValue → Sent → Bool
+has_taken node sent = has_taken_packet node (packet_due sent.0 node.me sent.1)
+
+-- it has taken each of these; a liar need not
+abbrev pub has_taken_all : List Sent → Option NodeValue → Bool
+has_taken_all sent None = true
+has_taken_all sent (Some node) = list_all (has_taken node) sent

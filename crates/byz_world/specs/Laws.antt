@@ -1,8 +1,10 @@
 -- The promises of the cluster, about every run of it.
-use Rattle.std.specs.Prelude.{◌≡◌, ℕ, ◌<◌, min, IsTrue, List, Option, Some}
+use Rattle.std.specs.Prelude.{◌≡◌, ℕ, ◌<◌, ◌≤◌, min, IsTrue, List, slice_get, Option, Some}
+use Rattle.std.specs.FinSet as sets
+use Rattle.quorum_sizes.specs.Sizes.{amplify_of}
 use Rattle.quorum_sizes.specs.NodeSets.{Nodes}
 use Rattle.role_commands.specs.declared.command.Command.{Command}
-use Rattle.bracha_instance.specs.Broadcast.{readied}
+use Rattle.bracha_instance.specs.Broadcast.{echoed, readied}
 use Rattle.owner_streams.specs.Laws.{IsPrefixOf}
 use Rattle.owner_streams.specs.Places.{takes_at, delivered_at}
 use Rattle.role_node.specs.Configs.{ConfigValue}
@@ -12,7 +14,10 @@ use Rattle.byz_world.specs.Runs.{Run, history_of, is_correct, IsClusterRun}
 use Rattle.byz_world.specs.Resting.{IsAtRest}
 use Rattle.byz_world.specs.Agreement.{common_length}
 
--- what a node is ready for, and what it has delivered, at a place of an owner's stream
+-- what a node has echoed, what it is ready for, and what it has delivered, at a place of an owner's stream
+abbrev pub echoed_by : ConfigValue → Run → ℕ → ℕ → ℕ → Option Command
+echoed_by config run node owner place = echoed (takes_at owner place (packets (history_of node run)))
+
 abbrev pub readied_by : ConfigValue → Run → ℕ → ℕ → ℕ → Option Command
 readied_by config run node owner place =
     readied config.roles.sizes (takes_at owner place (packets (history_of node run)))
@@ -68,6 +73,39 @@ SamePolicy =
     IsTrue (is_correct config.roles.sizes liars i) → IsTrue (is_correct config.roles.sizes liars j) →
     ((owner : ℕ) → owner < config.roles.sizes.nodes → reach_of config run i owner ≡ reach_of config run j owner) →
     HaveSameRelations config run i j
+
+-- Of a cluster at rest, whoever the owner is: a command for which so many correct nodes are ready as amplify asks, each
+-- correct node is ready for.
+abbrev pub ReadyByAll : Type 0
+ReadyByAll =
+    (config : ConfigValue) (liars : Nodes) (run : Run) (owner place : ℕ) (c : Command) (ready : Nodes) →
+    IsClusterRun config liars run → IsAtRest config liars run →
+    ((node : ℕ) → IsTrue (sets.contains ready node) →
+    IsTrue (is_correct config.roles.sizes liars node) × (readied_by config run node owner place ≡ Some c)) →
+    amplify_of config.roles.sizes ≤ sets.len ready →
+    (j : ℕ) → IsTrue (is_correct config.roles.sizes liars j) → readied_by config run j owner place ≡ Some c
+
+-- What one correct node delivered, each did.
+abbrev pub DeliveredByAll : Type 0
+DeliveredByAll =
+    (config : ConfigValue) (liars : Nodes) (run : Run) (i j owner place : ℕ) (c : Command) →
+    IsClusterRun config liars run → IsAtRest config liars run →
+    IsTrue (is_correct config.roles.sizes liars i) → IsTrue (is_correct config.roles.sizes liars j) →
+    delivered_by config run i owner place ≡ Some c → delivered_by config run j owner place ≡ Some c
+
+-- the node has echoed the command, is ready for it, and has delivered it
+pub record HasReached (config : ConfigValue) (run : Run) (node owner place : ℕ) (c : Command) : Type 0 where
+  pub was_echoed : echoed_by config run node owner place ≡ Some c
+  pub was_readied : readied_by config run node owner place ≡ Some c
+  pub was_delivered : delivered_by config run node owner place ≡ Some c
+
+-- A correct owner's command has reached each correct node.
+abbrev pub IssuedReachesAll : Type 0
+IssuedReachesAll =
+    (config : ConfigValue) (liars : Nodes) (run : Run) (i owner place : ℕ) (c : Command) →
+    IsClusterRun config liars run → IsAtRest config liars run →
+    IsTrue (is_correct config.roles.sizes liars i) → IsTrue (is_correct config.roles.sizes liars owner) →
+    slice_get (issued (history_of owner run)) place ≡ Some c → HasReached config run i owner place c
 
 -- Of a cluster at rest: a correct owner's stream is, at each correct node, what the owner issued; and what one correct
 -- node delivered, each did, whoever the owner is.

@@ -7,3 +7,5 @@ pub mod Resting
 pub mod Agreement
 pub mod Laws
 pub mod Inside
+pub mod Fields
+pub mod Asking

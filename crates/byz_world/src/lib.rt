@@ -5,7 +5,16 @@
 #![tactic(auto)]
 
 mod faults;
+pub mod laws;
+mod members;
+mod notes;
 mod step;
+mod world;
 
 pub use faults::WorldFault;
+pub use laws::{law_at_rest, law_consistency, law_integrity, law_same_policy};
 pub use step::{Step, StepReply};
+pub use world::World;
+
+#[cfg(test)]
+mod tests;

@@ -1,3 +1,4 @@
 pub mod NodeCounts
 pub mod NodeMasks
+pub mod SizeLaws
 pub mod Exported

@@ -2,3 +2,4 @@ pub mod Sizes
 pub mod Refusals
 pub mod NodeSets
 pub mod NodeWords
+pub mod Laws

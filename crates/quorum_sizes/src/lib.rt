@@ -3,6 +3,7 @@
 //! `specs/Sizes.antt` has the limit on nodes and the three quorums.
 #![tactic(auto)]
 
+pub mod laws;
 mod name;
 mod node_set;
 mod sizes;

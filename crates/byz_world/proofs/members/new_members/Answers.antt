@@ -1,0 +1,15 @@
+use Rattle.std.proofs.Common.{◌≡◌, ℕ, [], ◌∷◌, ◌++◌, Option, ap, sym, ◌∙◌, arith}
+use Rattle.std.proofs.lemmas.Grind.{common_steps}
+use Rattle.std.proofs.lemmas.List.FromFn.{map-range_with_len_more}
+use Rattle.role_node.specs.Nodes.{NodeValue}
+use Rattle.byz_world.specs.Worlds.{new_world, node_due}
+use Rattle.byz_world.proofs.members.new_members.Goals as goal
+
+pub loop-index-preserved : goal.loop-index-preserved
+loop-index-preserved c =
+    let f : ℕ → Option NodeValue = node_due (new_world c.args.config.now c.args.liars.now) in
+    let pushed : c.push.new.self.items ≡ c.loop-index.members.items ++ c.in_ok-new_member.field-0 ∷ [] = grind (arith, common_steps) in
+    let name : c.unwrap-name.result ≡ c.loop-index.index = grind (arith, common_steps) in
+    let one : c.in_ok-new_member.field-0 ≡ f c.loop-index.index = c.in_ok-new_member.ensures ∙ ap f name in
+    pushed ∙ (λ i. c.loop-index.invariant i ++ one i ∷ [])
+    ∙ sym (map-range_with_len_more f 0 c.loop-index.index c.loop-index.index (omega arith))

@@ -1,0 +1,42 @@
+//! The promises of the cluster, about every run of it.
+//!
+//! Each function's contract is its law, and its body is empty. `specs/Laws.antt` spells the laws out.
+ghost use Rattle.byz_world.specs.Laws.{Consistency, Integrity, SamePolicy, ReadyByAll, DeliveredByAll, IssuedReachesAll, AtRest};
+
+/// Correct nodes are ready for one command at a place of an owner's stream and deliver one there, and their streams
+/// of an owner agree as far as both reach.
+pub fn law_consistency()
+    ensures { Consistency }
+{}
+
+/// A correct owner's stream is, at each correct node, a front of what the owner issued.
+pub fn law_integrity()
+    ensures { Integrity }
+{}
+
+/// Correct nodes whose streams reach equally far have the same relations.
+pub fn law_same_policy()
+    ensures { SamePolicy }
+{}
+
+/// Of a cluster at rest: a command for which so many correct nodes are ready as amplify asks, each correct node is
+/// ready for.
+pub fn ready_by_all()
+    ensures { ReadyByAll }
+{}
+
+/// Of a cluster at rest: what one correct node delivered, each did.
+pub fn delivered_by_all()
+    ensures { DeliveredByAll }
+{}
+
+/// Of a cluster at rest: each correct node has echoed, readied and delivered a correct owner's commands.
+pub fn issued_reaches_all()
+    ensures { IssuedReachesAll }
+{}
+
+/// Of a cluster at rest: a correct owner's stream is, at each correct node, what the owner issued, and what one correct
+/// node delivered, each did.
+pub fn law_at_rest()
+    ensures { AtRest }
+{}

@@ -1,0 +1,386 @@
+ghost use Rattle.std.specs.Prelude.{◌≡◌, ℕ, ◌<◌, ◌≤◌, ◌*◌, ◌++◌, ◌∷◌, [], List, length, not, slice_get, IfOk, IfErr, OnOk, OnErr, Ok, Some, IsTrue, ◌↔◌, if◌then◌else◌};
+ghost use Rattle.std.specs.Option.{option_copied};
+ghost use Rattle.std.specs.Vec.{vec_len, vec_capacity};
+ghost use Rattle.quorum_sizes.specs.Sizes.{AreSizes};
+ghost use Rattle.link_frames.specs.Packets.{IsPacket, message_of};
+ghost use Rattle.role_node.specs.Access.{verdict_at};
+ghost use Rattle.role_node.specs.Answers.{outlook, reply_to};
+ghost use Rattle.role_node.specs.Questions.{IsAnswerTo};
+ghost use Rattle.role_node.specs.Nodes.{NodeValue};
+ghost use Rattle.bracha_instance.specs.declared.instance.Effect.TheVariants.{Counted};
+ghost use Rattle.byz_world.specs.Runs.{history_of, has_sent};
+ghost use Rattle.byz_world.specs.Pools.{pool, sent_by};
+ghost use Rattle.byz_world.specs.Worlds.{new_world, is_correct_in, node_due};
+ghost use Rattle.byz_world.specs.Steps.{arrival, unless_pool_full, arrives, is_forged, is_pool_full, of_reply, with_run, after_step, after_steps, IsStepAnswer};
+ghost use Rattle.byz_world.specs.Agreement.{agree_due};
+ghost use Rattle.byz_world.specs.Resting.{IsAtRest};
+ghost use Rattle.byz_world.specs.Asking.{IsMade, IsQuestionAnswer, decision_due};
+ghost use Rattle.byz_world.specs.Inside.{MayHappen, IsSound, IsClusterRunOf};
+ghost use Rattle.byz_world.specs.declared.step.Step.{Step};
+ghost use Rattle.byz_world.specs.declared.faults.WorldFault.TheVariants as fault;
+
+use crate::faults::WorldFault;
+use crate::members::{apply_at, ask_at, check_at, has_said, member, new_members, takes_all};
+use crate::notes::{note_name, note_sent, sent_by};
+use crate::step::{Step, StepReply};
+use bracha_instance::Effect;
+use link_frames::{Message, Packet};
+use quorum_sizes::{NodeName, NodeSet, Sizes};
+use role_node::{Answer, AskFault, Config, Event, Node, NodeFault, Question, Reply};
+use role_sessions::Verdict;
+use std::alloc::{AllocError, Global};
+use std::marker::Model;
+
+/// A cluster of which some nodes lie: the correct nodes, and what happened at them.
+///
+/// Contracts see the configuration of the nodes, who lies, and the run: who recorded what, in the order in which it
+/// happened. All else follows from these.
+#[derive(Drop)]
+pub struct World {
+    config: Config,
+    liars: NodeSet,
+    members: Vec<Option<Node>>,
+    order: Vec<NodeName>,
+    sent: Vec<(NodeName, Message)>,
+}
+
+impl Model for World {
+    ghost use Rattle.byz_world.specs.Worlds.{WorldValue, world_code};
+
+    ghost Value = { WorldValue };
+
+    ghost coded = { world_code };
+
+    ghost use Rattle.byz_world.specs.Fields.{world_value, IsWorld};
+
+    ghost view = { world_value };
+
+    ghost invariant = { IsWorld };
+}
+
+impl World {
+    /// A world in which nothing has happened. Names among the liars that are no nodes are passed over.
+    ///
+    /// # Errors
+    ///
+    /// [`WorldFault::TooManyLiars`] exactly where more nodes lie than may; then [`WorldFault::Memory`].
+    pub fn new(alloc: Global, config: Config, liars: NodeSet) -> Result<World, WorldFault>
+        ensures due { IsMade config liars result }
+        ensures ok { IfOk result (λ world. world ≡ new_world config liars) }
+        ensures run { IfOk result IsClusterRunOf }
+    {
+        let sizes = config.roles().sizes();
+        if liars.count_among(&sizes) > usize::from(sizes.f()) {
+            return Err(WorldFault::TooManyLiars);
+        }
+        let members = new_members(alloc, &config, &liars)?;
+        Ok(World {
+            config,
+            liars,
+            members,
+            order: Vec::new(alloc),
+            sent: Vec::new(alloc),
+        })
+    }
+
+    /// The world after these steps. A step that is refused is passed over.
+    ///
+    /// # Errors
+    ///
+    /// As [`new`](Self::new); also where a step wants memory.
+    pub fn run(
+        alloc: Global,
+        config: Config,
+        liars: NodeSet,
+        steps: &[Step],
+    ) -> Result<World, WorldFault>
+        ensures due { IsMade config liars result }
+        ensures ok { IfOk result (λ world. world ≡ after_steps (new_world config liars) steps.now) }
+        ensures run { IfOk result IsClusterRunOf }
+    {
+        let mut world = World::new(alloc, config, liars)?;
+        for step in steps {
+            world.pass(*step)?;
+        }
+        Ok(world)
+    }
+
+    /// A step that is passed over where it is refused.
+    fn pass(&mut self, step: Step) -> Result<(), AllocError>
+        ensures after { OnOk result (self.new ≡ after_step self.old step) }
+        ensures run { IsClusterRunOf self.new }
+    {
+        match self.step(step) {
+            Ok(_) => Ok(()),
+            Err(fault) => match fault {
+                WorldFault::Memory => Err(AllocError),
+                _ => Ok(()),
+            },
+        }
+    }
+
+    /// Does a step: an event that its node records is one more of the run, and what the node sends to all is in the pool.
+    ///
+    /// # Errors
+    ///
+    /// The first that holds of those of its kind, with the node's own; then want of memory, only where the node would
+    /// record. The world stays as it was.
+    pub fn step(&mut self, step: Step) -> Result<StepReply, WorldFault>
+        ensures due { IsStepAnswer self.old step result }
+        ensures ok { OnOk result (self.new ≡ after_step self.old step) }
+        ensures err { OnErr result (self.new ≡ self.old) }
+        ensures run { IsClusterRunOf self.new }
+    {
+        match self.arrival(&step) {
+            Ok(Some((name, event))) => self.happen(name, event),
+            Ok(None) => Ok(StepReply::Absorbed),
+            Err(fault) => Err(fault),
+        }
+    }
+
+    /// The node and the event that a step comes to, if to any, or its first refusal.
+    fn arrival(&self, step: &Step) -> Result<Option<(NodeName, Event)>, WorldFault>
+        ensures due { result ≡ arrival self.now step.now }
+        ensures sound { IfOk result (λ _. IsSound step.now) }
+        ensures run { IsClusterRunOf self.now }
+    {
+        let sizes = self.sizes();
+        match step {
+            Step::Issue { node, command } => {
+                if !self.is_correct(*node) {
+                    return Err(WorldFault::NotCorrect);
+                }
+                self.unless_full(*node, Event::Issue(*command))
+            }
+            Step::Give { packet } => match self.sent(*packet) {
+                Some(packet) => self.arrives(packet),
+                None => Err(WorldFault::NoSuchPacket),
+            },
+            Step::Lie { packet } => {
+                if !sizes.has(packet.from()) || !sizes.has(packet.to()) {
+                    return Err(WorldFault::NotCorrect);
+                }
+                if self.is_forged(packet) {
+                    return Err(WorldFault::NotSent);
+                }
+                self.arrives(*packet)
+            }
+            Step::Client { node, event } => {
+                if !self.is_correct(*node) {
+                    return Err(WorldFault::NotCorrect);
+                }
+                Ok(Some((*node, Event::Client(*event))))
+            }
+        }
+    }
+
+    /// Where a packet arrives that may be taken: a liar absorbs it.
+    fn arrives(&self, packet: Packet) -> Result<Option<(NodeName, Event)>, WorldFault>
+        ensures { result ≡ arrives self.now packet }
+    {
+        if !self.is_correct(packet.to()) {
+            return Ok(None);
+        }
+        self.unless_full(packet.to(), Event::Take(packet))
+    }
+
+    /// The event of a node that may send, unless the pool has no room for it.
+    fn unless_full(&self, name: NodeName, event: Event) -> Result<Option<(NodeName, Event)>, WorldFault>
+        ensures { result ≡ unless_pool_full self.now (name, event) }
+    {
+        let limit = self.config.limit();
+        let more = u32::from(self.sizes().n());
+        if self.sent_len() + more > limit {
+            return Err(WorldFault::PoolFull);
+        }
+        Ok(Some((name, event)))
+    }
+
+    /// Whether the packet is in the name of a correct node that has not sent it.
+    fn is_forged(&self, packet: &Packet) -> bool
+        ensures forged { result ≡ is_forged self.now packet.now }
+        ensures kept { IsPacket packet.now }
+    {
+        let message = packet.message();
+        match self.node(packet.from()) {
+            Some(node) => !self.sizes().has(message.owner) || !has_said(node, &message),
+            None => false,
+        }
+    }
+
+    /// Has a node answer an event.
+    fn happen(&mut self, name: NodeName, event: Event) -> Result<StepReply, WorldFault>
+        requires { MayHappen self.old name event }
+        ensures due { (step : Step) → arrival self.old step ≡ Ok (Some (name, event)) → IsStepAnswer self.old step result }
+        ensures ok { (step : Step) → arrival self.old step ≡ Ok (Some (name, event)) →
+            OnOk result (self.new ≡ after_step self.old step) }
+        ensures err { OnErr result (self.new ≡ self.old) }
+        ensures run { IsClusterRunOf self.new }
+    {
+        match self.look(name, &event) {
+            Ok(Effect::Counted) => self.record(name, event),
+            Ok(Effect::Idle) => Ok(StepReply::Node {
+                reply: Reply::Idle,
+                first: self.sent_len(),
+                count: 0,
+            }),
+            Err(fault) => Err(WorldFault::Node(fault)),
+        }
+    }
+
+    /// The first refusal of a node, or whether the event counts there.
+    fn look(&self, name: NodeName, event: &Event) -> Result<Effect, NodeFault>
+        requires { IsTrue (is_correct_in self.now name) }
+        ensures due { result ≡ outlook self.now.config name (history_of name self.now.run) event.now }
+        ensures run { IsClusterRunOf self.now }
+    {
+        match self.node(name) {
+            Some(node) => node.look(event),
+            None => unreachable!(),
+        }
+    }
+
+    /// Has a node record an event that counts, and keeps what it sends. Room is made before.
+    fn record(&mut self, name: NodeName, event: Event) -> Result<StepReply, WorldFault>
+        requires may { MayHappen self.old name event }
+        requires counts { outlook self.old.config name (history_of name self.old.run) event ≡ Ok Counted }
+        ensures reply { IfOk result (λ reply. reply ≡
+            of_reply self.old (reply_to self.old.config.roles name (history_of name self.old.run) event)) }
+        ensures ok { OnOk result (self.new ≡ with_run self.old (self.old.run ++ (name, event) ∷ [])) }
+        ensures err { OnErr result (self.new ≡ self.old) }
+        ensures memory { IfErr result (λ refusal. refusal ≡ fault.Memory) }
+        ensures run { IsClusterRunOf self.new }
+    {
+        let first = self.sent_len();
+        let nodes = self.sizes().n();
+        self.order.try_reserve(1)?;
+        self.sent.try_reserve(1)?;
+        let Ok(reply) = apply_at(&mut self.members, name, event) else {
+            return Err(WorldFault::Memory);
+        };
+        note_name(&mut self.order, name);
+        let count = note_sent(&mut self.sent, name, sent_by(&reply), nodes);
+        Ok(StepReply::Node {
+            reply,
+            first,
+            count,
+        })
+    }
+
+    /// The answer to a question at a correct node. Nothing is recorded.
+    ///
+    /// # Errors
+    ///
+    /// [`WorldFault::NotCorrect`] where it is no correct node, [`WorldFault::NoSession`] where a session is to be listed
+    /// that is not open there; then, for a listing alone, want of memory.
+    pub fn ask(&mut self, name: NodeName, question: Question) -> Result<Answer, WorldFault>
+        ensures due { IsQuestionAnswer self.old name question result }
+        ensures answer { IfOk result (IsAnswerTo self.old.config.roles (history_of name self.old.run) question) }
+        ensures same { self.new ≡ self.old }
+    {
+        if !self.is_correct(name) {
+            return Err(WorldFault::NotCorrect);
+        }
+        match ask_at(&mut self.members, name, question) {
+            Ok(answer) => Ok(answer),
+            Err(AskFault::NoSession) => Err(WorldFault::NoSession),
+            Err(AskFault::Memory) => Err(WorldFault::Memory),
+        }
+    }
+
+    /// The decision on an access at a correct node; `None` where it is none. It takes no memory and records nothing.
+    pub fn check(
+        &mut self,
+        name: NodeName,
+        session: u64,
+        user: u32,
+        operation: u16,
+        object: u32,
+    ) -> Option<Verdict>
+        ensures decision { result ≡ decision_due self.old name session user operation object }
+        ensures same { self.new ≡ self.old }
+    {
+        if !self.is_correct(name) {
+            return None;
+        }
+        Some(check_at(
+            &mut self.members,
+            name,
+            session,
+            user,
+            operation,
+            object,
+        ))
+    }
+
+    /// What the correct nodes were told at their start.
+    pub fn config(&self) -> &Config
+        ensures value { result.now ≡ self.now.config }
+        ensures run { IsClusterRunOf self.now }
+    {
+        &self.config
+    }
+
+    /// How many nodes there are, and how many of them may lie.
+    pub fn sizes(&self) -> Sizes
+        ensures value { result ≡ self.now.config.roles.sizes }
+        ensures run { IsClusterRunOf self.now }
+    {
+        self.config.roles().sizes()
+    }
+
+    /// The correct node of this name.
+    pub fn node(&self, name: NodeName) -> Option<&Node>
+        ensures value { option_copied result ≡ node_due self.now name }
+        ensures run { IsClusterRunOf self.now }
+    {
+        member(&self.members, name)
+    }
+
+    fn is_correct(&self, name: NodeName) -> bool
+        ensures { result ≡ is_correct_in self.now name }
+    {
+        self.node(name).is_some()
+    }
+
+    /// The packet of this number that a correct node has sent.
+    pub fn sent(&self, number: u32) -> Option<Packet>
+        ensures { result ≡ slice_get (pool self.now.config self.now.run) number }
+    {
+        let nodes = u32::from(self.sizes().n());
+        let to = self.sizes().name((number % nodes) as u8).unwrap();
+        match self.sent.get((number / nodes) as usize) {
+            Some((from, message)) => Packet::new(*from, to, *message),
+            None => None,
+        }
+    }
+
+    /// How many packets the correct nodes have sent.
+    pub fn sent_len(&self) -> u32
+        ensures value { result ≡ length (pool self.now.config self.now.run) }
+        ensures limit { result ≤ self.now.config.limit }
+    {
+        self.sent.len() as u32 * u32::from(self.sizes().n())
+    }
+
+    /// How far two correct nodes' streams of an owner agree: the length of the longest list that both begin with. `None`
+    /// where one is no correct node or the owner is no node.
+    pub fn agree(&self, i: NodeName, j: NodeName, owner: NodeName) -> Option<u32>
+        ensures { result ≡ agree_due self.now i j owner }
+    {
+        let (Some(a), Some(b)) = (self.node(i), self.node(j)) else {
+            return None;
+        };
+        if !self.sizes().has(owner) {
+            return None;
+        }
+        Some(a.reach(owner).min(b.reach(owner)))
+    }
+
+    /// Whether each packet that a correct node has sent to a correct node was taken there.
+    pub fn at_rest(&self) -> bool
+        ensures { IsTrue result ↔ IsAtRest self.now.config self.now.liars self.now.run }
+    {
+        self.members.iter().all(|member| takes_all(member, &self.sent))
+    }
+}
