@@ -1,7 +1,9 @@
 -- How the code keeps a cluster, and what is asked of a line that was read. Serves the code, and no public contract.
-use Rattle.std.specs.Prelude.{ℕ, ◌<◌, Bool, ⊤, Option, Some, None}
+use Rattle.std.specs.Prelude.{ℕ, ◌<◌, Bool, true, false, ⊤, Option, Some, None}
 use Rattle.quorum_sizes.specs.Sizes.{Counts}
 use Rattle.bracha_instance.specs.Broadcast.{Take}
+use Rattle.byz_world.specs.declared.faults.WorldFault.{WorldFault}
+use Rattle.byz_world.specs.declared.faults.WorldFault.TheVariants as fault
 use Rattle.byz_world.specs.declared.step.Step.{Step}
 use Rattle.byz_world.specs.declared.step.Step.TheVariants.{Issue, Give, Lie, Client}
 use Rattle.role_lab.specs.Flags.{flagged}
@@ -38,3 +40,13 @@ IsWithinSizes s (Agree one other owner) = ⊤
 -- the message that was said
 abbrev pub take_said : Said → Take
 take_said said = record { kind = said.kind; from = said.from; command = said.command }
+
+abbrev pub is_want_of_memory : WorldFault → Bool
+is_want_of_memory fault.TooManyLiars = false
+is_want_of_memory fault.NotCorrect = false
+is_want_of_memory fault.NoSuchPacket = false
+is_want_of_memory fault.NotSent = false
+is_want_of_memory fault.PoolFull = false
+is_want_of_memory (fault.Node f) = false
+is_want_of_memory fault.NoSession = false
+is_want_of_memory fault.Memory = true

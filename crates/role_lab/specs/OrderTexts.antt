@@ -46,9 +46,13 @@ liar_text too_many = if too_many then world_fault_text fault.TooManyLiars else c
 
 -- ---- steps
 
--- `A-B`, the first and the last number of so many packets
+-- `A-B`
+abbrev pub between_text : ℕ → ℕ → List ℕ
+between_text first last = decimal first ++ codes "-" ++ decimal last
+
+-- the first and the last number of so many packets
 abbrev pub range_text : ℕ → ℕ → List ℕ
-range_text first count = decimal first ++ codes "-" ++ decimal (first + count - 1)
+range_text first count = between_text first (first + count - 1)
 
 -- ` echo A-B` or ` ready A-B` where that was sent
 abbrev pub sent_range_text : Option Message → ℕ → ℕ → List ℕ

@@ -1,19 +1,18 @@
 //! A cluster as a script runs it: the world, and which packets of its pool were given.
 
-ghost use Rattle.std.specs.Prelude.{◌≡◌, ◌<◌, false, IfOk, OnOk, string_bytes};
+ghost use Rattle.std.specs.Prelude.{◌≡◌, ◌<◌, true, false, IfOk, IfSome, IfNone, OnOk, string_bytes};
 ghost use Rattle.byz_world.specs.Steps.{step_due, after_step};
 ghost use Rattle.byz_world.specs.declared.step.Step.TheVariants.{Give};
 ghost use Rattle.byz_world.specs.Worlds.{too_many_lie};
 ghost use Rattle.role_lab.specs.Labs.{lab_sizes, pool_length, new_lab, given_after, after_doing, flush, after_order};
 ghost use Rattle.role_lab.specs.Rests.{rests};
-ghost use Rattle.role_lab.specs.Inside.{IsWithinSizes};
+ghost use Rattle.role_lab.specs.Inside.{IsWithinSizes, is_want_of_memory};
 ghost use Rattle.role_lab.specs.OrderTexts as texts;
 
 use crate::given::Given;
 use crate::order_texts::{agreed_text, answer_text, reached_text, rest_text, step_reply_text};
 use crate::orders::{Order, packet_of};
-use crate::world::World;
-use byz_world::{Step, WorldFault};
+use byz_world::{Step, World, WorldFault};
 use quorum_sizes::{NodeName, NodeSet, Sizes};
 use role_commands::RoleTable;
 use role_node::{Config, MOST_EVENTS, Question};
@@ -32,21 +31,26 @@ pub struct Lab {
 impl Lab {
     ghost use Rattle.role_lab.specs.Inside.{lab_in, given_in};
 
-    /// The cluster of these roles and liars, before anything happens.
+    /// The cluster of these roles and liars, before anything happens; `None` where too many lie.
     ///
     /// # Errors
     ///
     /// Only for want of memory, as of the others here.
-    pub fn new(alloc: Global, roles: RoleTable, liars: NodeSet) -> Result<Lab, AllocError>
-        requires { too_many_lie roles.sizes liars ≡ false }
-        ensures { IfOk result (λ lab. lab_in lab ≡ new_lab roles liars) }
+    pub fn new(
+        alloc: Global,
+        roles: RoleTable,
+        liars: NodeSet,
+    ) -> Result<Option<Lab>, AllocError>
+        ensures some { IfOk result (λ made. IfSome made (λ lab. lab_in lab ≡ new_lab roles liars)) }
+        ensures none { IfOk result (λ made. IfNone made (too_many_lie roles.sizes liars ≡ true)) }
     {
         let config = Config::new(CLUSTER, roles, MOST_EVENTS).unwrap();
         match World::new(alloc, config, liars) {
-            Ok(world) => Ok(Lab {
+            Ok(world) => Ok(Some(Lab {
                 world,
                 given: Given::new(alloc),
-            }),
+            })),
+            Err(WorldFault::TooManyLiars) => Ok(None),
             Err(_) => Err(AllocError),
         }
     }
@@ -151,8 +155,7 @@ fn pass(world: &mut World, step: Step) -> Result<(), AllocError>
 {
     match world.step(step) {
         Ok(_) => Ok(()),
-        Err(WorldFault::Memory) => Err(AllocError),
-        Err(_) => Ok(()),
+        Err(fault) => unless_memory(fault),
     }
 }
 
@@ -163,8 +166,26 @@ fn taken_text(alloc: Global, world: &mut World, step: Step) -> Result<String, Al
 {
     match world.step(step) {
         Ok(reply) => step_reply_text(alloc, &reply),
-        Err(WorldFault::Memory) => Err(AllocError),
-        Err(fault) => format!(in alloc; "{fault}"),
+        Err(fault) => {
+            unless_memory(fault)?;
+            format!(in alloc; "{fault}")
+        }
+    }
+}
+
+/// Want of memory ends the script; every other fault is an answer.
+fn unless_memory(fault: WorldFault) -> Result<(), AllocError>
+    ensures { OnOk result (is_want_of_memory fault ≡ false) }
+{
+    match fault {
+        WorldFault::Memory => Err(AllocError),
+        WorldFault::TooManyLiars
+        | WorldFault::NotCorrect
+        | WorldFault::NoSuchPacket
+        | WorldFault::NotSent
+        | WorldFault::PoolFull
+        | WorldFault::Node(_)
+        | WorldFault::NoSession => Ok(()),
     }
 }
 

@@ -9,8 +9,6 @@ mod fields;
 mod given;
 mod grammar;
 mod lab;
-mod world;
-//pub mod laws;
 mod order_texts;
 mod orders;
 mod questions;
@@ -18,10 +16,22 @@ pub mod run;
 mod stage;
 mod texts;
 
+use fault::ScriptFault;
+use link_frames::Watched;
+use run::run_script;
+use std::io;
+use std::process::ExitCode;
 
-
-//use run::run_script;
-
-
-
-fn main() {}
+fn main(rt: HostRuntime) -> ExitCode {
+    let mut reader = Watched::new(rt.reader());
+    let mut writer = Watched::new(io::writer(&rt));
+    match run_script(rt.alloc(), &mut reader, &mut writer) {
+        Ok(()) => ExitCode::SUCCESS,
+        Err(fault) => {
+            if matches!(&fault, ScriptFault::BadScript { .. }) {
+                let _ = eprintln!(rt; "role_lab: {fault}");
+            }
+            ExitCode::from(fault.status())
+        }
+    }
+}

@@ -1,6 +1,6 @@
 //! What is written for a line of a cluster, its end left out.
 
-ghost use Rattle.std.specs.Prelude.{◌≡◌, ◌<◌, ◌^◌, IfOk, OnOk, string_bytes};
+ghost use Rattle.std.specs.Prelude.{◌≡◌, ◌<◌, ◌^◌, ◌++◌, codes, IfOk, OnOk, string_bytes};
 ghost use Rattle.std.specs.List.{AllByRecursion};
 ghost use Rattle.role_node.specs.Listed.{IsWithin};
 ghost use Rattle.role_lab.specs.OrderTexts as texts;
@@ -75,20 +75,36 @@ fn reply_text(
             to,
         } => {
             let sent = sent_range_text(alloc, send, first, count)?;
-            let delivery = delivery_text(delivered);
             let growth = growth_text(alloc, *from, *to)?;
-            format!(in alloc; "counted{sent}{delivery}{growth}")
+            counted_text(alloc, &sent, delivery_text(delivered), &growth)
         }
         Reply::Session(id) => format!(in alloc; "session {id}"),
         Reply::Done => String::from_str(alloc, "ok"),
     }
 }
 
+fn counted_text(
+    alloc: Global,
+    sent: &str,
+    delivery: &str,
+    growth: &str,
+) -> Result<String, AllocError>
+    ensures { IfOk result (λ text. string_bytes text ≡ codes "counted" ++ sent.now ++ delivery.now ++ growth.now) }
+{
+    format!(in alloc; "counted{sent}{delivery}{growth}")
+}
+
 /// The first and the last number of so many packets.
 fn range_text(alloc: Global, first: u32, count: u8) -> Result<String, AllocError>
     ensures { IfOk result (λ text. string_bytes text ≡ texts.range_text first count) }
 {
-    let last = (u64::from(first) + u64::from(count)).saturating_sub(1);
+    let end = u64::from(first) + u64::from(count);
+    between_text(alloc, first, end.saturating_sub(1))
+}
+
+fn between_text(alloc: Global, first: u32, last: u64) -> Result<String, AllocError>
+    ensures { IfOk result (λ text. string_bytes text ≡ texts.between_text first last) }
+{
     format!(in alloc; "{first}-{last}")
 }
 

@@ -64,7 +64,9 @@ pub fn answer(alloc: Global, stage: &mut Stage, line: &[u8]) -> Result<Option<St
             if let Some(setup) = setup_of_line(&roles.sizes(), text) {
                 return Ok(Some(set_up(alloc, roles, liars, setup)?));
             }
-            let mut lab = Lab::new(alloc, roles.copy(alloc)?, *liars)?;
+            let Some(mut lab) = Lab::new(alloc, roles.copy(alloc)?, *liars)? else {
+                return Ok(None);
+            };
             let answer = cluster_line(alloc, &mut lab, text)?;
             *stage = Stage::Living(lab);
             Ok(answer)
