@@ -32,10 +32,12 @@ flagged-padded flags m = λ i k. at k i
     unset zero k = refl
     unset (suc m) zero = refl
     unset (suc m) (suc k) = unset m k
+
     padded : (flags : List Bool) (k : ℕ) → flagged (flags ++ replicate m false) k ≡ flagged flags k
     padded [] k = unset m k
     padded (b ∷ flags) zero = refl
     padded (b ∷ flags) (suc k) = padded flags k
+
     at : (k : ℕ) → flagged (flags ++ replicate m false) k ≡ flagged flags k
     at k = padded flags k
 
@@ -67,4 +69,3 @@ find-range-none p from (suc n) before =
     let e : p from ≡ false = before from (omega arith) (omega arith) in
     ap (λ b. cond b (Some from) (find p (range_with_len (from + 1) n))) e
     ∙ find-range-none p (from + 1) n (λ k over under. before k (omega arith) (omega arith))
-

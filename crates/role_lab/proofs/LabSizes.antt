@@ -22,15 +22,16 @@ after_step-config w step = refl
 flush_within-config : (times count : ℕ) (lab : Lab) → (flush_within times count lab).lab.world.config ≡ lab.world.config
 unfolding flush_within
 flush_within-config zero count lab = refl
-flush_within-config (suc times) count lab = at (next_number lab)
+flush_within-config (suc times) count lab =
+    at (next_number lab) (λ number. flush_within-config times (count + 1) (after_doing lab (Give number)))
   where
-    each : (number : ℕ) → (flush_within times (count + 1) (after_doing lab (Give number))).lab.world.config ≡ lab.world.config
-    each number =
-        flush_within-config times (count + 1) (after_doing lab (Give number)) ∙ after_step-config lab.world (Give number)
-    at : (o : Option ℕ) → (option_map_or (λ number. flush_within times (count + 1) (after_doing lab (Give number))) o
+    at : (o : Option ℕ)
+        → ((number : ℕ) → (flush_within times (count + 1) (after_doing lab (Give number))).lab.world.config
+        ≡ (after_doing lab (Give number)).world.config)
+        → (option_map_or (λ number. flush_within times (count + 1) (after_doing lab (Give number))) o
         (record { count = count; lab = lab })).lab.world.config ≡ lab.world.config
-    at None = refl
-    at (Some number) = each number
+    at None rest = refl
+    at (Some number) rest = rest number ∙ after_step-config lab.world (Give number)
 
 pub after_order-sizes : (lab : Lab) (order : Order) → lab_sizes (after_order lab order) ≡ lab_sizes lab
 after_order-sizes lab (Do step) = ap (λ c. c.roles.sizes) (after_step-config lab.world step)
@@ -44,7 +45,7 @@ after_order-sizes lab (Agree one other owner) = refl
 pub none_lie_too_many : (s : Counts) → too_many_lie s sets.empty ≡ false
 none_lie_too_many s =
     let none : sets.len (nodes_among s sets.empty) ≡ 0 =
-        ap sets.len (same_names (nodes_among s sets.empty) sets.empty (λ name.
-        contains-nodes_among s sets.empty name ∙ ap (λ b. b && nat_lt name s.nodes) (sets.contains-empty nat_cmp name)
-        ∙ sym (sets.contains-empty nat_cmp name))) ∙ sets.len-empty nat_cmp in
+    ap sets.len (same_names (nodes_among s sets.empty) sets.empty (λ name.
+    contains-nodes_among s sets.empty name ∙ ap (λ b. b && nat_lt name s.nodes) (sets.contains-empty nat_cmp name)
+    ∙ sym (sets.contains-empty nat_cmp name))) ∙ sets.len-empty nat_cmp in
     le-ltb s.liars (sets.len (nodes_among s sets.empty)) (omega (arith, none))

@@ -2,7 +2,14 @@ pub mod LineNames
 pub mod LineNumbers
 pub mod Spelled
 pub mod SpelledSetups
+pub mod SpelledOrders
+pub mod PlainLines
 pub mod Wording
 pub mod Flagging
 pub mod Stepping
 pub mod Flushing
+pub mod LabSizes
+pub mod Answering
+pub mod Resting
+pub mod ScriptRunning
+pub mod Leaving

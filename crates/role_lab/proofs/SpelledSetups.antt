@@ -102,7 +102,7 @@ setup_of_line_spelled s line setup e =
     (λ words cut read.
     let P = λ (w : List ℕ) (u : Setup). SetUp s w words.1 u in
     let said : SetUp s words.0 words.1 setup =
-        by_name P _ _ _ _ setup read (role_said s words.1 setup)
-        (λ e1. by_name_made P _ _ _ _ _ setup e1 (liar_said s words.1)
-        (λ none. absurd (none-some setup none))) in
+    by_name P _ _ _ _ setup read (role_said s words.1 setup)
+    (λ e1. by_name_made P _ _ _ _ _ setup e1 (liar_said s words.1)
+    (λ none. absurd (none-some setup none))) in
     (split_word-joined line words cut ∙ said.line_is, said.is))

@@ -1,62 +1,46 @@
 -- The steps of a world, as a script takes them.
-use Rattle.std.proofs.Common.{◌≡◌, ℕ, ◌<◌, Bool, true, false, cond, nat_lt, List, [], ◌∷◌, ◌++◌, Option, Some, None, Result, Ok, Err, refl, sym, ap, ◌∙◌, append-nil}
+use Rattle.std.proofs.Common.{◌≡◌, ℕ, ◌<◌, Bool, true, false, cond, nat_lt, List, [], ◌∷◌, ◌++◌, Option, Some, None, Result, Ok, Err, refl, sym, ap, ◌∙◌}
 use Rattle.std.specs.Prelude.{IfOk, OnOk}
 use Rattle.std.specs.Option.{option_map_or}
-use Rattle.std.proofs.lemmas.Bool.{lt-ltb}
-use Rattle.role_node.specs.Answers.{is_recorded}
+use Rattle.std.proofs.lemmas.Bool.{lt-ltb, true≢false}
 use Rattle.role_node.specs.Listed.{IsWithin, answer_after}
-use Rattle.role_node.specs.Nodes.{due_at}
 use Rattle.role_node.specs.Questions.{IsAnswerTo}
-use Rattle.role_node.specs.declared.event.Event.{Event}
-use Rattle.role_node.specs.declared.event.Reply.{Reply}
-use Rattle.role_node.specs.declared.faults.NodeFault.{NodeFault}
 use Rattle.role_node.specs.declared.question.Answer.{Answer}
 use Rattle.role_node.specs.declared.question.Question.{Question}
 use Rattle.role_node.proofs.ListedLemmas.{one_answer}
 use Rattle.byz_world.specs.Asking.{question_due, IsQuestionAnswer}
 use Rattle.byz_world.specs.Faults.{world_fault_text}
-use Rattle.byz_world.specs.Runs.{Run, history_of}
-use Rattle.byz_world.specs.Steps.{Arrival, arrival, answer_of, of_answer, step_due, recorded_pair, after_step, with_run, IsStepAnswer}
-use Rattle.byz_world.specs.Worlds.{WorldValue, node_in}
+use Rattle.byz_world.specs.Runs.{history_of}
+use Rattle.byz_world.specs.Steps.{step_due, after_step, IsStepAnswer}
+use Rattle.byz_world.specs.Worlds.{WorldValue}
 use Rattle.byz_world.specs.declared.faults.WorldFault.{WorldFault}
 use Rattle.byz_world.specs.declared.faults.WorldFault.TheVariants as fault
 use Rattle.byz_world.specs.declared.step.Step.{Step}
 use Rattle.byz_world.specs.declared.step.Step.TheVariants.{Give}
 use Rattle.byz_world.specs.declared.step.StepReply.{StepReply}
 use Rattle.role_lab.specs.Labs.{Lab, pool_length, with_number, given_after}
-use Rattle.role_lab.specs.OrderTexts.{answer_text, asked_text}
+use Rattle.role_lab.specs.OrderTexts.{step_text, answer_text, asked_text}
+use Rattle.role_lab.specs.Inside.{is_want_of_memory}
+use Rattle.byz_world.proofs.Exported.{refused_after}
 
 -- ---- answers
 
--- an answer that is not for want of memory is the one that is due
-pub answer_is_due : (w : WorldValue) (step : Step) (result : Result StepReply WorldFault) → IsStepAnswer w step result
-    → (result ≡ Err fault.Memory → ⊥) → step_due w step ≡ result
-answer_is_due w step (Ok r) is other = is
-answer_is_due w step (Err fault.TooManyLiars) is other = is
-answer_is_due w step (Err fault.NotCorrect) is other = is
-answer_is_due w step (Err fault.NoSuchPacket) is other = is
-answer_is_due w step (Err fault.NotSent) is other = is
-answer_is_due w step (Err fault.PoolFull) is other = is
-answer_is_due w step (Err (fault.Node f)) is other = is
-answer_is_due w step (Err fault.NoSession) is other = is
-answer_is_due w step (Err fault.Memory) is other = absurd (other refl)
-
-none_recorded : (w : WorldValue) (at : Arrival) (f : WorldFault) → answer_of w at ≡ Err f → recorded_pair w at ≡ []
-none_recorded w (Ok None) f e = refl
-none_recorded w (Err g) f e = refl
-none_recorded w (Ok (Some pair)) f e = refused (due_at (node_in w pair.0) pair.1) e
-  where
-    refused : (due : Result Reply NodeFault) → of_answer w due ≡ Err f
-        → cond (is_recorded due) (pair ∷ []) [] ≡ []
-    refused (Ok r) e = cc
-    refused (Err g) e = refl
+pub not_memory : (f : WorldFault) → is_want_of_memory f ≡ false → f ≡ fault.Memory → ⊥
+not_memory f known is = true≢false (sym (ap is_want_of_memory is) ∙ known)
 
 -- a step that is refused leaves the world
-pub refused_stays : (w : WorldValue) (step : Step) (f : WorldFault) → step_due w step ≡ Err f → after_step w step ≡ w
-unfolding step_due after_step
-refused_stays w step f e =
-    ap (λ (pairs : Run). with_run w (w.run ++ pairs)) (none_recorded w (arrival w step) f e)
-    ∙ ap (with_run w) (append-nil w.run)
+pub refused_leaves : (w new : WorldValue) (step : Step) (f : WorldFault) → IsStepAnswer w step (Err f)
+    → is_want_of_memory f ≡ false → new ≡ w → new ≡ after_step w step
+refused_leaves w new step f is known same = same ∙ refused_after w step f is (not_memory f known)
+
+pub OnOk-from : {S E : Type 0} {P : Type 0} (r : Result S E) → P → OnOk r P
+OnOk-from (Ok s) p = p
+OnOk-from (Err e) p = tt
+
+pub passed_over : {S E : Type 0} (r : Result S E) (w new : WorldValue) (step : Step) (f : WorldFault)
+    → IsStepAnswer w step (Err f) → OnOk r (is_want_of_memory f ≡ false) → new ≡ w → OnOk r (new ≡ after_step w step)
+passed_over (Ok s) w new step f is known same = refused_leaves w new step f is known same
+passed_over (Err e) w new step f is known same = tt
 
 -- ---- packets that are given
 

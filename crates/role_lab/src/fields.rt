@@ -6,9 +6,7 @@ ghost use Rattle.role_commands.specs.Numbers as numbers;
 
 use link_frames::Kind;
 use quorum_sizes::{NodeName, Sizes};
-use role_commands::numbers::{
-    byte_number, long_number, narrow_number, split_word, wide_number,
-};
+use role_commands::numbers::{byte_number, long_number, narrow_number, split_word, wide_number};
 
 /// A session, and what stands behind its space.
 #[tactic(auto, unfolding(crate::specs::Orders::then_rest))]

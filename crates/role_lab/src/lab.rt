@@ -36,11 +36,7 @@ impl Lab {
     /// # Errors
     ///
     /// Only for want of memory, as of the others here.
-    pub fn new(
-        alloc: Global,
-        roles: RoleTable,
-        liars: NodeSet,
-    ) -> Result<Option<Lab>, AllocError>
+    pub fn new(alloc: Global, roles: RoleTable, liars: NodeSet) -> Result<Option<Lab>, AllocError>
         ensures some { IfOk result (λ made. IfSome made (λ lab. lab_in lab ≡ new_lab roles liars)) }
         ensures none { IfOk result (λ made. IfNone made (too_many_lie roles.sizes liars ≡ true)) }
     {

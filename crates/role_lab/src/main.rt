@@ -9,6 +9,7 @@ mod fields;
 mod given;
 mod grammar;
 mod lab;
+pub mod laws;
 mod order_texts;
 mod orders;
 mod questions;
@@ -35,3 +36,6 @@ fn main(rt: HostRuntime) -> ExitCode {
         }
     }
 }
+
+#[cfg(test)]
+mod tests;

@@ -53,12 +53,7 @@ pub fn step_reply_text(alloc: Global, answer: &StepReply) -> Result<String, Allo
 }
 
 /// What is written for a node's reply, which sent so many packets from number `first` on.
-fn reply_text(
-    alloc: Global,
-    reply: &Reply,
-    first: u32,
-    count: u8,
-) -> Result<String, AllocError>
+fn reply_text(alloc: Global, reply: &Reply, first: u32, count: u8) -> Result<String, AllocError>
     ensures { IfOk result (λ text. string_bytes text ≡ texts.reply_text reply.now first count) }
 {
     match reply {

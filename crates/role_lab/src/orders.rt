@@ -34,9 +34,15 @@ pub enum Order {
     /// Whether the cluster is at rest.
     Rest,
     /// A decision or a review of a node.
-    Ask { node: NodeName, question: Question },
+    Ask {
+        node: NodeName,
+        question: Question,
+    },
     /// How far this owner's stream reaches at a node.
-    Reach { node: NodeName, owner: NodeName },
+    Reach {
+        node: NodeName,
+        owner: NodeName,
+    },
     /// How far this owner's streams at two nodes agree.
     Agree {
         one: NodeName,

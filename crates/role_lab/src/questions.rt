@@ -75,4 +75,3 @@ fn user_operations_of(text: &str) -> Option<Question>
     let object = wide_number(text)?;
     Some(Question::UserOperations { user, object })
 }
-

@@ -1,80 +1,97 @@
-use Rattle.std.proofs.Common.{rules, ◌≡◌, ℕ, ◌<◌, ◌≤◌, ◌++◌, ◌⊎◌, Bool, List, Option, length, OnOk, OnErr, IfOk, IfErr, ◌+◌, ◌-◌, ◌*◌, ◌/◌, ◌%◌, true, false, nat_eq, nat_lt, [], ◌∷◌, slice_index_or, slice_set, bit_and, bit_or, Fits, w8, w32, w64, Bor, MutBor}
-use Rattle.std.specs.Io.KnownBytes.{Appends}
-use Rattle.link_frames.specs.Aheads.{pending}
-use Rattle.link_frames.specs.Devices.{WentOn, CallFailed, ReaderFailed, AppendsFront}
-use Rattle.link_frames.specs.Blocks.{ReadAhead}
-use Rattle.link_frames.specs.LinePrograms.{Moved}
-use Rattle.link_frames.specs.Watching.{watched_inner, watched_tally}
-use Rattle.role_lab.specs.Scripts.{Script, most_line_bytes, next}
-use Rattle.role_lab.specs.Stages.{Follows}
-use Rattle.role_lab.specs.Runs.{ScriptRan, IsEndless}
-use Rattle.role_lab.specs.Steps.{Holds, ScriptRuns, IsTaken}
+use Rattle.std.proofs.Common.{arith, inl, inr, ◌∙◌, sym, ap, None}
+use Rattle.std.proofs.lemmas.Result.{err_from_is_err_and}
+use Rattle.link_frames.proofs.Exported.{Ended-front, WentOn-trans, CallFailed-later, ReaderFailed-later, AppendsFront-whole}
+use Rattle.role_lab.proofs.ScriptRunning.{run_starts, run_moves, run_goes_on, run_breaks, run_stops, run_is_endless, ends_bad, ends_good, ends_ahead, ahead_device}
 use Rattle.role_lab.proofs.run.run_lines.Goals as goal
 
--- src/run.rt:81:5
 pub loop-number-init : goal.loop-number-init
-loop-number-init g c = ?
+loop-number-init g c = run_starts _ _ _ _ _ _ _ c.requires c.new-ahead.ensures.front c.new-held.ensures.items
 
--- src/run.rt:82:9
 pub returns-in_err-write_when_due-clause-ran : goal.returns-in_err-write_when_due-clause-ran
-returns-in_err-write_when_due-clause-ran g c = ?
+returns-in_err-write_when_due-clause-ran g c =
+    let p = err_from_is_err_and c.from_residual.result c.from_residual.ensures.1 in
+    rw (p.1, p.2) (run_breaks c.loop-number.invariant _ c.in_err-write_when_due.ensures.part)
 
--- src/run.rt:82:9
 pub returns-in_err-write_when_due-clause-device : goal.returns-in_err-write_when_due-clause-device
-returns-in_err-write_when_due-clause-device g c = ?
+returns-in_err-write_when_due-clause-device g c =
+    let p = err_from_is_err_and c.from_residual.result c.from_residual.ensures.1 in
+    rw (p.1, p.2) (λ q. inr (inl (CallFailed-later _ _ _ c.loop-number.invariant.writer c.in_err-write_when_due.ensures.failed)))
 
--- src/run.rt:83:15
 pub returns-in_err-take_next-clause-ran : goal.returns-in_err-take_next-clause-ran
-returns-in_err-take_next-clause-ran g c = ?
+returns-in_err-take_next-clause-ran g c =
+    let moved = run_moves c.loop-number.invariant _ _ _ c.in_ok-write_when_due.ensures.moved c.in_ok-write_when_due.ensures.went_on in
+    let p = err_from_is_err_and c.from_residual-in_err-take_next.result c.from_residual-in_err-take_next.ensures.1 in
+    rw (p.1, p.2) (ends_ahead _ None _ _ c.in_err-take_next.field-0.0 (run_stops moved))
 
--- src/run.rt:83:15
 pub returns-in_err-take_next-clause-device : goal.returns-in_err-take_next-clause-device
-returns-in_err-take_next-clause-device g c = ?
+returns-in_err-take_next-clause-device g c =
+    let p = err_from_is_err_and c.from_residual-in_err-take_next.result c.from_residual-in_err-take_next.ensures.1 in
+    rw (p.1, p.2) (λ q. inl (ReaderFailed-later _ _ _ c.loop-number.invariant.reader
+    (ahead_device _ _ c.in_err-take_next.field-0.0 c.in_err-take_next.ensures.counts q)))
 
--- src/run.rt:86:17
-pub returns-in_err-write_whole-in-BadLine-clause-ran :
-    goal.returns-in_err-write_whole-in-BadLine-clause-ran
-returns-in_err-write_whole-in-BadLine-clause-ran g c = ?
+pub returns-in_err-write_whole-in-BadLine-clause-ran : goal.returns-in_err-write_whole-in-BadLine-clause-ran
+returns-in_err-write_whole-in-BadLine-clause-ran g c =
+    let moved = run_moves c.loop-number.invariant _ _ _ c.in_ok-write_when_due.ensures.moved c.in_ok-write_when_due.ensures.went_on in
+    let end = rw c.in-BadLine.is at (c.in_ok-take_next.ensures.taken _ _ _ moved.script _ moved.follows moved.ran) in
+    let part = rw c.deref.ensures.value at c.in_err-write_whole-in-BadLine.ensures.part in
+    let p = err_from_is_err_and c.from_residual-in_err-write_whole-in-BadLine.result c.from_residual-in_err-write_whole-in-BadLine.ensures.1 in
+    rw (p.1, p.2) (Ended-front end _ part)
 
--- src/run.rt:86:17
-pub returns-in_err-write_whole-in-BadLine-clause-device :
-    goal.returns-in_err-write_whole-in-BadLine-clause-device
-returns-in_err-write_whole-in-BadLine-clause-device g c = ?
+pub returns-in_err-write_whole-in-BadLine-clause-device : goal.returns-in_err-write_whole-in-BadLine-clause-device
+returns-in_err-write_whole-in-BadLine-clause-device g c =
+    let on = WentOn-trans c.loop-number.invariant.writer c.in_ok-write_when_due.ensures.went_on in
+    let p = err_from_is_err_and c.from_residual-in_err-write_whole-in-BadLine.result c.from_residual-in_err-write_whole-in-BadLine.ensures.1 in
+    rw (p.1, p.2) (λ q. inr (inl (CallFailed-later _ _ _ on c.in_err-write_whole-in-BadLine.ensures.err)))
 
--- src/run.rt:87:17
 pub returns-in-BadLine-clause-ran : goal.returns-in-BadLine-clause-ran
-returns-in-BadLine-clause-ran g c = ?
+returns-in-BadLine-clause-ran g c =
+    let moved = run_moves c.loop-number.invariant _ _ _ c.in_ok-write_when_due.ensures.moved c.in_ok-write_when_due.ensures.went_on in
+    let end = rw c.in-BadLine.is at (c.in_ok-take_next.ensures.taken _ _ _ moved.script _ moved.follows moved.ran) in
+    ends_bad None _ end (rw c.deref.ensures.value at c.in_ok-write_whole-in-BadLine.ensures.written)
 
--- src/run.rt:90:17
-pub returns-in_err-write_whole-in-All-clause-ran :
-    goal.returns-in_err-write_whole-in-All-clause-ran
-returns-in_err-write_whole-in-All-clause-ran g c = ?
+pub returns-in_err-write_whole-in-All-clause-ran : goal.returns-in_err-write_whole-in-All-clause-ran
+returns-in_err-write_whole-in-All-clause-ran g c =
+    let moved = run_moves c.loop-number.invariant _ _ _ c.in_ok-write_when_due.ensures.moved c.in_ok-write_when_due.ensures.went_on in
+    let end = rw c.in-All.is at (c.in_ok-take_next.ensures.taken _ _ _ moved.script _ moved.follows moved.ran) in
+    let part = rw c.deref-in-All.ensures.value at c.in_err-write_whole-in-All.ensures.part in
+    let p = err_from_is_err_and c.from_residual-in_err-write_whole-in-All.result c.from_residual-in_err-write_whole-in-All.ensures.1 in
+    rw (p.1, p.2) (Ended-front end.0 _ part)
 
--- src/run.rt:90:17
-pub returns-in_err-write_whole-in-All-clause-device :
-    goal.returns-in_err-write_whole-in-All-clause-device
-returns-in_err-write_whole-in-All-clause-device g c = ?
+pub returns-in_err-write_whole-in-All-clause-device : goal.returns-in_err-write_whole-in-All-clause-device
+returns-in_err-write_whole-in-All-clause-device g c =
+    let on = WentOn-trans c.loop-number.invariant.writer c.in_ok-write_when_due.ensures.went_on in
+    let p = err_from_is_err_and c.from_residual-in_err-write_whole-in-All.result c.from_residual-in_err-write_whole-in-All.ensures.1 in
+    rw (p.1, p.2) (λ q. inr (inl (CallFailed-later _ _ _ on c.in_err-write_whole-in-All.ensures.err)))
 
--- src/run.rt:91:17
 pub returns-in-All-clause-ran : goal.returns-in-All-clause-ran
-returns-in-All-clause-ran g c = ?
+returns-in-All-clause-ran g c =
+    let moved = run_moves c.loop-number.invariant _ _ _ c.in_ok-write_when_due.ensures.moved c.in_ok-write_when_due.ensures.went_on in
+    let end = rw c.in-All.is at (c.in_ok-take_next.ensures.taken _ _ _ moved.script _ moved.follows moved.ran) in
+    ends_good _ _ end.0 end.1 (rw c.deref-in-All.ensures.value at c.in_ok-write_whole-in-All.ensures.written)
 
--- src/run.rt:81:5
 pub loop-number-preserved : goal.loop-number-preserved
-loop-number-preserved g c = ?
+loop-number-preserved g c =
+    let moved = run_moves c.loop-number.invariant _ _ _ c.in_ok-write_when_due.ensures.moved c.in_ok-write_when_due.ensures.went_on in
+    let more = rw c.in-Line.is at (c.in_ok-take_next.ensures.taken _ _ _ moved.script _ moved.follows moved.ran) in
+    run_goes_on moved _ _ _ _ more.0 more.1 more.2 c.in_ok-take_next.ensures.counts
 
--- src/run.rt:95:5
 pub returns-in_err-write_whole-clause-ran : goal.returns-in_err-write_whole-clause-ran
-returns-in_err-write_whole-clause-ran g c = ?
+returns-in_err-write_whole-clause-ran g c =
+    let part = rw c.deref-2.ensures.value at c.in_err-write_whole.ensures.part in
+    let p = err_from_is_err_and c.from_residual-in_err-write_whole.result c.from_residual-in_err-write_whole.ensures.1 in
+    rw (p.1, p.2) (run_breaks c.loop-number.invariant _ part)
 
--- src/run.rt:95:5
 pub returns-in_err-write_whole-clause-device : goal.returns-in_err-write_whole-clause-device
-returns-in_err-write_whole-clause-device g c = ?
+returns-in_err-write_whole-clause-device g c =
+    let p = err_from_is_err_and c.from_residual-in_err-write_whole.result c.from_residual-in_err-write_whole.ensures.1 in
+    rw (p.1, p.2) (λ q. inr (inl (CallFailed-later _ _ _ c.loop-number.invariant.writer c.in_err-write_whole.ensures.err)))
 
--- src/run.rt:65:1
 pub returns-clause-ran : goal.returns-clause-ran
-returns-clause-ran g c = ?
+returns-clause-ran g c =
+    let wrote = rw c.deref-2.ensures.value at c.in_ok-write_whole.ensures.written in
+    run_breaks c.loop-number.invariant _ (AppendsFront-whole _ _ _ wrote)
 
--- src/run.rt:65:1
 pub returns-clause-device : goal.returns-clause-device
-returns-clause-device g c = ?
+returns-clause-device g c q =
+    let wrote = rw c.deref-2.ensures.value at c.in_ok-write_whole.ensures.written in
+    inr (inr (run_is_endless c.loop-number.invariant _ (omega arith) wrote))

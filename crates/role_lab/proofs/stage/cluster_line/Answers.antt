@@ -1,18 +1,12 @@
-use Rattle.std.proofs.Common.{rules, ◌≡◌, ◌≤◌, false, List, length, IfOk, OnOk, option_map, string_bytes, ℕ, ◌+◌, ◌-◌, ◌*◌, ◌<◌, ◌/◌, ◌%◌, Bool, true, nat_eq, nat_lt, [], ◌∷◌, ◌++◌, slice_index_or, slice_set, bit_and, bit_or, Fits, w8, w32, w64, Bor, MutBor}
-use Rattle.quorum_sizes.specs.Sizes.{AreSizes}
-use Rattle.role_commands.specs.TableFaults.{add_due}
-use Rattle.bracha_instance.specs.Broadcast.{Take}
-use Rattle.bracha_instance.specs.States.{state}
-use Rattle.bracha_instance.specs.Taking.{SendsAreFrom}
-use Rattle.byz_world.specs.Worlds.{too_many_lie}
-use Rattle.role_lab.specs.Grammar.{owner}
-use Rattle.role_lab.specs.Labs.{lab_sizes}
+use Rattle.std.proofs.Common.{◌≡◌, Some, sym, ◌∙◌, subst}
+use Rattle.quorum_sizes.specs.Sizes.{Counts}
 use Rattle.role_lab.specs.Inside.{lab_in}
-use Rattle.role_lab.specs.OrderTexts as texts
-use Rattle.role_lab.specs.Scripts.{Script, most_line_bytes, next, after_line, table_after, one_too_many, liars_after, after_setup, after_cluster_line, Unread, OfInstance, OfSetup}
-use Rattle.role_lab.specs.Stages.{Follows, Answers, StageAnswers}
+use Rattle.role_lab.specs.Orders.{order_of_line}
+use Rattle.role_lab.proofs.Answering.{asking-some}
 use Rattle.role_lab.proofs.stage.cluster_line.Goals as goal
 
--- src/stage.rt:161:1
 pub returns : goal.returns
-returns c = ?
+returns c are =
+    let read = subst (λ (s : Counts). order_of_line s c.args.line.now ≡ Some c.in-Some.order) c.sizes.ensures
+    (sym c.order_of_line.ensures.value ∙ c.in-Some.is) in
+    asking-some (lab_in c.args.lab.now) _ _ _ c.in-Some.order read c.in_ok-text.ensures.after are c.in_ok-text.ensures.text

@@ -1,26 +1,18 @@
-use Rattle.std.proofs.Common.{rules, ◌≡◌, ◌≤◌, false, List, length, IfOk, OnOk, option_map, string_bytes, ℕ, ◌+◌, ◌-◌, ◌*◌, ◌<◌, ◌/◌, ◌%◌, Bool, true, nat_eq, nat_lt, [], ◌∷◌, ◌++◌, slice_index_or, slice_set, bit_and, bit_or, Fits, w8, w32, w64, Bor, MutBor}
-use Rattle.quorum_sizes.specs.Sizes.{AreSizes}
-use Rattle.role_commands.specs.TableFaults.{add_due}
-use Rattle.bracha_instance.specs.Broadcast.{Take}
-use Rattle.bracha_instance.specs.States.{state}
-use Rattle.bracha_instance.specs.Taking.{SendsAreFrom}
-use Rattle.byz_world.specs.Worlds.{too_many_lie}
-use Rattle.role_lab.specs.Grammar.{owner}
-use Rattle.role_lab.specs.Labs.{lab_sizes}
-use Rattle.role_lab.specs.Inside.{lab_in}
-use Rattle.role_lab.specs.OrderTexts as texts
-use Rattle.role_lab.specs.Scripts.{Script, most_line_bytes, next, after_line, table_after, one_too_many, liars_after, after_setup, after_cluster_line, Unread, OfInstance, OfSetup}
-use Rattle.role_lab.specs.Stages.{Follows, Answers, StageAnswers}
+use Rattle.std.proofs.Common.{sym, ◌∙◌}
+use Rattle.role_lab.proofs.Answering.{first_line-bad, first_line-good, first_line-cluster}
 use Rattle.role_lab.proofs.stage.first_line.Goals as goal
 
--- src/stage.rt:82:9
 pub returns-in-Some : goal.returns-in-Some
-returns-in-Some c = ?
+returns-in-Some c =
+    first_line-good _ _ _ _ (sym c.sizes_of_line.ensures ∙ c.in-Some.is) c.new-instance.ensures c.in_ok-text.ensures
 
--- src/stage.rt:85:9
 pub returns-in_default-cluster_of_line : goal.returns-in_default-cluster_of_line
-returns-in_default-cluster_of_line c = ?
+returns-in_default-cluster_of_line c =
+    first_line-bad _ (sym c.sizes_of_line.ensures ∙ c.in_default.is)
+    (sym c.cluster_of_line.ensures ∙ c.in_default-cluster_of_line.is)
 
--- src/stage.rt:76:1
 pub returns : goal.returns
-returns c = ?
+returns c =
+    first_line-cluster _ _ _ _ _ (sym c.sizes_of_line.ensures ∙ c.in_default.is)
+    (sym c.cluster_of_line.ensures ∙ c.in-Some-cluster_of_line.is)
+    c.new-roles.ensures c.new-liars.ensures c.in_ok-text-2.ensures

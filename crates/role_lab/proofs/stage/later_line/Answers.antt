@@ -1,22 +1,18 @@
-use Rattle.std.proofs.Common.{rules, ◌≡◌, ◌≤◌, false, List, length, IfOk, OnOk, option_map, string_bytes, ℕ, ◌+◌, ◌-◌, ◌*◌, ◌<◌, ◌/◌, ◌%◌, Bool, true, nat_eq, nat_lt, [], ◌∷◌, ◌++◌, slice_index_or, slice_set, bit_and, bit_or, Fits, w8, w32, w64, Bor, MutBor}
-use Rattle.quorum_sizes.specs.Sizes.{AreSizes}
-use Rattle.role_commands.specs.TableFaults.{add_due}
+use Rattle.std.proofs.Common.{◌≡◌, Some, option_map, refl, sym, ap, ◌∙◌}
 use Rattle.bracha_instance.specs.Broadcast.{Take}
-use Rattle.bracha_instance.specs.States.{state}
-use Rattle.bracha_instance.specs.Taking.{SendsAreFrom}
-use Rattle.byz_world.specs.Worlds.{too_many_lie}
-use Rattle.role_lab.specs.Grammar.{owner}
-use Rattle.role_lab.specs.Labs.{lab_sizes}
-use Rattle.role_lab.specs.Inside.{lab_in}
-use Rattle.role_lab.specs.OrderTexts as texts
-use Rattle.role_lab.specs.Scripts.{Script, most_line_bytes, next, after_line, table_after, one_too_many, liars_after, after_setup, after_cluster_line, Unread, OfInstance, OfSetup}
-use Rattle.role_lab.specs.Stages.{Follows, Answers, StageAnswers}
+use Rattle.role_lab.specs.Grammar.{owner, take_of_line}
+use Rattle.role_lab.specs.Inside.{take_said}
+use Rattle.role_lab.proofs.Answering.{SendsAreFrom-push, later_line-bad, later_line-good}
 use Rattle.role_lab.proofs.stage.later_line.Goals as goal
 
--- src/stage.rt:103:9
 pub returns-in_default : goal.returns-in_default
-returns-in_default c = ?
+returns-in_default c takes are at sends =
+    later_line-bad _ takes _ _ (sym c.take_of_line.ensures.value ∙ ap (option_map take_said) c.in_default.is)
 
--- src/stage.rt:93:1
 pub returns : goal.returns
-returns c = ?
+returns c takes are at sends =
+    let t : Take = take_said c.in-Some.said in
+    let read : take_of_line c.args.sizes.now c.args.line.now ≡ Some t = sym c.take_of_line.ensures.value ∙ ap (option_map take_said) c.in-Some.is in
+    let all = SendsAreFrom-push c.args.sizes.now takes t sends c.in-Some.ensures.from in
+    later_line-good _ takes _ _ t _ read c.in-Some.ensures.from are sends (c.in_ok-taken.ensures.state takes at)
+    (c.in_ok-text.ensures ∙ rw (c.in_ok-taken.ensures.effect takes owner at all, c.in_ok-taken.ensures.broadcast takes at, c.in_ok-taken.ensures.delivered takes at) refl)

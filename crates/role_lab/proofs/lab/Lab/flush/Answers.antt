@@ -1,33 +1,41 @@
-use Rattle.std.proofs.Common.{rules, ◌≡◌, ◌<◌, false, IfOk, OnOk, string_bytes, ℕ, ◌+◌, ◌-◌, ◌*◌, ◌≤◌, length, ◌/◌, ◌%◌, Bool, true, nat_eq, nat_lt, List, [], ◌∷◌, ◌++◌, slice_index_or, slice_set, bit_and, bit_or, Fits, w8, w32, w64, Bor, MutBor}
-use Rattle.byz_world.specs.Steps.{step_due, after_step}
+use Rattle.std.proofs.Common.{◌∙◌, ap, refl}
 use Rattle.byz_world.specs.declared.step.Step.TheVariants.{Give}
-use Rattle.byz_world.specs.Worlds.{too_many_lie}
-use Rattle.role_lab.specs.Labs.{lab_sizes, pool_length, new_lab, given_after, after_doing, flush, after_order}
-use Rattle.role_lab.specs.Rests.{rests}
-use Rattle.role_lab.specs.Inside.{IsWithinSizes, lab_in, given_in}
-use Rattle.role_lab.specs.OrderTexts as texts
+use Rattle.role_node.specs.Configs.{ConfigValue}
+use Rattle.role_lab.specs.Inside.{lab_in, given_in}
+use Rattle.role_lab.specs.Labs.{Flushed, after_doing}
+use Rattle.role_lab.specs.Labs as labs
+use Rattle.role_lab.proofs.Flushing.{goes-first, goes-on, goes-none, goes-over, next_number-found}
 use Rattle.role_lab.proofs.lab.Lab.flush.Goals as goal
 
--- src/lab.rt:108:9
 pub loop-count-init : goal.loop-count-init
-loop-count-init c = ?
+loop-count-init c =
+    goes-first (lab_in c.args.self.now) c.limit-limit.result
+    (c.limit-limit.ensures ∙ ap (λ (k : ConfigValue). k.limit) c.config.ensures.value)
 
--- src/lab.rt:110:17
 pub returns-in_default-clause-count : goal.returns-in_default-clause-count
-returns-in_default-clause-count c = ?
+returns-in_default-clause-count c =
+    let found = next_number-found (lab_in c.loop-count.self) (given_in c.loop-count.self.given) c.sent_len.result
+    c.next.result refl c.sent_len.ensures.value c.next.ensures.value in
+    ap (λ (f : Flushed). f.count) (goes-none c.loop-count.invariant (found ∙ c.in_default.is))
 
--- src/lab.rt:110:17
 pub returns-in_default-clause-after : goal.returns-in_default-clause-after
-returns-in_default-clause-after c = ?
+returns-in_default-clause-after c =
+    let found = next_number-found (lab_in c.loop-count.self) (given_in c.loop-count.self.given) c.sent_len.result
+    c.next.result refl c.sent_len.ensures.value c.next.ensures.value in
+    (λ i. record { world = c.loop-count.self.world; given = c.next.ensures.same i })
+    ∙ ap (λ (f : Flushed). f.lab) (goes-none c.loop-count.invariant (found ∙ c.in_default.is))
 
--- src/lab.rt:108:9
 pub loop-count-preserved : goal.loop-count-preserved
-loop-count-preserved c = ?
+loop-count-preserved c =
+    let found = next_number-found (lab_in c.loop-count.self) (given_in c.loop-count.self.given) c.sent_len.result
+    c.next.result refl c.sent_len.ensures.value c.next.ensures.value in
+    goes-on c.in-Some.packet (lab_in c.give.new.self) c.loop-count.invariant c.loop-count-test.true
+    (found ∙ c.in-Some.is)
+    (c.in_ok-give.ensures ∙ ap (λ (l : labs.Lab). after_doing l (Give c.in-Some.packet))
+    (λ i. record { world = c.loop-count.self.world; given = c.next.ensures.same i }))
 
--- src/lab.rt:103:5
 pub returns-clause-count : goal.returns-clause-count
-returns-clause-count c = ?
+returns-clause-count c = ap (λ (f : Flushed). f.count) (goes-over c.loop-count.invariant c.loop-count-test.false)
 
--- src/lab.rt:103:5
 pub returns-clause-after : goal.returns-clause-after
-returns-clause-after c = ?
+returns-clause-after c = ap (λ (f : Flushed). f.lab) (goes-over c.loop-count.invariant c.loop-count-test.false)

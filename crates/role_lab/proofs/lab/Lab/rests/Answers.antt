@@ -1,13 +1,7 @@
-use Rattle.std.proofs.Common.{rules, ◌≡◌, ◌<◌, false, IfOk, OnOk, string_bytes, ℕ, ◌+◌, ◌-◌, ◌*◌, ◌≤◌, length, ◌/◌, ◌%◌, Bool, true, nat_eq, nat_lt, List, [], ◌∷◌, ◌++◌, slice_index_or, slice_set, bit_and, bit_or, Fits, w8, w32, w64, Bor, MutBor}
-use Rattle.byz_world.specs.Steps.{step_due, after_step}
-use Rattle.byz_world.specs.declared.step.Step.TheVariants.{Give}
-use Rattle.byz_world.specs.Worlds.{too_many_lie}
-use Rattle.role_lab.specs.Labs.{lab_sizes, pool_length, new_lab, given_after, after_doing, flush, after_order}
+use Rattle.role_lab.proofs.Resting.{same_truth, rests_is_rest}
 use Rattle.role_lab.specs.Rests.{rests}
-use Rattle.role_lab.specs.Inside.{IsWithinSizes, lab_in, given_in}
-use Rattle.role_lab.specs.OrderTexts as texts
 use Rattle.role_lab.proofs.lab.Lab.rests.Goals as goal
 
--- src/lab.rt:126:5
 pub returns : goal.returns
-returns c = ?
+returns c =
+    same_truth c.at_rest.result (rests c.args.self.now.world) c.at_rest.ensures (rests_is_rest c.args.self.now.world)

@@ -1,0 +1,75 @@
+use super::*;
+use link_frames::{Faulty, Mishap};
+use std::alloc::Global;
+
+type Ran = (Result<(), ScriptFault>, Vec<u8>);
+
+/// What a script of ample memory gives, and what it writes.
+fn outcome(alloc: Global, script: &[u8]) -> Ran {
+    let mut written = Vec::new(alloc);
+    let result = run_script(
+        alloc,
+        &mut Watched::new(script),
+        &mut Watched::new(&mut written),
+    );
+    (result, written)
+}
+
+/// Whether the script is bad at this line, with this text.
+fn is_bad_at(ran: Ran, number: u64, due: &[u8]) -> bool {
+    let (result, text) = ran;
+    matches!(&result, Err(ScriptFault::BadScript { line }) if *line == number)
+        && text.as_slice() == due
+}
+
+/// A liar is silent, and the others agree without it.
+const SILENT: (&[u8], &[u8]) = (
+    b"cluster 4 1\nrole 2 0\nliar 3\nissue 0 assign 7 2\nflush\nreach 2 0\nreach 3 0\nrest\n",
+    b"sizes 3 2 3\nok\nok\nissued 0 sent 0-3\nflushed 28\nreach 1\nV2 NotCorrect\nrest yes\n",
+);
+
+/// A vote counts once, and a correct node's must have been sent.
+const VOTES: (&[u8], &[u8]) = (
+    b"cluster 4 1\nrole 2 0\nliar 3\nissue 0 assign 7 2\ngive 1\ngive 1\nlie echo 3 1 0 0 assign 7 2\nlie echo 3 1 0 0 assign 8 2\nlie echo 2 1 0 0 assign 8 2\ngive 99\n",
+    b"sizes 3 2 3\nok\nok\nissued 0 sent 0-3\ncounted echo 4-7\nidle\ncounted\nidle\nV4 NotSent\nV3 NoSuchPacket\n",
+);
+
+#[test]
+fn scripts(rt: HostRuntime) {
+    for (script, due) in [SILENT, VOTES] {
+        let (result, text) = outcome(rt.alloc(), script);
+        assert!(rt; result.is_ok());
+        assert_eq!(rt; text.as_slice(), due);
+    }
+}
+
+#[test]
+fn bad_scripts(rt: HostRuntime) {
+    for script in [b"cluster 3 1\n".as_slice(), b"\n", b"role 2\n"] {
+        assert!(rt; is_bad_at(outcome(rt.alloc(), script), 1, b""));
+    }
+    let sent_for_another = b"cluster 4 1\nliar 3\nlie send 3 1 0 0 assign 7 2\n";
+    assert!(rt;
+        is_bad_at(
+            outcome(rt.alloc(), sent_for_another),
+            3,
+            b"sizes 3 2 3\nok\n"
+        )
+    );
+}
+
+#[test]
+fn failing_devices(rt: HostRuntime) {
+    let (script, due) = SILENT;
+    for call in 0..3 {
+        let mut written = Vec::new(rt.alloc());
+        let short = Faulty::new(script, Mishap::Short, 0, u64::MAX);
+        let result = run_script(
+            rt.alloc(),
+            &mut Watched::new(Faulty::new(short, Mishap::Fail, call, 1)),
+            &mut Watched::new(&mut written),
+        );
+        assert!(rt; matches!(&result, Err(ScriptFault::Device)));
+        assert!(rt; due.starts_with(written.as_slice()));
+    }
+}
