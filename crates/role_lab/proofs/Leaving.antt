@@ -105,8 +105,8 @@ by_given false m n e = ap suc e
 
 left-marked : (given : ℕ → Bool) (k n : ℕ) → given k ≡ false → k < n → suc (left (with_number given k) n) ≡ left given n
 unfolding left
-left-marked given k zero no h = absurd (omega arith)
-left-marked given k (suc n) no h = at (n == k) refl (left-marked given k n no)
+left-marked given k zero fresh h = absurd (omega arith)
+left-marked given k (suc n) fresh h = at (n == k) refl (left-marked given k n fresh)
   where
     at : (b : Bool) → (n == k) ≡ b
         → (k < n → suc (left (with_number given k) n) ≡ left given n)
@@ -116,7 +116,7 @@ left-marked given k (suc n) no h = at (n == k) refl (left-marked given k n no)
         let same : n ≡ k = eqb-true n k e in
         ap (λ b. suc (cond (b || given n) (left (with_number given k) n) (suc (left (with_number given k) n)))) e
         ∙ ap suc (left-above given k n (omega arith))
-        ∙ ap (λ b. cond b (left given n) (suc (left given n))) (sym (ap given same ∙ no))
+        ∙ ap (λ b. cond b (left given n) (suc (left given n))) (sym (ap given same ∙ fresh))
     at false e rest =
         let below : suc (left (with_number given k) n) ≡ left given n = rest (omega (arith, eqb-false n k e)) in
         ap (λ b. suc (cond (b || given n) (left (with_number given k) n) (suc (left (with_number given k) n)))) e
@@ -148,7 +148,7 @@ found_is p from (suc n) k e = at (p from) refl e (found_is p (from + 1) n k)
 
 pub leaves_none : (times count : ℕ) (lab : Lab) → IsWithinLimit lab.world → left lab.given lab.world.config.limit ≤ times
     → next_number (flush_within times count lab).lab ≡ None
-unfolding flush_within next_number
+unfolding flush_within next_number after_step
 leaves_none zero count lab within few =
     let none : left lab.given lab.world.config.limit ≡ 0 = omega arith in
     find-range-none (λ k. not (lab.given k)) 0 (pool_length lab.world)

@@ -17,6 +17,7 @@ use Rattle.role_lab.specs.Statuses.{of_ahead_fault}
 use Rattle.role_lab.specs.Steps.{Holds}
 use Rattle.role_lab.specs.declared.fault.ScriptFault.{ScriptFault}
 use Rattle.role_lab.specs.declared.fault.ScriptFault.TheVariants.{BadScript, Device, Memory}
+use Rattle.role_lab.specs.declared.run.Took.{Took}
 use Rattle.role_lab.specs.declared.stage.Stage.{Stage}
 use Rattle.role_lab.specs.declared.stage.Stage.TheVariants.{Start}
 use Rattle.role_lab.proofs.Answering.{starts}
@@ -114,7 +115,7 @@ pub ends_ahead : (known reader a b : Option (List ℕ)) (f : AheadFault) → Wro
 ends_ahead known reader a b ahead.Device wrote = wrote
 ends_ahead known reader a b ahead.Memory wrote = wrote
 
-pub ahead_device : {X : Type 0} (t u : Tally) (f : AheadFault) → ReadAhead {X = X} t u (Err f) → of_ahead_fault f ≡ Device
+pub ahead_device : (t u : Tally) (f : AheadFault) → ReadAhead {X = Took} t u (Err f) → of_ahead_fault f ≡ Device
     → ReaderFailed t u
 ahead_device t u ahead.Device failed e = failed
 ahead_device t u ahead.Memory failed e = absurd (other e)

@@ -8,6 +8,9 @@ use Rattle.role_lab.specs.Inside.{lab_in}
 use Rattle.role_lab.specs.Labs as labs
 use Rattle.role_lab.specs.Labs.{lab_sizes, new_lab}
 use Rattle.role_lab.specs.Orders.{setup_of_line}
+use Rattle.role_lab.specs.Scripts.{after_cluster_line}
+use Rattle.role_lab.specs.Stages.{Answers}
+use Rattle.role_lab.specs.declared.stage.Stage.TheVariants.{Living}
 use Rattle.role_lab.proofs.Answering.{setting_follows, cluster_follows, setup_line-good, setup_ends, cluster_goes_on, next-short, no_text-bad, start-bad, start-good, running}
 use Rattle.role_lab.proofs.stage.answer.Goals as goal
 
@@ -70,5 +73,9 @@ returns-in_ok-answer-in-Setting c script follows =
     let new : lab_in c.in-Some-2.lab ≡ new_lab c.in-Setting.roles c.in-Setting.liars =
     made ∙ ap (λ (t : Table). new_lab t c.in-Setting.liars) c.in_ok-copy-in-Setting.ensures in
     let answers = c.in_ok-answer-in-Setting.ensures (subst (λ (l : labs.Lab). AreSizes (lab_sizes l)) (sym new) are) in
-    rw (next-short script c.args.line.now c.requires, is, setup_ends c.in-Setting.roles c.in-Setting.liars c.args.line.now (rw c.in-Ok.ensures.cases.0 at unset))
-    (rw (new, c.in-Ok.ensures.cases.0) at answers)
+    let told = subst
+    (λ (l : labs.Lab). Answers (after_cluster_line l c.in-Ok.text.now) (Living c.cluster_line.new.lab)
+    (option_map string_bytes c.in_ok-answer-in-Setting.answer)) new answers in
+    rw (next-short script c.args.line.now c.requires, is)
+    (rw (setup_ends c.in-Setting.roles c.in-Setting.liars c.args.line.now (rw c.in-Ok.ensures.cases.0 at unset))
+    (rw c.in-Ok.ensures.cases.0 at told))
