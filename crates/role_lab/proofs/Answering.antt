@@ -1,11 +1,13 @@
 -- What is kept of a script, after one more line.
-use Rattle.std.proofs.Common.{◌≡◌, ℕ, ◌<◌, ◌≤◌, true, false, nat_lt, List, [], ◌∷◌, ◌++◌, length, Option, Some, None, option_map, sym, refl, ap, ◌∙◌, arith, subst}
+use Rattle.std.proofs.Common.{◌≡◌, ℕ, ◌<◌, ◌≤◌, Bool, true, false, cond, nat_lt, List, [], ◌∷◌, ◌++◌, length, Option, Some, None, option_map, sym, refl, ap, ◌∙◌, arith, subst}
+use Rattle.std.proofs.lemmas.Bool.{true≢false}
 use Rattle.std.proofs.lemmas.Bool.Decides.{nat_tests}
 use Rattle.std.proofs.lemmas.List.Elements.{All-nil, All-push}
 use Rattle.std.specs.Str.{IsUtf8}
 use Rattle.std.specs.Option.{option_or}
-use Rattle.std.proofs.lemmas.Option.{none-some, same_Some}
+use Rattle.std.specs.FinSet as sets
 use Rattle.quorum_sizes.specs.Sizes.{Counts, AreSizes}
+use Rattle.quorum_sizes.specs.NodeSets.{Nodes}
 use Rattle.role_commands.specs.Tables.{Table, no_roles}
 use Rattle.role_commands.specs.TableFaults.{add_due}
 use Rattle.role_commands.specs.declared.table.TableFault.{TableFault}
@@ -13,23 +15,26 @@ use Rattle.link_frames.specs.declared.kind.Kind.TheVariants.{Send}
 use Rattle.bracha_instance.specs.Broadcast.{Take}
 use Rattle.bracha_instance.specs.States.{State, state}
 use Rattle.bracha_instance.specs.Taking.{SendsAreFrom}
-use Rattle.role_node.specs.Configs.{ConfigValue}
-use Rattle.role_lab.specs.Lines.{most_line_bytes}
+use Rattle.byz_world.specs.Worlds.{too_many_lie}
 use Rattle.role_lab.specs.Grammar.{owner, IsFromNode, sizes_of_line, take_of_line}
-use Rattle.role_lab.specs.Texts.{sizes_text, outcome_text}
-use Rattle.role_lab.specs.Orders.{cluster_of_line, role_of_line, order_of_line}
-use Rattle.role_lab.specs.Clusters.{ClusterValue, new_cluster, after_order}
-use Rattle.role_lab.specs.Inside.{cluster_due}
-use Rattle.role_lab.specs.ClusterTexts.{role_text, order_text}
-use Rattle.role_lab.specs.declared.orders.Order.{Order}
-use Rattle.role_lab.specs.Scripts.{Script, Unread, OfInstance, OfRoles, OfCluster, first_of_instance, first_of_cluster, after_take, table_after, after_role, after_asking, after_cluster_line, after_line, next}
+use Rattle.role_lab.specs.Inside.{lab_in}
+use Rattle.role_lab.specs.Labs as labs
+use Rattle.role_lab.specs.Labs.{lab_sizes, new_lab, after_order}
+use Rattle.role_lab.specs.OrderTexts.{order_text}
+use Rattle.role_lab.specs.Orders.{cluster_of_line, setup_of_line, order_of_line}
+use Rattle.role_lab.specs.Scripts.{Script, Unread, OfInstance, OfSetup, OfCluster, most_line_bytes, first_of_instance, first_of_cluster, after_take, table_after, one_too_many, liars_after, after_setup, after_asking, after_cluster_line, after_line, next}
 use Rattle.role_lab.specs.Stages.{Follows, Answers, StageAnswers}
+use Rattle.role_lab.specs.Texts.{sizes_text, outcome_text}
+use Rattle.role_lab.specs.declared.lab.Lab.{Lab}
+use Rattle.role_lab.specs.declared.orders.Order.{Order}
+use Rattle.role_lab.specs.declared.orders.Setup.{Setup}
+use Rattle.role_lab.specs.declared.orders.Setup.TheVariants.{Owned, Liar}
 use Rattle.role_lab.specs.declared.stage.Stage.{Stage}
-use Rattle.role_lab.specs.declared.stage.Stage.TheVariants.{Start, Running, Roles, Living}
+use Rattle.role_lab.specs.declared.stage.Stage.TheVariants.{Start, Running, Setting, Living}
+use Rattle.role_lab.proofs.LabSizes.{after_order-sizes, none_lie_too_many}
+use Rattle.role_lab.proofs.PlainLines.{first_line-text, later_line-text, cluster_line-text, setup_line-text, order_line-text}
 use Rattle.role_lab.proofs.Spelled.{sizes_of_line_spelled}
-use Rattle.role_lab.proofs.Ascii.{first_line-text, later_line-text}
-use Rattle.role_lab.proofs.ClusterLemmas.{after_order-config}
-use Rattle.role_lab.proofs.SpelledOrders.{cluster_of_line_spelled, cluster_line-text, role_line-text, order_line-text}
+use Rattle.role_lab.proofs.SpelledSetups.{cluster_of_line_spelled}
 
 -- before any line
 pub starts : (stage : Stage) → stage ≡ Start → Follows stage Unread
@@ -48,15 +53,12 @@ unfolding after_line Follows
 first_line-good line text s instance e fresh is =
     rw e ((refl, (sizes_of_line_spelled line s e).1, fresh s, All-nil (λ t. t.kind ≡ Send → t.from ≡ owner)), is)
 
--- a cluster that a line names has one node
-pub one_node : (line : List ℕ) (s : Counts) → cluster_of_line line ≡ Some s → s.nodes ≡ 1
-one_node line s e = (cluster_of_line_spelled line s e).2
-
-pub first_line-cluster : (line text : List ℕ) (s : Counts) (roles : Table) → sizes_of_line line ≡ None
-    → cluster_of_line line ≡ Some s → roles ≡ no_roles s
-    → text ≡ sizes_text s → StageAnswers (after_line Unread line) (Some (Roles roles, text))
+pub first_line-cluster : (line text : List ℕ) (s : Counts) (roles : Table) (liars : Nodes) → sizes_of_line line ≡ None
+    → cluster_of_line line ≡ Some s → roles ≡ no_roles s → liars ≡ sets.empty
+    → text ≡ sizes_text s → StageAnswers (after_line Unread line) (Some (Setting roles liars, text))
 unfolding after_line Follows
-first_line-cluster line text s roles none e fresh is = rw (none, e) ((fresh, one_node line s e), is)
+first_line-cluster line text s roles liars none e fresh empty is =
+    rw (none, e) ((fresh, empty, (cluster_of_line_spelled line s e).1, none_lie_too_many s), is)
 
 pub later_line-bad : (s : Counts) (takes : List Take) (line : List ℕ) (stage : Stage) → take_of_line s line ≡ None
     → Answers (after_line (OfInstance s takes) line) stage None
@@ -85,14 +87,13 @@ unfolding next
 next-long script line long = let past : nat_lt most_line_bytes (length line) ≡ true = grind (arith, nat_tests) in rw past refl
 
 -- a line of a cluster that is no text is bad
-asking-bad : (c : ClusterValue) (stage : Stage) (line : List ℕ) → c.node.config.roles.sizes.nodes ≡ 1 → (IsUtf8 line → ⊥)
-    → Answers (after_cluster_line c line) stage None
-asking-bad c stage line one not = bad (order_of_line c.node.config.roles.sizes line) refl
+asking-bad : (lab : labs.Lab) (stage : Stage) (line : List ℕ) → AreSizes (lab_sizes lab) → (IsUtf8 line → ⊥)
+    → Answers (after_cluster_line lab line) stage None
+asking-bad lab stage line are not = bad (order_of_line (lab_sizes lab) line) refl
   where
-    bad : (o : Option Order) → o ≡ order_of_line c.node.config.roles.sizes line
-        → Answers (option_map (after_asking c) o) stage None
+    bad : (o : Option Order) → o ≡ order_of_line (lab_sizes lab) line → Answers (option_map (after_asking lab) o) stage None
     bad None e = tt
-    bad (Some order) e = absurd (not (order_line-text c.node.config.roles.sizes line order (omega (arith, one)) (sym e)))
+    bad (Some order) e = absurd (not (order_line-text (lab_sizes lab) line order are (sym e)))
 
 -- a line that is no text is bad
 pub no_text-bad : (script : Script) (stage : Stage) (line : List ℕ) → Follows stage script → (IsUtf8 line → ⊥)
@@ -106,26 +107,27 @@ no_text-bad Unread stage line follows not = bad (sizes_of_line line) (cluster_of
     bad (Some s) p e f = absurd (not (first_line-text line s (sym e)))
     bad None (Some s) e f = absurd (not (cluster_line-text line s (sym f)))
 no_text-bad (OfInstance s takes) Start line follows not = absurd follows
-no_text-bad (OfInstance s takes) (Roles roles) line follows not = absurd follows
-no_text-bad (OfInstance s takes) (Living cluster) line follows not = absurd follows
+no_text-bad (OfInstance s takes) (Setting roles liars) line follows not = absurd follows
+no_text-bad (OfInstance s takes) (Living lab) line follows not = absurd follows
 no_text-bad (OfInstance s takes) (Running sizes instance) line follows not = bad (take_of_line s line) refl
   where
     bad : (o : Option Take) → o ≡ take_of_line s line → Answers (option_map (after_take s takes) o) (Running sizes instance) None
     bad None e = tt
     bad (Some t) e = absurd (not (later_line-text s line t follows.1 (sym e)))
-no_text-bad (OfRoles roles) Start line follows not = absurd follows
-no_text-bad (OfRoles roles) (Running sizes instance) line follows not = absurd follows
-no_text-bad (OfRoles roles) (Living cluster) line follows not = absurd follows
-no_text-bad (OfRoles roles) (Roles table) line follows not = bad (role_of_line line) refl
+no_text-bad (OfSetup roles liars) Start line follows not = absurd follows
+no_text-bad (OfSetup roles liars) (Running sizes instance) line follows not = absurd follows
+no_text-bad (OfSetup roles liars) (Living lab) line follows not = absurd follows
+no_text-bad (OfSetup roles liars) (Setting table names) line follows not = bad (setup_of_line roles.sizes line) refl
   where
-    bad : (o : Option (ℕ × ℕ)) → o ≡ role_of_line line
-        → Answers (option_or (option_map (after_role roles) o) (after_cluster_line (new_cluster roles) line)) (Roles table) None
-    bad None e = asking-bad (new_cluster roles) (Roles table) line follows.1 not
-    bad (Some said) e = absurd (not (role_line-text line said (sym e)))
-no_text-bad (OfCluster c) Start line follows not = absurd follows
-no_text-bad (OfCluster c) (Running sizes instance) line follows not = absurd follows
-no_text-bad (OfCluster c) (Roles table) line follows not = absurd follows
-no_text-bad (OfCluster c) (Living cluster) line follows not = asking-bad c (Living cluster) line follows.1 not
+    bad : (o : Option Setup) → o ≡ setup_of_line roles.sizes line
+        → Answers (option_or (option_map (after_setup roles liars) o) (after_cluster_line (new_lab roles liars) line))
+        (Setting table names) None
+    bad None e = asking-bad (new_lab roles liars) (Setting table names) line follows.2 not
+    bad (Some setup) e = absurd (not (setup_line-text roles.sizes line setup follows.2 (sym e)))
+no_text-bad (OfCluster lab) Start line follows not = absurd follows
+no_text-bad (OfCluster lab) (Running sizes instance) line follows not = absurd follows
+no_text-bad (OfCluster lab) (Setting roles liars) line follows not = absurd follows
+no_text-bad (OfCluster lab) (Living kept) line follows not = asking-bad lab (Living kept) line follows.1 not
 
 -- the answer at the first line, where the stage is that of no line
 pub start-bad : (script : Script) (stage : Stage) (line : List ℕ) → stage ≡ Start → Follows stage script
@@ -140,8 +142,8 @@ start-bad script stage line e follows bad = first script (subst (λ (s : Stage).
     first : (script : Script) → Follows Start script → Answers (after_line script line) stage None
     first Unread h = none (after_line Unread line) bad
     first (OfInstance s takes) h = absurd h
-    first (OfRoles roles) h = absurd h
-    first (OfCluster c) h = absurd h
+    first (OfSetup roles liars) h = absurd h
+    first (OfCluster lab) h = absurd h
 
 pub start-good : (script : Script) (stage after : Stage) (line text : List ℕ) → stage ≡ Start → Follows stage script
     → StageAnswers (after_line Unread line) (Some (after, text)) → Answers (after_line script line) after (Some text)
@@ -155,8 +157,8 @@ start-good script stage after line text e follows good = first script (subst (λ
     first : (script : Script) → Follows Start script → Answers (after_line script line) after (Some text)
     first Unread h = some (after_line Unread line) good
     first (OfInstance s takes) h = absurd h
-    first (OfRoles roles) h = absurd h
-    first (OfCluster c) h = absurd h
+    first (OfSetup roles liars) h = absurd h
+    first (OfCluster lab) h = absurd h
 
 -- the answer at a later line
 pub running : (script : Script) (stage after : Stage) (s : Counts) (instance : State) (line said : List ℕ) (text : Option (List ℕ)) → stage ≡ Running s instance → said ≡ line → Follows stage script
@@ -168,82 +170,99 @@ running script stage after s instance line said text e same follows answers =
   where
     later : (script : Script) → Follows (Running s instance) script → Answers (after_line script said) after text
     later Unread h = absurd h
-    later (OfRoles roles) h = absurd h
-    later (OfCluster c) h = absurd h
+    later (OfSetup roles liars) h = absurd h
+    later (OfCluster lab) h = absurd h
     later (OfInstance sizes takes) h =
         subst (λ (c : Counts). Answers (after_line (OfInstance c takes) said) after text) h.0
         (answers takes (subst AreSizes (sym h.0) h.1) (h.2 ∙ ap (λ c. state c takes) (sym h.0)) h.3)
 
--- the lines behind which there are only roles
-pub roles_follow : (script : Script) (stage : Stage) (roles : Table) → stage ≡ Roles roles → Follows stage script
-    → (script ≡ OfRoles roles) × (roles.sizes.nodes ≡ 1)
+-- the lines behind which there are only roles and liars
+pub setting_follows : (script : Script) (stage : Stage) (roles : Table) (liars : Nodes) → stage ≡ Setting roles liars
+    → Follows stage script
+    → (script ≡ OfSetup roles liars) × AreSizes roles.sizes × (too_many_lie roles.sizes liars ≡ false)
 unfolding Follows
-roles_follow script stage roles e follows = are script (subst (λ (s : Stage). Follows s script) e follows)
+setting_follows script stage roles liars e follows = are script (subst (λ (s : Stage). Follows s script) e follows)
   where
-    are : (script : Script) → Follows (Roles roles) script → (script ≡ OfRoles roles) × (roles.sizes.nodes ≡ 1)
+    are : (script : Script) → Follows (Setting roles liars) script
+        → (script ≡ OfSetup roles liars) × AreSizes roles.sizes × (too_many_lie roles.sizes liars ≡ false)
     are Unread h = absurd h
     are (OfInstance s takes) h = absurd h
-    are (OfRoles table) h = (ap OfRoles (sym h.0), ap (λ (t : Table). t.sizes.nodes) h.0 ∙ h.1)
-    are (OfCluster c) h = absurd h
+    are (OfSetup table names) h = (
+      (λ i. OfSetup (sym h.0 i) (sym h.1 i)),
+      subst (λ (t : Table). AreSizes t.sizes) (sym h.0) h.2,
+      (λ i. too_many_lie (h.0 i).sizes (h.1 i)) ∙ h.3,
+    )
+    are (OfCluster lab) h = absurd h
 
 -- the lines behind which something happened in a cluster
-pub cluster_follows : (script : Script) (stage : Stage) (cluster : ClusterValue) → stage ≡ Living cluster → Follows stage script
-    → (script ≡ OfCluster cluster) × (cluster.node.config.roles.sizes.nodes ≡ 1)
+pub cluster_follows : (script : Script) (stage : Stage) (lab : Lab) → stage ≡ Living lab → Follows stage script
+    → (script ≡ OfCluster (lab_in lab)) × AreSizes (lab_sizes (lab_in lab))
 unfolding Follows
-cluster_follows script stage cluster e follows = are script (subst (λ (s : Stage). Follows s script) e follows)
+cluster_follows script stage lab e follows = are script (subst (λ (s : Stage). Follows s script) e follows)
   where
-    are : (script : Script) → Follows (Living cluster) script
-        → (script ≡ OfCluster cluster) × (cluster.node.config.roles.sizes.nodes ≡ 1)
+    are : (script : Script) → Follows (Living lab) script → (script ≡ OfCluster (lab_in lab)) × AreSizes (lab_sizes (lab_in lab))
     are Unread h = absurd h
     are (OfInstance s takes) h = absurd h
-    are (OfRoles table) h = absurd h
-    are (OfCluster c) h = (ap OfCluster (sym h.0), ap (λ (k : ClusterValue). k.node.config.roles.sizes.nodes) h.0 ∙ h.1)
+    are (OfSetup table names) h = absurd h
+    are (OfCluster due) h = (ap OfCluster (sym h.0), subst (λ (l : labs.Lab). AreSizes (lab_sizes l)) (sym h.0) h.1)
 
--- the roles of one node make a cluster
-alone_due : (roles : Table) → roles.sizes.nodes ≡ 1 → cluster_due roles ≡ Some (new_cluster roles)
-alone_due roles one = rw one refl
+-- one more role or liar
 
-pub cluster_is_due : (roles copy : Table) (o : Option ClusterValue) → copy ≡ roles → roles.sizes.nodes ≡ 1
-    → o ≡ cluster_due copy → o ≡ None → ⊥
-cluster_is_due roles copy o same one due none =
-    none-some (new_cluster roles) (sym none ∙ due ∙ ap cluster_due same ∙ alone_due roles one)
+same_table : (a b : Table) (x y : Nodes) → OfSetup a x ≡ OfSetup b y → (a ≡ b) × (x ≡ y)
+same_table a b x y e = (cc, cc)
 
-pub cluster_due_is : (roles copy : Table) (o : Option ClusterValue) (c : ClusterValue) → copy ≡ roles → roles.sizes.nodes ≡ 1
-    → o ≡ cluster_due copy → o ≡ Some c
-    → c ≡ new_cluster roles
-cluster_due_is roles copy o c same one due some =
-    same_Some c (new_cluster roles) (sym some ∙ due ∙ ap cluster_due same ∙ alone_due roles one)
+table_sizes : (roles : Table) (role by : ℕ) (fault : Option TableFault) → (table_after roles role by fault).sizes ≡ roles.sizes
+table_sizes roles role by None = refl
+table_sizes roles role by (Some fault) = refl
 
--- one more role
-pub role_line-good : (roles new : Table) (line text : List ℕ) (said : ℕ × ℕ) → role_of_line line ≡ Some said
-    → roles.sizes.nodes ≡ 1
-    → new ≡ table_after roles said (add_due roles said.0 said.1) → text ≡ role_text (add_due roles said.0 said.1)
-    → Answers (after_line (OfRoles roles) line) (Roles new) (Some text)
-unfolding after_line Follows
-role_line-good roles new line text said e one is written = rw e ((is, sizes (add_due roles said.0 said.1)), written)
+liars_few : (roles : Table) (liars : Nodes) (node : ℕ) → too_many_lie roles.sizes liars ≡ false
+    → too_many_lie roles.sizes (liars_after roles liars node) ≡ false
+liars_few roles liars node few = at (one_too_many roles liars node) refl
   where
-    sizes : (fault : Option TableFault) → (table_after roles said fault).sizes.nodes ≡ 1
-    sizes None = one
-    sizes (Some fault) = one
+    at : (b : Bool) → one_too_many roles liars node ≡ b
+        → too_many_lie roles.sizes (cond b liars (sets.insert liars node)) ≡ false
+    at true e = few
+    at false e = e
 
--- the first line that is no role's
-pub roles_end : (roles : Table) (line : List ℕ) → role_of_line line ≡ None
-    → after_line (OfRoles roles) line ≡ after_cluster_line (new_cluster roles) line
-unfolding after_line
-roles_end roles line e = rw e refl
-
-pub cluster_goes_on : (c : ClusterValue) (line : List ℕ) → after_line (OfCluster c) line ≡ after_cluster_line c line
-unfolding after_line
-cluster_goes_on c line = refl
-
-pub asking-none : (c : ClusterValue) (stage : Stage) (line : List ℕ) → order_of_line c.node.config.roles.sizes line ≡ None
-    → Answers (after_cluster_line c line) stage None
-asking-none c stage line e = rw e tt
-
-pub asking-some : (c new : ClusterValue) (line text : List ℕ) (order : Order)
-    → order_of_line c.node.config.roles.sizes line ≡ Some order → new ≡ after_order c order
-    → c.node.config.roles.sizes.nodes ≡ 1 → text ≡ order_text c order
-    → Answers (after_cluster_line c line) (Living new) (Some text)
+setup_follows : (roles : Table) (liars : Nodes) (setup : Setup) (table : Table) (names : Nodes) → AreSizes roles.sizes
+    → too_many_lie roles.sizes liars ≡ false → OfSetup table names ≡ (after_setup roles liars setup).0
+    → Follows (Setting table names) (after_setup roles liars setup).0
 unfolding Follows
-asking-some c new line text order e is one written =
-    rw e ((is, ap (λ (config : ConfigValue). config.roles.sizes.nodes) (after_order-config c order) ∙ one), written)
+setup_follows roles liars (Owned role by) table names are few is =
+    let fault = add_due roles role by in
+    let same = same_table table (table_after roles role by fault) names liars is in
+    let sizes = table_sizes roles role by fault in
+    (same.0, same.1, subst AreSizes (sym sizes) are, ap (λ s. too_many_lie s liars) sizes ∙ few)
+setup_follows roles liars (Liar node) table names are few is =
+    let same = same_table table roles names (liars_after roles liars node) is in
+    (same.0, same.1, are, liars_few roles liars node few)
+
+pub setup_line-good : (roles table : Table) (liars names : Nodes) (line text : List ℕ) (setup : Setup)
+    → setup_of_line roles.sizes line ≡ Some setup → AreSizes roles.sizes → too_many_lie roles.sizes liars ≡ false
+    → OfSetup table names ≡ (after_setup roles liars setup).0 → text ≡ (after_setup roles liars setup).1
+    → Answers (after_line (OfSetup roles liars) line) (Setting table names) (Some text)
+unfolding after_line
+setup_line-good roles table liars names line text setup e are few is written =
+    rw e (setup_follows roles liars setup table names are few is, written)
+
+-- the first line that is no role's and no liar's
+pub setup_ends : (roles : Table) (liars : Nodes) (line : List ℕ) → setup_of_line roles.sizes line ≡ None
+    → after_line (OfSetup roles liars) line ≡ after_cluster_line (new_lab roles liars) line
+unfolding after_line
+setup_ends roles liars line e = rw e refl
+
+pub cluster_goes_on : (lab : labs.Lab) (line : List ℕ) → after_line (OfCluster lab) line ≡ after_cluster_line lab line
+unfolding after_line
+cluster_goes_on lab line = refl
+
+pub asking-none : (lab : labs.Lab) (stage : Stage) (line : List ℕ) → order_of_line (lab_sizes lab) line ≡ None
+    → Answers (after_cluster_line lab line) stage None
+asking-none lab stage line e = rw e tt
+
+pub asking-some : (lab : labs.Lab) (new : Lab) (line text : List ℕ) (order : Order)
+    → order_of_line (lab_sizes lab) line ≡ Some order → lab_in new ≡ after_order lab order
+    → AreSizes (lab_sizes lab) → text ≡ order_text lab order
+    → Answers (after_cluster_line lab line) (Living new) (Some text)
+unfolding Follows
+asking-some lab new line text order e is are written =
+    rw e ((is, subst AreSizes (sym (after_order-sizes lab order)) are), written)

@@ -1,11 +1,11 @@
 -- The lines of a script of one instance: `instance N F` first, and then `send C`, `echo I C` and `ready I C`.
 -- The laws of `one_spelling` say that these are their only spellings.
-use Rattle.std.specs.Prelude.{◌≡◌, ℕ, ◌<◌, ◌-◌, ◌^◌, if◌then◌else◌, List, codes, Option, None, option_and_then, option_map}
+use Rattle.std.specs.Prelude.{◌≡◌, ℕ, ◌<◌, if◌then◌else◌, List, codes, Option, None, option_and_then, option_map}
 use Rattle.std.specs.Result.{result_ok}
 use Rattle.std.specs.Str.{bytes_eq}
 use Rattle.quorum_sizes.specs.Sizes.{Counts, name_due}
 use Rattle.quorum_sizes.specs.Refusals.{sizes_due}
-use Rattle.role_commands.specs.Numbers.{split_word, number_of}
+use Rattle.role_commands.specs.Numbers.{split_word, byte_number}
 use Rattle.role_commands.specs.Reading.{command_of}
 use Rattle.link_frames.specs.declared.kind.Kind.{Kind}
 use Rattle.link_frames.specs.declared.kind.Kind.TheVariants.{Send, Echo, Ready}
@@ -19,11 +19,7 @@ owner = 0
 abbrev pub IsFromNode : Counts → Take → Type 0
 IsFromNode s t = (t.from < s.nodes) × (t.kind ≡ Send → t.from ≡ owner)
 
--- sizes and names of nodes have 8 bits
-abbrev pub byte_number : List ℕ → Option ℕ
-byte_number = number_of (2 ^ 8 - 1)
-
--- `N F`
+-- `N F`, which have 8 bits
 unfoldable pub sizes_of_numbers : List ℕ → Option Counts
 sizes_of_numbers text =
     option_and_then (λ words.

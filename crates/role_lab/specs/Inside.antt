@@ -1,41 +1,52 @@
--- What holds of a cluster's fields, and what is said of the steps of an answer. Serves the code, and no public contract.
-use Rattle.std.specs.Prelude.{◌≡◌, ◌≢◌, ◌<◌, ◌≤◌, ◌==◌, if◌then◌else◌, ⊤, length, Option, Some, None, Result, Err}
+-- How the code keeps a cluster, and what is asked of a line that was read. Serves the code, and no public contract.
+use Rattle.std.specs.Prelude.{ℕ, ◌<◌, Bool, true, false, ⊤, Option, Some, None}
 use Rattle.quorum_sizes.specs.Sizes.{Counts}
-use Rattle.role_commands.specs.Tables.{Table}
-use Rattle.role_node.specs.Nodes.{due_at}
-use Rattle.role_node.specs.declared.event.Event.{Event}
-use Rattle.role_node.specs.declared.event.Reply.{Reply}
-use Rattle.role_node.specs.declared.faults.NodeFault.{NodeFault}
-use Rattle.role_node.specs.declared.faults.NodeFault.TheVariants as fault
-use Rattle.role_lab.specs.Clusters.{ClusterValue, only_node, new_cluster, after_event}
-use Rattle.role_lab.specs.declared.cluster.Cluster.TheInside.{Inside}
+use Rattle.bracha_instance.specs.Broadcast.{Take}
+use Rattle.byz_world.specs.declared.faults.WorldFault.{WorldFault}
+use Rattle.byz_world.specs.declared.faults.WorldFault.TheVariants as fault
+use Rattle.byz_world.specs.declared.step.Step.{Step}
+use Rattle.byz_world.specs.declared.step.Step.TheVariants.{Issue, Give, Lie, Client}
+use Rattle.role_lab.specs.Flags.{flagged}
+use Rattle.role_lab.specs.Labs as labs
+use Rattle.role_lab.specs.declared.given.Given.{Given}
+use Rattle.role_lab.specs.declared.grammar.Said.{Said}
+use Rattle.role_lab.specs.declared.lab.Lab.{Lab}
 use Rattle.role_lab.specs.declared.orders.Order.{Order}
-use Rattle.role_lab.specs.declared.orders.Order.TheVariants.{Issue, Flush, Act, Ask, Reach}
+use Rattle.role_lab.specs.declared.orders.Order.TheVariants.{Do, Flush, Rest, Ask, Reach, Agree}
 
--- the cluster of these roles, where they are those of one node
-abbrev pub cluster_due : Table → Option ClusterValue
-cluster_due roles = if roles.sizes.nodes == 1 then Some (new_cluster roles) else None
+abbrev pub given_in : Given → (ℕ → Bool)
+given_in given = flagged given.flags.items
+
+-- what the code keeps is this cluster
+abbrev pub lab_in : Lab → labs.Lab
+lab_in lab = record { world = lab.world; given = given_in lab.given }
+
+-- the number of the packet that a step gives
+abbrev pub packet_given : Step → Option ℕ
+packet_given (Give number) = Some number
+packet_given (Issue node command) = None
+packet_given (Lie packet) = None
+packet_given (Client node act) = None
 
 -- the owner whose reach is asked for is a node of these sizes
 abbrev pub IsWithinSizes : Counts → Order → Type 0
-IsWithinSizes s (Issue command) = ⊤
+IsWithinSizes s (Do step) = ⊤
 IsWithinSizes s Flush = ⊤
-IsWithinSizes s (Act act) = ⊤
-IsWithinSizes s (Ask question) = ⊤
-IsWithinSizes s (Reach owner) = owner < s.nodes
+IsWithinSizes s Rest = ⊤
+IsWithinSizes s (Ask node question) = ⊤
+IsWithinSizes s (Reach node owner) = owner < s.nodes
+IsWithinSizes s (Agree one other owner) = ⊤
 
--- the node gave the answer that is due, and the cluster is the one after it; where memory was wanting nothing is said
-abbrev pub AnswersEvent : ClusterValue → Event → Result Reply NodeFault → ClusterValue → Type 0
-AnswersEvent old e result new = result ≢ Err fault.Memory → (due_at old.node e ≡ result) × (new ≡ after_event old e)
+-- the message that was said
+abbrev pub take_said : Said → Take
+take_said said = record { kind = said.kind; from = said.from; command = said.command }
 
--- what contracts see of a cluster
-abbrev pub cluster_value : Inside → ClusterValue
-cluster_value a = record { node = a.node; pool = a.pool.items; given = a.given }
-
--- its one node is `me`, and no more packets were given than there are
-pub record IsCluster (a : Inside) : Type 0 where
-  pub me : a.me ≡ only_node
-  pub name : a.node.me ≡ only_node
-  pub sizes : a.sizes ≡ a.node.config.roles.sizes
-  pub alone : a.sizes.nodes ≡ 1
-  pub given : a.given ≤ length a.pool.items
+abbrev pub is_want_of_memory : WorldFault → Bool
+is_want_of_memory fault.TooManyLiars = false
+is_want_of_memory fault.NotCorrect = false
+is_want_of_memory fault.NoSuchPacket = false
+is_want_of_memory fault.NotSent = false
+is_want_of_memory fault.PoolFull = false
+is_want_of_memory (fault.Node f) = false
+is_want_of_memory fault.NoSession = false
+is_want_of_memory fault.Memory = true

@@ -1,58 +1,73 @@
--- The lines of a script of a cluster: `cluster N F` first, then `role R OWNER`, and then what is asked of a node.
--- The laws of `one_spelling` say that a line has one spelling.
-use Rattle.std.specs.Prelude.{ℕ, ◌-◌, ◌^◌, ◌==◌, if◌then◌else◌, List, codes, Option, Some, None, option_and_then, option_map}
+-- The lines of a script of a cluster: `cluster N F` first, then `role R OWNER` and `liar I`, and then what is done to the
+-- cluster and what is asked of it. The laws of `one_spelling_of_orders` say that a line has one spelling.
+use Rattle.std.specs.Prelude.{ℕ, if◌then◌else◌, List, codes, Option, Some, None, option_and_then, option_map}
 use Rattle.std.specs.Str.{bytes_eq}
 use Rattle.quorum_sizes.specs.Sizes.{Counts, name_due}
-use Rattle.role_commands.specs.Numbers.{split_word, number_of}
-use Rattle.role_commands.specs.Reading.{wide_number, narrow_number, command_of}
+use Rattle.role_commands.specs.Numbers.{split_word, byte_number, narrow_number, wide_number, long_number}
+use Rattle.role_commands.specs.Reading.{command_of}
+use Rattle.link_frames.specs.Packets.{PacketValue, packet_due}
+use Rattle.link_frames.specs.declared.kind.Kind.{Kind}
+use Rattle.link_frames.specs.declared.kind.Kind.TheVariants.{Send, Echo, Ready}
 use Rattle.role_sessions.specs.declared.event.ClientEvent.TheVariants.{Open, Activate, DropRole, Close}
 use Rattle.role_node.specs.declared.question.Question.{Question}
 use Rattle.role_node.specs.declared.question.Question.TheVariants.{Check, AssignedUsers, AssignedRoles, RolePermissions, UserPermissions, RoleOperations, UserOperations, SessionRoles, SessionPermissions}
-use Rattle.role_lab.specs.Grammar.{byte_number, sizes_of_numbers}
+use Rattle.byz_world.specs.declared.step.Step.TheVariants.{Issue, Give, Lie, Client}
+use Rattle.role_lab.specs.Grammar.{sizes_of_numbers}
+use Rattle.role_lab.specs.declared.orders.Setup.{Setup}
+use Rattle.role_lab.specs.declared.orders.Setup.TheVariants.{Owned, Liar}
 use Rattle.role_lab.specs.declared.orders.Order.{Order}
-use Rattle.role_lab.specs.declared.orders.Order.TheVariants.{Issue, Flush, Act, Ask, Reach}
+use Rattle.role_lab.specs.declared.orders.Order.TheVariants.{Do, Flush, Rest, Ask, Reach, Agree}
 
--- sessions have 64 bits
-abbrev pub session_number : List ℕ → Option ℕ
-session_number = number_of (2 ^ 64 - 1)
+-- the name of a node of these sizes
+abbrev pub node_number : Counts → List ℕ → Option ℕ
+node_number s word = option_and_then (name_due s) (byte_number word)
+
+abbrev pub kind_of : List ℕ → Option Kind
+kind_of word =
+    if bytes_eq word (codes "send") then Some Send
+    else (if bytes_eq word (codes "echo") then Some Echo
+    else (if bytes_eq word (codes "ready") then Some Ready
+    else None))
 
 -- what a word says, and what stands behind its space
-unfoldable pub then_rest : (List ℕ → Option ℕ) → List ℕ → Option (ℕ × List ℕ)
-then_rest read text = option_and_then (λ words. option_map (λ n. (n, words.1)) (read words.0)) (split_word text)
-
--- a cluster of one node
-abbrev pub alone : Counts → Option Counts
-alone s = if s.nodes == 1 then Some s else None
+unfoldable pub then_rest : {A : Type 0} → (List ℕ → Option A) → List ℕ → Option (A × List ℕ)
+then_rest read text = option_and_then (λ words. option_map (λ a. (a, words.1)) (read words.0)) (split_word text)
 
 -- the sizes that the first line names
 unfoldable pub cluster_of_line : List ℕ → Option Counts
 cluster_of_line line =
-    option_and_then (λ words.
-    if bytes_eq words.0 (codes "cluster") then option_and_then alone (sizes_of_numbers words.1) else None) (split_word line)
+    option_and_then (λ words. if bytes_eq words.0 (codes "cluster") then sizes_of_numbers words.1 else None) (split_word line)
 
 -- `R OWNER`
-unfoldable pub role_and_owner : List ℕ → Option (ℕ × ℕ)
+unfoldable pub role_and_owner : List ℕ → Option Setup
 role_and_owner text =
     option_and_then (λ role.
-    option_map (λ owner. (role.0, owner)) (byte_number role.1)) (then_rest narrow_number text)
+    option_map (λ owner. Owned role.0 owner) (byte_number role.1)) (then_rest narrow_number text)
 
--- the role that a line names, and its owner
-unfoldable pub role_of_line : List ℕ → Option (ℕ × ℕ)
-role_of_line line =
-    option_and_then (λ words. if bytes_eq words.0 (codes "role") then role_and_owner words.1 else None) (split_word line)
+unfoldable pub named_setup : Counts → List ℕ → List ℕ → Option Setup
+named_setup s name text =
+    if bytes_eq name (codes "role") then role_and_owner text
+    else (if bytes_eq name (codes "liar") then option_map Liar (node_number s text)
+    else None)
+
+-- what a line says of the cluster before anything happens in it
+unfoldable pub setup_of_line : Counts → List ℕ → Option Setup
+setup_of_line s line = option_and_then (λ words. named_setup s words.0 words.1) (split_word line)
+
+-- Sessions have 64 bits, users, objects and packets' numbers 32, roles, operations and places 16.
 
 -- `S USER`
 unfoldable pub session_and_user : List ℕ → Option (ℕ × ℕ)
 session_and_user text =
     option_and_then (λ session.
-    option_map (λ user. (session.0, user)) (wide_number session.1)) (then_rest session_number text)
+    option_map (λ user. (session.0, user)) (wide_number session.1)) (then_rest long_number text)
 
 -- `S USER R`
 unfoldable pub session_user_and_role : List ℕ → Option (ℕ × ℕ × ℕ)
 session_user_and_role text =
     option_and_then (λ session.
     option_and_then (λ user.
-    option_map (λ role. (session.0, user.0, role)) (narrow_number user.1)) (then_rest wide_number session.1)) (then_rest session_number text)
+    option_map (λ role. (session.0, user.0, role)) (narrow_number user.1)) (then_rest wide_number session.1)) (then_rest long_number text)
 
 -- `S USER OPERATION OBJECT`
 unfoldable pub access_of : List ℕ → Option Question
@@ -61,7 +76,7 @@ access_of text =
     option_and_then (λ user.
     option_and_then (λ operation.
     option_map (λ object. Check session.0 user.0 operation.0 object) (wide_number operation.1))
-    (then_rest narrow_number user.1)) (then_rest wide_number session.1)) (then_rest session_number text)
+    (then_rest narrow_number user.1)) (then_rest wide_number session.1)) (then_rest long_number text)
 
 -- `R OBJECT`
 unfoldable pub role_operations_of : List ℕ → Option Question
@@ -84,38 +99,67 @@ named_listing name text =
     else (if bytes_eq name (codes "user-permissions") then option_map UserPermissions (wide_number text)
     else (if bytes_eq name (codes "operations") then role_operations_of text
     else (if bytes_eq name (codes "user-operations") then user_operations_of text
-    else (if bytes_eq name (codes "session-roles") then option_map SessionRoles (session_number text)
-    else (if bytes_eq name (codes "session-permissions") then option_map SessionPermissions (session_number text)
+    else (if bytes_eq name (codes "session-roles") then option_map SessionRoles (long_number text)
+    else (if bytes_eq name (codes "session-permissions") then option_map SessionPermissions (long_number text)
     else None)))))))
 
 unfoldable pub listing_of : List ℕ → Option Question
 listing_of text = option_and_then (λ words. named_listing words.0 words.1) (split_word text)
 
--- the stream of a node
-unfoldable pub reach_of : Counts → List ℕ → Option Order
-reach_of s text = option_and_then (λ index. option_map Reach (name_due s index)) (byte_number text)
+-- `KIND FROM TO OWNER PLACE C`; a SEND is its owner's
+unfoldable pub lie_of : Counts → List ℕ → Option PacketValue
+lie_of s text =
+    option_and_then (λ kind.
+    option_and_then (λ from.
+    option_and_then (λ to.
+    option_and_then (λ owner.
+    option_and_then (λ place.
+    option_and_then (λ command.
+    packet_due from.0 to.0 (record { kind = kind.0; owner = owner.0; place = place.0; command = command }))
+    (command_of place.1))
+    (then_rest narrow_number owner.1))
+    (then_rest (node_number s) to.1))
+    (then_rest (node_number s) from.1))
+    (then_rest (node_number s) kind.1))
+    (then_rest kind_of text)
 
--- what is asked of a node, by the name of the line and what stands behind the node
-unfoldable pub named_order : Counts → List ℕ → List ℕ → Option Order
-named_order s name text =
-    if bytes_eq name (codes "issue") then option_map Issue (command_of text)
-    else (if bytes_eq name (codes "open") then option_map (λ user. Act (Open user)) (wide_number text)
-    else (if bytes_eq name (codes "activate") then option_map (λ n. Act (Activate n.0 n.1 n.2)) (session_user_and_role text)
-    else (if bytes_eq name (codes "drop") then option_map (λ n. Act (DropRole n.0 n.1 n.2)) (session_user_and_role text)
-    else (if bytes_eq name (codes "close") then option_map (λ n. Act (Close n.0 n.1)) (session_and_user text)
-    else (if bytes_eq name (codes "check") then option_map Ask (access_of text)
-    else (if bytes_eq name (codes "list") then option_map Ask (listing_of text)
-    else (if bytes_eq name (codes "reach") then reach_of s text
-    else None)))))))
+-- `J OWNER`
+unfoldable pub agreement_of : Counts → ℕ → List ℕ → Option Order
+agreement_of s one text =
+    option_and_then (λ other.
+    option_map (λ owner. Agree one other.0 owner) (node_number s other.1)) (then_rest (node_number s) text)
+
+-- what is done or asked at a node, by the name of the line and what stands behind the node
+unfoldable pub order_at_node : Counts → List ℕ → ℕ → List ℕ → Option Order
+order_at_node s name node text =
+    if bytes_eq name (codes "issue") then option_map (λ c. Do (Issue node c)) (command_of text)
+    else (if bytes_eq name (codes "open") then option_map (λ user. Do (Client node (Open user))) (wide_number text)
+    else (if bytes_eq name (codes "activate")
+    then option_map (λ n. Do (Client node (Activate n.0 n.1 n.2))) (session_user_and_role text)
+    else (if bytes_eq name (codes "drop")
+    then option_map (λ n. Do (Client node (DropRole n.0 n.1 n.2))) (session_user_and_role text)
+    else (if bytes_eq name (codes "close") then option_map (λ n. Do (Client node (Close n.0 n.1))) (session_and_user text)
+    else (if bytes_eq name (codes "check") then option_map (Ask node) (access_of text)
+    else (if bytes_eq name (codes "list") then option_map (Ask node) (listing_of text)
+    else (if bytes_eq name (codes "reach") then option_map (Reach node) (node_number s text)
+    else (if bytes_eq name (codes "agree") then agreement_of s node text
+    else None))))))))
 
 -- `I ..`, where I is one of the nodes
-unfoldable pub order_at_node : Counts → List ℕ → List ℕ → Option Order
-order_at_node s name text =
-    option_and_then (λ index.
-    option_and_then (λ node. named_order s name index.1) (name_due s index.0)) (then_rest byte_number text)
+unfoldable pub order_of_node : Counts → List ℕ → List ℕ → Option Order
+order_of_node s name text =
+    option_and_then (λ node. order_at_node s name node.0 node.1) (then_rest (node_number s) text)
+
+-- the order of a name and the words behind it
+unfoldable pub named_order : Counts → List ℕ → List ℕ → Option Order
+named_order s name text =
+    if bytes_eq name (codes "give") then option_map (λ number. Do (Give number)) (wide_number text)
+    else (if bytes_eq name (codes "lie") then option_map (λ p. Do (Lie p)) (lie_of s text)
+    else order_of_node s name text)
 
 -- what a later line asks
 unfoldable pub order_of_line : Counts → List ℕ → Option Order
 order_of_line s line =
     if bytes_eq line (codes "flush") then Some Flush
-    else option_and_then (λ words. order_at_node s words.0 words.1) (split_word line)
+    else (if bytes_eq line (codes "rest") then Some Rest
+    else option_and_then (λ words. named_order s words.0 words.1) (split_word line))

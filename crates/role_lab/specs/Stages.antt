@@ -1,30 +1,25 @@
 -- What the program keeps of the lines so far.
-use Rattle.std.specs.Prelude.{◌≡◌, ℕ, List, Option, Some, None, ⊤}
+use Rattle.std.specs.Prelude.{◌≡◌, ℕ, false, List, Option, Some, None, ⊤}
 use Rattle.quorum_sizes.specs.Sizes.{AreSizes}
 use Rattle.bracha_instance.specs.Broadcast.{Take}
 use Rattle.bracha_instance.specs.States.{state}
 use Rattle.bracha_instance.specs.Taking.{SendsAreFrom}
+use Rattle.byz_world.specs.Worlds.{too_many_lie}
 use Rattle.role_lab.specs.Grammar.{owner}
-use Rattle.role_lab.specs.Scripts.{Script, Unread, OfInstance, OfRoles, OfCluster}
+use Rattle.role_lab.specs.Inside.{lab_in}
+use Rattle.role_lab.specs.Labs.{lab_sizes}
+use Rattle.role_lab.specs.Scripts.{Script, Unread, OfInstance, OfSetup, OfCluster}
 use Rattle.role_lab.specs.declared.stage.Stage.{Stage}
-use Rattle.role_lab.specs.declared.stage.Stage.TheVariants.{Start, Running, Roles, Living}
-use Rattle.role_lab.specs.declared.grammar.Said.{Said}
-use Rattle.role_lab.specs.declared.orders.OwnedRole.{OwnedRole}
-
--- the message that was said
-abbrev pub take_said : Said → Take
-take_said said = record { kind = said.kind; from = said.from; command = said.command }
-
--- the role that was said, and its owner
-abbrev pub role_said : OwnedRole → ℕ × ℕ
-role_said said = (said.role, said.owner)
+use Rattle.role_lab.specs.declared.stage.Stage.TheVariants.{Start, Running, Setting, Living}
 
 -- the stage after these lines
 unfoldable pub Follows : Stage → Script → Type 0
 Follows Start Unread = ⊤
-Follows (Running sizes instance) (OfInstance s takes) = (sizes ≡ s) × AreSizes s × (instance ≡ state s takes) × SendsAreFrom owner takes
-Follows (Roles roles) (OfRoles table) = (roles ≡ table) × (table.sizes.nodes ≡ 1)
-Follows (Living cluster) (OfCluster c) = (cluster ≡ c) × (c.node.config.roles.sizes.nodes ≡ 1)
+Follows (Running sizes instance) (OfInstance s takes) =
+    (sizes ≡ s) × AreSizes s × (instance ≡ state s takes) × SendsAreFrom owner takes
+Follows (Setting roles liars) (OfSetup table names) =
+    (roles ≡ table) × (liars ≡ names) × AreSizes table.sizes × (too_many_lie table.sizes names ≡ false)
+Follows (Living lab) (OfCluster due) = (lab_in lab ≡ due) × AreSizes (lab_sizes due)
 Follows _ _ = ⊥
 
 -- what a line did to the stage, and the text for it; nothing where the line is bad

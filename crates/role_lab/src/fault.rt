@@ -3,6 +3,7 @@
 ghost use Rattle.std.specs.Prelude.{◌≡◌};
 ghost use Rattle.role_lab.specs.Statuses.{status_of};
 
+use link_frames::{AheadFault, DeviceFault};
 use std::alloc::AllocError;
 use thiserror::Error;
 
@@ -12,7 +13,7 @@ pub enum ScriptFault {
     /// The line of this number, from 1, is bad.
     #[error("bad script, line {line}")]
     BadScript { line: u64 },
-    /// The reader or the writer failed, or there is no number for another line.
+    /// The reader or the writer has failed, or there is no number for another line.
     #[error("device")]
     Device,
     /// There was no memory.
@@ -40,5 +41,28 @@ impl From<AllocError> for ScriptFault {
 
     fn from(_e: AllocError) -> Self {
         ScriptFault::Memory
+    }
+}
+
+impl From<DeviceFault> for ScriptFault {
+    ghost use Rattle.role_lab.specs.declared.fault.ScriptFault.TheVariants.{Device};
+
+    ghost from_gives = { λ _ e. e ≡ Device };
+
+    fn from(_e: DeviceFault) -> Self {
+        ScriptFault::Device
+    }
+}
+
+impl From<AheadFault> for ScriptFault {
+    ghost use Rattle.role_lab.specs.Statuses.{of_ahead_fault};
+
+    ghost from_gives = { λ fault e. e ≡ of_ahead_fault fault };
+
+    fn from(fault: AheadFault) -> Self {
+        match fault {
+            AheadFault::Device => ScriptFault::Device,
+            AheadFault::Memory => ScriptFault::Memory,
+        }
     }
 }

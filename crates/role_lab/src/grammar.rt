@@ -2,14 +2,13 @@
 
 ghost use Rattle.std.specs.Prelude.{◌≡◌, ◌<◌, IfSome, option_map};
 ghost use Rattle.link_frames.specs.declared.kind.Kind.TheVariants.{Send, Echo, Ready};
-ghost use Rattle.role_commands.specs.Numbers as numbers;
 ghost use Rattle.role_lab.specs.Grammar as reading;
 ghost use Rattle.role_lab.specs.Grammar.{IsFromNode};
-ghost use Rattle.role_lab.specs.Stages.{take_said};
+ghost use Rattle.role_lab.specs.Inside.{take_said};
 
 use link_frames::Kind;
 use quorum_sizes::{NodeName, Sizes};
-use role_commands::numbers::parse_number;
+use role_commands::numbers::{byte_number, split_word};
 use role_commands::{Command, parse_command};
 
 /// The node whose instance it is.
@@ -97,18 +96,4 @@ fn take_from(sizes: &Sizes, kind: Kind, index: u8, text: &str) -> Option<Said>
         from,
         command,
     })
-}
-
-pub(crate) fn byte_number(word: &str) -> Option<u8>
-    ensures { result ≡ reading.byte_number word.now }
-{
-    let number = parse_number(word, u64::from(u8::MAX))?;
-    Some(number as u8)
-}
-
-// What stands before the first space and what stands behind it.
-pub(crate) fn split_word(text: &str) -> Option<(&str, &str)>
-    ensures { numbers.split_word text.now ≡ option_map (λ words. (words.0.now, words.1.now)) result }
-{
-    text.split_once(' ')
 }

@@ -1,7 +1,8 @@
 //! What is true of scripts and of how they are written.
 
 ghost use Rattle.role_lab.specs.Spellings.{SizesAreRead, SizesAreSpelled, TakesAreRead, TakesAreSpelled};
-ghost use Rattle.role_lab.specs.Spellings.{ClustersAreRead, ClustersAreSpelled, RolesAreRead, RolesAreSpelled, OrdersAreRead, OrdersAreSpelled};
+ghost use Rattle.role_lab.specs.OrderSpellings.{ClustersAreRead, ClustersAreSpelled, SetupsAreRead, SetupsAreSpelled, OrdersAreRead, OrdersAreSpelled};
+ghost use Rattle.role_lab.specs.Rests.{RestsIsRest};
 ghost use Rattle.role_lab.specs.Laws.{FlushLeavesNone};
 
 /// A line of a script of one instance has one spelling, and reading and writing it undo each other.
@@ -16,10 +17,15 @@ pub fn one_spelling()
 pub fn one_spelling_of_orders()
     ensures clusters_read { ClustersAreRead }
     ensures clusters_spelled { ClustersAreSpelled }
-    ensures roles_read { RolesAreRead }
-    ensures roles_spelled { RolesAreSpelled }
+    ensures setups_read { SetupsAreRead }
+    ensures setups_spelled { SetupsAreSpelled }
     ensures orders_read { OrdersAreRead }
     ensures orders_spelled { OrdersAreSpelled }
+{}
+
+/// What a line `rest` tests is that the cluster is at rest.
+pub fn rests_is_rest()
+    ensures { RestsIsRest }
 {}
 
 /// No packet waits once a flush is over.

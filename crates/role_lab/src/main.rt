@@ -4,15 +4,15 @@
 //! `specs/Scripts.antt` says what a script means, and `specs/Runs.antt` what running it does.
 #![tactic(auto)]
 
-mod ahead;
-mod cluster;
-mod cluster_texts;
-mod device;
 pub mod fault;
+mod fields;
+mod given;
 mod grammar;
+mod lab;
 pub mod laws;
-mod lines;
+mod order_texts;
 mod orders;
+mod questions;
 pub mod run;
 mod stage;
 mod texts;

@@ -1,82 +1,109 @@
 //! The lines of a script of a cluster.
 
-ghost use Rattle.std.specs.Prelude.{◌≡◌, ◌<◌, IfSome, option_map};
+ghost use Rattle.std.specs.Prelude.{◌≡◌, ◌<◌, IfSome};
+ghost use Rattle.byz_world.specs.declared.step.Step.TheVariants.{Client};
 ghost use Rattle.role_lab.specs.Orders as reading;
-ghost use Rattle.role_commands.specs.Reading as words;
-ghost use Rattle.role_lab.specs.Grammar as byte;
-ghost use Rattle.role_lab.specs.Inside.{IsWithinSizes};
-ghost use Rattle.role_lab.specs.Stages.{role_said};
+ghost use Rattle.role_lab.specs.Inside.{IsWithinSizes, packet_given};
 
-use crate::grammar::{byte_number, sizes_of_numbers, split_word};
+use crate::fields::{kind_then, narrow_then, node_number, node_then, session_then, wide_then};
+use crate::grammar::sizes_of_numbers;
+use crate::questions::{access_of, listing_of};
+use byz_world::Step;
+use link_frames::{Message, Packet};
 use quorum_sizes::{NodeName, Sizes};
-use role_commands::numbers::parse_number;
-use role_commands::{Command, parse_command};
+use role_commands::numbers::{byte_number, narrow_number, split_word, wide_number};
+use role_commands::parse_command;
 use role_node::{ClientEvent, Question};
 
-/// A role with its owner, as a line names them. The owner need not be a node.
+/// What a line says of a cluster before anything happens in it.
 #[derive(Clone, Copy)]
-pub struct OwnedRole {
-    pub role: u16,
-    pub owner: u8,
+pub enum Setup {
+    /// A role, and its owner, which need not be a node.
+    Owned { role: u16, owner: u8 },
+    /// A node that lies.
+    Liar(NodeName),
 }
 
-/// What a line asks of a node.
+/// What a later line asks.
 #[derive(Clone, Copy)]
 pub enum Order {
-    /// To publish a command.
-    Issue(Command),
-    /// To take all packets that wait.
+    /// That this happens to the cluster.
+    Do(Step),
+    /// That all packets that wait are given.
     Flush,
-    /// What a client does.
-    Act(ClientEvent),
-    /// A decision or a review.
-    Ask(Question),
-    /// How far this owner's stream reaches.
-    Reach(NodeName),
+    /// Whether the cluster is at rest.
+    Rest,
+    /// A decision or a review of a node.
+    Ask {
+        node: NodeName,
+        question: Question,
+    },
+    /// How far this owner's stream reaches at a node.
+    Reach {
+        node: NodeName,
+        owner: NodeName,
+    },
+    /// How far this owner's streams at two nodes agree.
+    Agree {
+        one: NodeName,
+        other: NodeName,
+        owner: NodeName,
+    },
 }
 
-/// The sizes that a first line names, as `cluster N F`, where N is 1.
+/// The number of the packet that a step gives.
+pub fn packet_of(step: &Step) -> Option<u32>
+    ensures { result ≡ packet_given step.now }
+{
+    match step {
+        Step::Give { packet } => Some(*packet),
+        Step::Issue { .. } | Step::Lie { .. } | Step::Client { .. } => None,
+    }
+}
+
+/// The sizes that a first line names, as `cluster N F`.
 #[tactic(auto, unfolding(crate::specs::Orders::cluster_of_line))]
 pub fn cluster_of_line(line: &str) -> Option<Sizes>
     ensures { result ≡ reading.cluster_of_line line.now }
 {
     let (name, numbers) = split_word(line)?;
     if name == "cluster" {
-        alone(sizes_of_numbers(numbers)?)
+        sizes_of_numbers(numbers)
     } else {
         None
     }
 }
 
-fn alone(sizes: Sizes) -> Option<Sizes>
-    ensures { result ≡ reading.alone sizes }
-{
-    if sizes.n() == 1 { Some(sizes) } else { None }
-}
-
-/// The role that a line names, as `role R OWNER`.
-#[tactic(auto, unfolding(crate::specs::Orders::role_of_line))]
-pub fn role_of_line(line: &str) -> Option<OwnedRole>
-    ensures { option_map role_said result ≡ reading.role_of_line line.now }
+/// What a line says before anything happens, as `role R OWNER` or `liar I`.
+#[tactic(auto, unfolding(crate::specs::Orders::setup_of_line))]
+pub fn setup_of_line(sizes: &Sizes, line: &str) -> Option<Setup>
+    ensures { result ≡ reading.setup_of_line sizes.now line.now }
 {
     let (name, text) = split_word(line)?;
-    if name == "role" {
-        role_and_owner(text)
-    } else {
-        None
+    named_setup(sizes, name, text)
+}
+
+#[tactic(auto, unfolding(crate::specs::Orders::named_setup))]
+fn named_setup(sizes: &Sizes, name: &str, text: &str) -> Option<Setup>
+    ensures { result ≡ reading.named_setup sizes.now name.now text.now }
+{
+    match name {
+        "role" => role_and_owner(text),
+        "liar" => Some(Setup::Liar(node_number(sizes, text)?)),
+        _ => None,
     }
 }
 
 #[tactic(auto, unfolding(crate::specs::Orders::role_and_owner))]
-fn role_and_owner(text: &str) -> Option<OwnedRole>
-    ensures { option_map role_said result ≡ reading.role_and_owner text.now }
+fn role_and_owner(text: &str) -> Option<Setup>
+    ensures { result ≡ reading.role_and_owner text.now }
 {
     let (role, text) = narrow_then(text)?;
     let owner = byte_number(text)?;
-    Some(OwnedRole { role, owner })
+    Some(Setup::Owned { role, owner })
 }
 
-/// What a later line asks of its node.
+/// What a later line asks.
 #[tactic(auto, unfolding(crate::specs::Orders::order_of_line))]
 pub fn order_of_line(sizes: &Sizes, line: &str) -> Option<Order>
     ensures value { result ≡ reading.order_of_line sizes.now line.now }
@@ -85,17 +112,10 @@ pub fn order_of_line(sizes: &Sizes, line: &str) -> Option<Order>
     if line == "flush" {
         return Some(Order::Flush);
     }
+    if line == "rest" {
+        return Some(Order::Rest);
+    }
     let (name, text) = split_word(line)?;
-    order_at_node(sizes, name, text)
-}
-
-#[tactic(auto, unfolding(crate::specs::Orders::order_at_node))]
-fn order_at_node(sizes: &Sizes, name: &str, text: &str) -> Option<Order>
-    ensures value { result ≡ reading.order_at_node sizes.now name.now text.now }
-    ensures within { IfSome result (IsWithinSizes sizes.now) }
-{
-    let (index, text) = byte_then(text)?;
-    let _node = sizes.name(index)?;
     named_order(sizes, name, text)
 }
 
@@ -104,113 +124,122 @@ fn named_order(sizes: &Sizes, name: &str, text: &str) -> Option<Order>
     ensures value { result ≡ reading.named_order sizes.now name.now text.now }
     ensures within { IfSome result (IsWithinSizes sizes.now) }
 {
-    if name == "issue" {
-        Some(Order::Issue(parse_command(text)?))
-    } else if name == "open" {
-        let user = wide_number(text)?;
-        Some(Order::Act(ClientEvent::Open { user }))
-    } else if name == "activate" {
-        let (session, user, role) = session_user_and_role(text)?;
-        Some(Order::Act(ClientEvent::Activate {
-            session,
-            user,
-            role,
-        }))
-    } else if name == "drop" {
-        let (session, user, role) = session_user_and_role(text)?;
-        Some(Order::Act(ClientEvent::DropRole {
-            session,
-            user,
-            role,
-        }))
-    } else if name == "close" {
-        let (session, user) = session_and_user(text)?;
-        Some(Order::Act(ClientEvent::Close { session, user }))
-    } else if name == "check" {
-        Some(Order::Ask(access_of(text)?))
-    } else if name == "list" {
-        Some(Order::Ask(listing_of(text)?))
-    } else if name == "reach" {
-        reach_of(sizes, text)
+    if name == "give" {
+        let packet = wide_number(text)?;
+        Some(Order::Do(Step::Give { packet }))
+    } else if name == "lie" {
+        let packet = lie_of(sizes, text)?;
+        Some(Order::Do(Step::Lie { packet }))
     } else {
-        None
+        order_of_node(sizes, name, text)
     }
 }
 
-#[tactic(auto, unfolding(crate::specs::Orders::reach_of))]
-fn reach_of(sizes: &Sizes, text: &str) -> Option<Order>
-    ensures value { result ≡ reading.reach_of sizes.now text.now }
+#[tactic(auto, unfolding(crate::specs::Orders::order_of_node))]
+fn order_of_node(sizes: &Sizes, name: &str, text: &str) -> Option<Order>
+    ensures value { result ≡ reading.order_of_node sizes.now name.now text.now }
     ensures within { IfSome result (IsWithinSizes sizes.now) }
 {
-    let index = byte_number(text)?;
-    Some(Order::Reach(sizes.name(index)?))
+    let Some((node, text)) = node_then(sizes, text) else {
+        return None;
+    };
+    order_at_node(sizes, name, node, text)
 }
 
-#[tactic(auto, unfolding(crate::specs::Orders::listing_of))]
-fn listing_of(text: &str) -> Option<Question>
-    ensures { result ≡ reading.listing_of text.now }
+#[tactic(auto, unfolding(crate::specs::Orders::order_at_node))]
+fn order_at_node(sizes: &Sizes, name: &str, node: NodeName, text: &str) -> Option<Order>
+    ensures value { result ≡ reading.order_at_node sizes.now name.now node text.now }
+    ensures within { IfSome result (IsWithinSizes sizes.now) }
 {
-    let (name, text) = split_word(text)?;
-    named_listing(name, text)
-}
-
-#[tactic(auto, unfolding(crate::specs::Orders::named_listing))]
-fn named_listing(name: &str, text: &str) -> Option<Question>
-    ensures { result ≡ reading.named_listing name.now text.now }
-{
-    if name == "users" {
-        Some(Question::AssignedUsers(narrow_number(text)?))
-    } else if name == "roles" {
-        Some(Question::AssignedRoles(wide_number(text)?))
-    } else if name == "permissions" {
-        Some(Question::RolePermissions(narrow_number(text)?))
-    } else if name == "user-permissions" {
-        Some(Question::UserPermissions(wide_number(text)?))
-    } else if name == "operations" {
-        role_operations_of(text)
-    } else if name == "user-operations" {
-        user_operations_of(text)
-    } else if name == "session-roles" {
-        Some(Question::SessionRoles(session_number(text)?))
-    } else if name == "session-permissions" {
-        Some(Question::SessionPermissions(session_number(text)?))
+    if name == "issue" {
+        let command = parse_command(text)?;
+        Some(Order::Do(Step::Issue { node, command }))
+    } else if name == "open" {
+        let user = wide_number(text)?;
+        Some(acted(node, ClientEvent::Open { user }))
+    } else if name == "activate" {
+        let (session, user, role) = session_user_and_role(text)?;
+        Some(acted(
+            node,
+            ClientEvent::Activate {
+                session,
+                user,
+                role,
+            },
+        ))
+    } else if name == "drop" {
+        let (session, user, role) = session_user_and_role(text)?;
+        Some(acted(
+            node,
+            ClientEvent::DropRole {
+                session,
+                user,
+                role,
+            },
+        ))
+    } else if name == "close" {
+        let (session, user) = session_and_user(text)?;
+        Some(acted(node, ClientEvent::Close { session, user }))
+    } else if name == "check" {
+        let question = access_of(text)?;
+        Some(Order::Ask { node, question })
+    } else if name == "list" {
+        let question = listing_of(text)?;
+        Some(Order::Ask { node, question })
+    } else if name == "reach" {
+        let owner = node_number(sizes, text)?;
+        Some(Order::Reach { node, owner })
+    } else if name == "agree" {
+        agreement_of(sizes, node, text)
     } else {
         None
     }
 }
 
-#[tactic(auto, unfolding(crate::specs::Orders::access_of))]
-fn access_of(text: &str) -> Option<Question>
-    ensures { result ≡ reading.access_of text.now }
+/// What a client does at a node.
+fn acted(node: NodeName, event: ClientEvent) -> Order
+    ensures { result ≡ Order.Do (Client node event) }
 {
-    let (session, text) = session_then(text)?;
-    let (user, text) = wide_then(text)?;
-    let (operation, text) = narrow_then(text)?;
-    let object = wide_number(text)?;
-    Some(Question::Check {
-        session,
-        user,
-        operation,
-        object,
-    })
+    Order::Do(Step::Client { node, event })
 }
 
-#[tactic(auto, unfolding(crate::specs::Orders::role_operations_of))]
-fn role_operations_of(text: &str) -> Option<Question>
-    ensures { result ≡ reading.role_operations_of text.now }
+#[tactic(auto, unfolding(crate::specs::Orders::agreement_of))]
+fn agreement_of(sizes: &Sizes, one: NodeName, text: &str) -> Option<Order>
+    ensures value { result ≡ reading.agreement_of sizes.now one text.now }
+    ensures within { IfSome result (IsWithinSizes sizes.now) }
 {
-    let (role, text) = narrow_then(text)?;
-    let object = wide_number(text)?;
-    Some(Question::RoleOperations { role, object })
+    let Some((other, text)) = node_then(sizes, text) else {
+        return None;
+    };
+    let owner = node_number(sizes, text)?;
+    Some(Order::Agree { one, other, owner })
 }
 
-#[tactic(auto, unfolding(crate::specs::Orders::user_operations_of))]
-fn user_operations_of(text: &str) -> Option<Question>
-    ensures { result ≡ reading.user_operations_of text.now }
+#[tactic(auto, unfolding(crate::specs::Orders::lie_of))]
+fn lie_of(sizes: &Sizes, text: &str) -> Option<Packet>
+    ensures { result ≡ reading.lie_of sizes.now text.now }
 {
-    let (user, text) = wide_then(text)?;
-    let object = wide_number(text)?;
-    Some(Question::UserOperations { user, object })
+    let Some((kind, text)) = kind_then(text) else {
+        return None;
+    };
+    let Some((from, text)) = node_then(sizes, text) else {
+        return None;
+    };
+    let Some((to, text)) = node_then(sizes, text) else {
+        return None;
+    };
+    let Some((owner, text)) = node_then(sizes, text) else {
+        return None;
+    };
+    let (place, text) = narrow_then(text)?;
+    let command = parse_command(text)?;
+    let message = Message {
+        kind,
+        owner,
+        place,
+        command,
+    };
+    Packet::new(from, to, message)
 }
 
 #[tactic(auto, unfolding(crate::specs::Orders::session_and_user))]
@@ -230,59 +259,4 @@ fn session_user_and_role(text: &str) -> Option<(u64, u32, u16)>
     let (user, text) = wide_then(text)?;
     let role = narrow_number(text)?;
     Some((session, user, role))
-}
-
-#[tactic(auto, unfolding(crate::specs::Orders::then_rest))]
-fn session_then(text: &str) -> Option<(u64, &str)>
-    ensures { option_map (λ p. (p.0, p.1.now)) result ≡ reading.then_rest reading.session_number text.now }
-{
-    let (word, rest) = split_word(text)?;
-    Some((session_number(word)?, rest))
-}
-
-#[tactic(auto, unfolding(crate::specs::Orders::then_rest))]
-fn wide_then(text: &str) -> Option<(u32, &str)>
-    ensures { option_map (λ p. (p.0, p.1.now)) result ≡ reading.then_rest words.wide_number text.now }
-{
-    let (word, rest) = split_word(text)?;
-    Some((wide_number(word)?, rest))
-}
-
-#[tactic(auto, unfolding(crate::specs::Orders::then_rest))]
-fn narrow_then(text: &str) -> Option<(u16, &str)>
-    ensures { option_map (λ p. (p.0, p.1.now)) result ≡ reading.then_rest words.narrow_number text.now }
-{
-    let (word, rest) = split_word(text)?;
-    Some((narrow_number(word)?, rest))
-}
-
-#[tactic(auto, unfolding(crate::specs::Orders::then_rest))]
-fn byte_then(text: &str) -> Option<(u8, &str)>
-    ensures { option_map (λ p. (p.0, p.1.now)) result ≡ reading.then_rest byte.byte_number text.now }
-{
-    let (word, rest) = split_word(text)?;
-    Some((byte_number(word)?, rest))
-}
-
-// Sessions have 64 bits.
-fn session_number(word: &str) -> Option<u64>
-    ensures { result ≡ reading.session_number word.now }
-{
-    parse_number(word, u64::MAX)
-}
-
-// Users and objects have 32 bits.
-fn wide_number(word: &str) -> Option<u32>
-    ensures { result ≡ words.wide_number word.now }
-{
-    let number = parse_number(word, u64::from(u32::MAX))?;
-    Some(number as u32)
-}
-
-// Roles and operations have 16 bits.
-fn narrow_number(word: &str) -> Option<u16>
-    ensures { result ≡ words.narrow_number word.now }
-{
-    let number = parse_number(word, u64::from(u16::MAX))?;
-    Some(number as u16)
 }

@@ -1,37 +1,50 @@
 //! A script, run line by line.
 
-ghost use Rattle.std.specs.Prelude.{◌≡◌, ℕ, ◌<◌, ◌≤◌, ◌++◌, ◌⊎◌, Bool, true, false, List, length, IfOk, IfErr, OnOk, OnErr, Ok, Err};
+ghost use Rattle.std.specs.Prelude.{◌≡◌, ℕ, ◌<◌, ◌≤◌, ◌++◌, ◌⊎◌, Bool, List, Option, length, OnOk, OnErr, IfOk, IfErr};
 ghost use Rattle.std.specs.Io.KnownBytes.{Appends};
-ghost use Rattle.link_frames.specs.Watching.{watched_inner, watched_faults};
-ghost use Rattle.role_lab.specs.Lines.{most_line_bytes};
-ghost use Rattle.role_lab.specs.Buffers.{front_of};
-ghost use Rattle.role_lab.specs.Devices.{NotFewer, Rose, AppendsFront};
-ghost use Rattle.role_lab.specs.Scripts.{Script, next};
+ghost use Rattle.link_frames.specs.Aheads.{pending};
+ghost use Rattle.link_frames.specs.Devices.{WentOn, CallFailed, ReaderFailed, AppendsFront};
+ghost use Rattle.link_frames.specs.Blocks.{ReadAhead};
+ghost use Rattle.link_frames.specs.LinePrograms.{Moved};
+ghost use Rattle.link_frames.specs.Watching.{watched_inner, watched_tally};
+ghost use Rattle.role_lab.specs.Scripts.{Script, most_line_bytes, next};
 ghost use Rattle.role_lab.specs.Stages.{Follows};
 ghost use Rattle.role_lab.specs.Runs.{ScriptRan, IsEndless};
-ghost use Rattle.role_lab.specs.Steps.{Holds, Moved, Finished};
+ghost use Rattle.role_lab.specs.Steps.{Holds, ScriptRuns, IsTaken};
 
-use crate::ahead::Ahead;
-use crate::device::write_whole;
 use crate::fault::ScriptFault;
-use crate::lines::{Next, begins, peek};
 use crate::stage::{Stage, answer};
-use link_frames::Watched;
+use link_frames::{Ahead, AheadFault, DeviceFault, Next, Watched, write_whole};
 use std::alloc::{AllocError, Global};
 use std::io::{Read, Write};
 
-/// How many bytes are asked of the reader at once, and how many lines are held back at most.
+/// The most bytes of a line, its end not counted.
+const MOST_LINE_BYTES: usize = 4096;
+
+/// How many bytes of lines are held back at most.
 const BLOCK_BYTES: usize = 8192;
+
+/// What the next line was.
+#[derive(Clone, Copy)]
+pub enum Took {
+    /// A good line.
+    Line,
+    /// A bad line.
+    BadLine,
+    /// None, or the last: there are no more.
+    All,
+}
 
 /// Reads a script, and writes a line for each line of it.
 ///
 /// All that is due is written before the reader is asked for more. A script of one instance takes memory that does not
-/// grow with it; one of a cluster keeps the node's history and its packets.
+/// grow with it; one of a cluster keeps the nodes' histories and the messages that they sent.
 ///
 /// # Errors
 ///
-/// `BadScript` at the first bad line, when what is due for the lines before it is written. `Device` where a call of the reader or
-/// the writer has failed, or where there is no number for another line, and `Memory`; a front of what is due is written then.
+/// `BadScript` at the first bad line, when what is due for the lines before it is written. `Device` where the reader or
+/// the writer has failed, or where there is no number for another line, and `Memory`; a front of what is due is written
+/// then.
 pub fn run_script<R: Read, W: Write>(
     alloc: Global,
     reader: &mut Watched<R>,
@@ -40,7 +53,8 @@ pub fn run_script<R: Read, W: Write>(
     ensures ran { ScriptRan (R.remaining (watched_inner reader.old)) (R.remaining (watched_inner reader.new))
         (W.contents (watched_inner writer.old)) (W.contents (watched_inner writer.new)) result }
     ensures device { IfErr result (λ e. e ≡ ScriptFault.Device →
-        Rose (watched_faults reader.old) (watched_faults reader.new) ⊎ (Rose (watched_faults writer.old) (watched_faults writer.new)
+        ReaderFailed (watched_tally reader.old) (watched_tally reader.new)
+        ⊎ (CallFailed (watched_tally writer.old) (watched_tally writer.new)
         ⊎ IsEndless (R.remaining (watched_inner reader.old)) (W.contents (watched_inner writer.old)) (W.contents (watched_inner writer.new)))) }
 {
     let mut stage = Stage::Start;
@@ -58,36 +72,61 @@ fn run_lines<R: Read, W: Write>(
     ensures ran { ScriptRan (R.remaining (watched_inner reader.old)) (R.remaining (watched_inner reader.new))
         (W.contents (watched_inner writer.old)) (W.contents (watched_inner writer.new)) result }
     ensures device { IfErr result (λ e. e ≡ ScriptFault.Device →
-        Rose (watched_faults reader.old) (watched_faults reader.new) ⊎ (Rose (watched_faults writer.old) (watched_faults writer.new)
+        ReaderFailed (watched_tally reader.old) (watched_tally reader.new)
+        ⊎ (CallFailed (watched_tally writer.old) (watched_tally writer.new)
         ⊎ IsEndless (R.remaining (watched_inner reader.old)) (W.contents (watched_inner writer.old)) (W.contents (watched_inner writer.new)))) }
 {
-    let mut room = vec![in alloc; 0u8; BLOCK_BYTES]?;
-    let block = room.as_mut_slice();
     let mut ahead = Ahead::new(alloc);
     let mut held = Vec::new(alloc);
     for number in 1..u64::MAX {
         write_when_due(&ahead, &mut held, writer)?;
-        match peek(&mut ahead, block, reader)? {
-            Next::End => return finish(writer, &held, Ok(())),
-            Next::TooLong => {
-                return finish(writer, &held, Err(ScriptFault::BadScript { line: number }));
+        match take_next(alloc, stage, &mut ahead, &mut held, reader)? {
+            Took::Line => {}
+            Took::BadLine => {
+                write_whole(writer, &held)?;
+                return Err(ScriptFault::BadScript { line: number });
             }
-            Next::Line(count) => {
-                let line = &ahead.front()[..count];
-                if !take_line(alloc, stage, &mut held, line)? {
-                    return finish(writer, &held, Err(ScriptFault::BadScript { line: number }));
-                }
-                ahead.take(count + 1);
-            }
-            Next::Last(_) => {
-                if !take_line(alloc, stage, &mut held, ahead.front())? {
-                    return finish(writer, &held, Err(ScriptFault::BadScript { line: number }));
-                }
-                return finish(writer, &held, Ok(()));
+            Took::All => {
+                write_whole(writer, &held)?;
+                return Ok(());
             }
         }
     }
-    finish(writer, &held, Err(ScriptFault::Device))
+    write_whole(writer, &held)?;
+    Err(ScriptFault::Device)
+}
+
+/// Takes the next line, and holds what is due for it behind the rest.
+fn take_next<R: Read>(
+    alloc: Global,
+    stage: &mut Stage,
+    ahead: &mut Ahead,
+    held: &mut Vec<u8>,
+    reader: &mut Watched<R>,
+) -> Result<Took, AheadFault>
+    ensures taken { IfOk result (λ took. (known writer_old writer_new : Option (List ℕ)) (script : Script) (number : ℕ) → Follows stage.old script →
+        ScriptRuns known (pending (R.remaining (watched_inner reader.old)) ahead.old) writer_old writer_new held.old.items script number →
+        IsTaken took known (pending (R.remaining (watched_inner reader.new)) ahead.new) (R.remaining (watched_inner reader.new)) writer_old writer_new held.new.items stage.new number) }
+    ensures counts { ReadAhead (watched_tally reader.old) (watched_tally reader.new) result }
+{
+    match ahead.peek(reader, MOST_LINE_BYTES)? {
+        Next::End => Ok(Took::All),
+        Next::TooLong => Ok(Took::BadLine),
+        Next::Line(count) => {
+            let line = &ahead.front()[..count];
+            if !take_line(alloc, stage, held, line)? {
+                return Ok(Took::BadLine);
+            }
+            ahead.take(count + 1);
+            Ok(Took::Line)
+        }
+        Next::Last(_) => {
+            if !take_line(alloc, stage, held, ahead.front())? {
+                return Ok(Took::BadLine);
+            }
+            Ok(Took::All)
+        }
+    }
 }
 
 /// Takes the next line. Whether it is good; then what is due for it is held behind the rest.
@@ -113,29 +152,15 @@ fn write_when_due<W: Write>(
     ahead: &Ahead,
     held: &mut Vec<u8>,
     writer: &mut Watched<W>,
-) -> Result<(), ScriptFault>
-    ensures ok { OnOk result (Moved (W.contents (watched_inner writer.old)) (W.contents (watched_inner writer.new)) held.old.items held.new.items) }
-    ensures err { OnErr result (AppendsFront (W.contents (watched_inner writer.old)) (W.contents (watched_inner writer.new)) held.old.items) }
-    ensures faults { NotFewer (watched_faults writer.old) (watched_faults writer.new) }
-    ensures device { IfErr result (λ e. (e ≡ ScriptFault.Device) × Rose (watched_faults writer.old) (watched_faults writer.new)) }
+) -> Result<(), DeviceFault>
+    ensures moved { OnOk result (Moved (W.contents (watched_inner writer.old)) (W.contents (watched_inner writer.new)) held.old.items held.new.items) }
+    ensures went_on { OnOk result (WentOn (watched_tally writer.old) (watched_tally writer.new)) }
+    ensures part { OnErr result (AppendsFront (W.contents (watched_inner writer.old)) (W.contents (watched_inner writer.new)) held.old.items) }
+    ensures failed { OnErr result (CallFailed (watched_tally writer.old) (watched_tally writer.new)) }
 {
-    if held.len() >= BLOCK_BYTES || begins(ahead.front()).is_none() {
+    if held.len() >= BLOCK_BYTES || ahead.begins(MOST_LINE_BYTES).is_none() {
         write_whole(writer, held)?;
         held.clear();
     }
     Ok(())
-}
-
-/// Writes this text, and then ends so.
-fn finish<W: Write>(
-    writer: &mut Watched<W>,
-    text: &[u8],
-    ending: Result<(), ScriptFault>,
-) -> Result<(), ScriptFault>
-    ensures ends { Finished (W.contents (watched_inner writer.old)) (W.contents (watched_inner writer.new)) text.now ending result
-        (Rose (watched_faults writer.old) (watched_faults writer.new)) }
-    ensures faults { NotFewer (watched_faults writer.old) (watched_faults writer.new) }
-{
-    write_whole(writer, text)?;
-    ending
 }

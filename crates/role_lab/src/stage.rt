@@ -1,24 +1,26 @@
 //! What is kept of the lines of a script, and the answer to the next line.
 
-ghost use Rattle.std.specs.Prelude.{◌≡◌, ◌≤◌, List, length, IfOk, OnOk, option_map, string_bytes};
+ghost use Rattle.std.specs.Prelude.{◌≡◌, ◌≤◌, false, List, length, IfOk, OnOk, option_map, string_bytes};
 ghost use Rattle.quorum_sizes.specs.Sizes.{AreSizes};
+ghost use Rattle.role_commands.specs.TableFaults.{add_due};
 ghost use Rattle.bracha_instance.specs.Broadcast.{Take};
 ghost use Rattle.bracha_instance.specs.States.{state};
 ghost use Rattle.bracha_instance.specs.Taking.{SendsAreFrom};
-ghost use Rattle.role_lab.specs.Lines.{most_line_bytes};
+ghost use Rattle.byz_world.specs.Worlds.{too_many_lie};
 ghost use Rattle.role_lab.specs.Grammar.{owner};
-ghost use Rattle.role_lab.specs.Scripts.{Script, next, after_line, table_after, after_cluster_line, Unread, OfInstance};
-ghost use Rattle.role_lab.specs.ClusterTexts.{role_text};
-ghost use Rattle.role_commands.specs.TableFaults.{add_due};
-ghost use Rattle.role_lab.specs.Stages.{Follows, Answers, StageAnswers, role_said};
+ghost use Rattle.role_lab.specs.Labs.{lab_sizes};
+ghost use Rattle.role_lab.specs.Inside.{lab_in};
+ghost use Rattle.role_lab.specs.OrderTexts as texts;
+ghost use Rattle.role_lab.specs.Scripts.{Script, most_line_bytes, next, after_line, table_after, one_too_many, liars_after, after_setup, after_cluster_line, Unread, OfInstance, OfSetup};
+ghost use Rattle.role_lab.specs.Stages.{Follows, Answers, StageAnswers};
 
-use crate::cluster::Cluster;
-use crate::cluster_texts::role_text;
 use crate::grammar::{sizes_of_line, take_of_line};
-use crate::orders::{OwnedRole, cluster_of_line, order_of_line, role_of_line};
+use crate::lab::Lab;
+use crate::order_texts::{liar_text, role_text};
+use crate::orders::{Setup, cluster_of_line, order_of_line, setup_of_line};
 use crate::texts::{outcome_text, sizes_text};
 use bracha_instance::Instance;
-use quorum_sizes::Sizes;
+use quorum_sizes::{NodeName, NodeSet, Sizes};
 use role_commands::{RoleTable, TableFault};
 use std::alloc::{AllocError, Global};
 use std::str;
@@ -30,10 +32,10 @@ pub enum Stage {
     Start,
     /// An instance among so many nodes.
     Running { sizes: Sizes, instance: Instance },
-    /// The roles of a cluster of one node.
-    Roles(RoleTable),
+    /// The roles of a cluster, and the nodes that lie.
+    Setting { roles: RoleTable, liars: NodeSet },
     /// A cluster in which something happened.
-    Living(Cluster),
+    Living(Lab),
 }
 
 /// Takes the next line, which is not too long. The text is what is due for the line; there is none where the
@@ -58,18 +60,18 @@ pub fn answer(alloc: Global, stage: &mut Stage, line: &[u8]) -> Result<Option<St
             Ok(Some(answer))
         }
         Stage::Running { sizes, instance } => later_line(alloc, sizes, instance, text),
-        Stage::Roles(roles) => {
-            if let Some(said) = role_of_line(text) {
-                return Ok(Some(add_role(alloc, roles, said)?));
+        Stage::Setting { roles, liars } => {
+            if let Some(setup) = setup_of_line(&roles.sizes(), text) {
+                return Ok(Some(set_up(alloc, roles, liars, setup)?));
             }
-            let Some(mut cluster) = Cluster::new(alloc, roles.copy(alloc)?)? else {
+            let Some(mut lab) = Lab::new(alloc, roles.copy(alloc)?, *liars)? else {
                 return Ok(None);
             };
-            let answer = cluster_line(alloc, &mut cluster, text)?;
-            *stage = Stage::Living(cluster);
+            let answer = cluster_line(alloc, &mut lab, text)?;
+            *stage = Stage::Living(lab);
             Ok(answer)
         }
-        Stage::Living(cluster) => cluster_line(alloc, cluster, text),
+        Stage::Living(lab) => cluster_line(alloc, lab, text),
     }
 }
 
@@ -86,7 +88,8 @@ fn first_line(alloc: Global, line: &str) -> Result<Option<(Stage, String)>, Allo
     };
     let text = sizes_text(alloc, &sizes)?;
     let roles = RoleTable::new(alloc, sizes);
-    Ok(Some((Stage::Roles(roles), text)))
+    let liars = NodeSet::new();
+    Ok(Some((Stage::Setting { roles, liars }, text)))
 }
 
 fn later_line(
@@ -106,29 +109,64 @@ fn later_line(
     Ok(Some(text))
 }
 
-/// Adds a role of a cluster in which nothing else happened.
-fn add_role(alloc: Global, roles: &mut RoleTable, said: OwnedRole) -> Result<String, AllocError>
-    ensures text { IfOk result (λ text. string_bytes text ≡ role_text (add_due roles.old said.role said.owner)) }
-    ensures roles { OnOk result (roles.new ≡ table_after roles.old (role_said said) (add_due roles.old said.role said.owner)) }
+/// Adds a role or a liar of a cluster in which nothing else happened.
+fn set_up(
+    alloc: Global,
+    roles: &mut RoleTable,
+    liars: &mut NodeSet,
+    setup: Setup,
+) -> Result<String, AllocError>
+    ensures text { IfOk result (λ text. string_bytes text ≡ (after_setup roles.old liars.old setup).1) }
+    ensures after { OnOk result (OfSetup roles.new liars.new ≡ (after_setup roles.old liars.old setup).0) }
 {
-    match roles.add(said.role, said.owner) {
+    match setup {
+        Setup::Owned { role, owner } => add_role(alloc, roles, role, owner),
+        Setup::Liar(node) => add_liar(alloc, roles, liars, node),
+    }
+}
+
+fn add_role(
+    alloc: Global,
+    roles: &mut RoleTable,
+    role: u16,
+    owner: u8,
+) -> Result<String, AllocError>
+    ensures text { IfOk result (λ text. string_bytes text ≡ texts.role_text (add_due roles.old role owner)) }
+    ensures roles { OnOk result (roles.new ≡ table_after roles.old role owner (add_due roles.old role owner)) }
+{
+    match roles.add(role, owner) {
         Ok(()) => role_text(alloc, None),
         Err(TableFault::Memory) => Err(AllocError),
         Err(fault) => role_text(alloc, Some(fault)),
     }
 }
 
-fn cluster_line(
+fn add_liar(
     alloc: Global,
-    cluster: &mut Cluster,
-    line: &str,
-) -> Result<Option<String>, AllocError>
-    ensures { IfOk result (λ text. cluster.old.node.config.roles.sizes.nodes ≡ 1 →
-        Answers (after_cluster_line cluster.old line.now) (Stage.Living cluster.new) (option_map string_bytes text)) }
+    roles: &RoleTable,
+    liars: &mut NodeSet,
+    node: NodeName,
+) -> Result<String, AllocError>
+    ensures text { IfOk result (λ text. string_bytes text ≡ texts.liar_text (one_too_many roles.now liars.old node)) }
+    ensures liars { liars.new ≡ liars_after roles.now liars.old node }
 {
-    let Some(order) = order_of_line(&cluster.sizes(), line) else {
+    let mut more = *liars;
+    more.insert(node);
+    let sizes = roles.sizes();
+    let too_many = more.count_among(&sizes) > usize::from(sizes.f());
+    if !too_many {
+        *liars = more;
+    }
+    liar_text(alloc, too_many)
+}
+
+fn cluster_line(alloc: Global, lab: &mut Lab, line: &str) -> Result<Option<String>, AllocError>
+    ensures { IfOk result (λ text. AreSizes (lab_sizes (lab_in lab.old)) →
+        Answers (after_cluster_line (lab_in lab.old) line.now) (Stage.Living lab.new) (option_map string_bytes text)) }
+{
+    let Some(order) = order_of_line(&lab.sizes(), line) else {
         return Ok(None);
     };
-    let text = cluster.answer(alloc, order)?;
+    let text = lab.answer(alloc, order)?;
     Ok(Some(text))
 }

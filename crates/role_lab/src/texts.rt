@@ -65,7 +65,8 @@ fn delivered_text(alloc: Global, delivered: Option<Command>) -> Result<String, A
     }
 }
 
-fn kind_word(kind: Kind) -> &'static str
+/// The name of a kind of message.
+pub fn kind_word(kind: Kind) -> &'static str
     ensures { result.now ≡ texts.kind_word kind }
 {
     match kind {

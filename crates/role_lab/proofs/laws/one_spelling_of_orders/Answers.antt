@@ -1,4 +1,5 @@
-use Rattle.role_lab.proofs.SpelledOrders.{cluster_of_line-spelling, cluster_of_line_spelled, role_of_line-spelling, role_of_line_spelled, order_of_line-spelling, order_of_line_spelled}
+use Rattle.role_lab.proofs.SpelledOrders.{order_of_line-spelling, order_of_line_spelled}
+use Rattle.role_lab.proofs.SpelledSetups.{cluster_of_line-spelling, cluster_of_line_spelled, setup_of_line-spelling, setup_of_line_spelled}
 use Rattle.role_lab.proofs.laws.one_spelling_of_orders.Goals as goal
 
 pub returns-clause-clusters_read : goal.returns-clause-clusters_read
@@ -7,11 +8,11 @@ returns-clause-clusters_read c = cluster_of_line-spelling
 pub returns-clause-clusters_spelled : goal.returns-clause-clusters_spelled
 returns-clause-clusters_spelled c = cluster_of_line_spelled
 
-pub returns-clause-roles_read : goal.returns-clause-roles_read
-returns-clause-roles_read c = role_of_line-spelling
+pub returns-clause-setups_read : goal.returns-clause-setups_read
+returns-clause-setups_read c = setup_of_line-spelling
 
-pub returns-clause-roles_spelled : goal.returns-clause-roles_spelled
-returns-clause-roles_spelled c = role_of_line_spelled
+pub returns-clause-setups_spelled : goal.returns-clause-setups_spelled
+returns-clause-setups_spelled c = setup_of_line_spelled
 
 pub returns-clause-orders_read : goal.returns-clause-orders_read
 returns-clause-orders_read c = order_of_line-spelling

@@ -1,10 +1,12 @@
 use Rattle.std.proofs.Common.{◌≡◌, Some, sym, ◌∙◌, subst}
 use Rattle.quorum_sizes.specs.Sizes.{Counts}
+use Rattle.role_lab.specs.Inside.{lab_in}
 use Rattle.role_lab.specs.Orders.{order_of_line}
 use Rattle.role_lab.proofs.Answering.{asking-some}
 use Rattle.role_lab.proofs.stage.cluster_line.Goals as goal
 
 pub returns : goal.returns
-returns c one =
-    let read = subst (λ (s : Counts). order_of_line s c.args.line.now ≡ Some c.in-Some.order) c.sizes.ensures (sym c.order_of_line.ensures.value ∙ c.in-Some.is) in
-    asking-some _ _ _ _ c.in-Some.order read c.in_ok-text.ensures.after one c.in_ok-text.ensures.text
+returns c are =
+    let read = subst (λ (s : Counts). order_of_line s c.args.line.now ≡ Some c.in-Some.order) c.sizes.ensures
+    (sym c.order_of_line.ensures.value ∙ c.in-Some.is) in
+    asking-some (lab_in c.args.lab.now) _ _ _ c.in-Some.order read c.in_ok-text.ensures.after are c.in_ok-text.ensures.text

@@ -8,9 +8,11 @@ returns-in-Some c =
 
 pub returns-in_default-cluster_of_line : goal.returns-in_default-cluster_of_line
 returns-in_default-cluster_of_line c =
-    first_line-bad _ (sym c.sizes_of_line.ensures ∙ c.in_default.is) (sym c.cluster_of_line.ensures ∙ c.in_default-cluster_of_line.is)
+    first_line-bad _ (sym c.sizes_of_line.ensures ∙ c.in_default.is)
+    (sym c.cluster_of_line.ensures ∙ c.in_default-cluster_of_line.is)
 
 pub returns : goal.returns
 returns c =
-    first_line-cluster _ _ _ _ (sym c.sizes_of_line.ensures ∙ c.in_default.is) (sym c.cluster_of_line.ensures ∙ c.in-Some-cluster_of_line.is)
-    c.new-roles.ensures c.in_ok-text-2.ensures
+    first_line-cluster _ _ _ _ _ (sym c.sizes_of_line.ensures ∙ c.in_default.is)
+    (sym c.cluster_of_line.ensures ∙ c.in-Some-cluster_of_line.is)
+    c.new-roles.ensures c.new-liars.ensures c.in_ok-text-2.ensures

@@ -1,5 +1,0 @@
-use Rattle.role_commands.proofs.WordLemmas.{split_word_is}
-use Rattle.role_lab.proofs.grammar.split_word.Goals as goal
-
-pub returns : goal.returns
-returns c = split_word_is c.args.text.now _ c.split_once.ensures.cases

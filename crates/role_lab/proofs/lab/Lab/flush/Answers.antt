@@ -1,0 +1,41 @@
+use Rattle.std.proofs.Common.{◌∙◌, ap, refl}
+use Rattle.byz_world.specs.declared.step.Step.TheVariants.{Give}
+use Rattle.role_node.specs.Configs.{ConfigValue}
+use Rattle.role_lab.specs.Inside.{lab_in, given_in}
+use Rattle.role_lab.specs.Labs.{Flushed, after_doing}
+use Rattle.role_lab.specs.Labs as labs
+use Rattle.role_lab.proofs.Flushing.{goes-first, goes-on, goes-none, goes-over, next_number-found}
+use Rattle.role_lab.proofs.lab.Lab.flush.Goals as goal
+
+pub loop-count-init : goal.loop-count-init
+loop-count-init c =
+    goes-first (lab_in c.args.self.now) c.limit-limit.result
+    (c.limit-limit.ensures ∙ ap (λ (k : ConfigValue). k.limit) c.config.ensures.value)
+
+pub returns-in_default-clause-count : goal.returns-in_default-clause-count
+returns-in_default-clause-count c =
+    let found = next_number-found (lab_in c.loop-count.self) (given_in c.loop-count.self.given) c.sent_len.result
+    c.next.result refl c.sent_len.ensures.value c.next.ensures.value in
+    ap (λ (f : Flushed). f.count) (goes-none c.loop-count.invariant (found ∙ c.in_default.is))
+
+pub returns-in_default-clause-after : goal.returns-in_default-clause-after
+returns-in_default-clause-after c =
+    let found = next_number-found (lab_in c.loop-count.self) (given_in c.loop-count.self.given) c.sent_len.result
+    c.next.result refl c.sent_len.ensures.value c.next.ensures.value in
+    (λ i. record { world = c.loop-count.self.world; given = c.next.ensures.same i })
+    ∙ ap (λ (f : Flushed). f.lab) (goes-none c.loop-count.invariant (found ∙ c.in_default.is))
+
+pub loop-count-preserved : goal.loop-count-preserved
+loop-count-preserved c =
+    let found = next_number-found (lab_in c.loop-count.self) (given_in c.loop-count.self.given) c.sent_len.result
+    c.next.result refl c.sent_len.ensures.value c.next.ensures.value in
+    goes-on c.in-Some.packet (lab_in c.give.new.self) c.loop-count.invariant c.loop-count-test.true
+    (found ∙ c.in-Some.is)
+    (c.in_ok-give.ensures ∙ ap (λ (l : labs.Lab). after_doing l (Give c.in-Some.packet))
+    (λ i. record { world = c.loop-count.self.world; given = c.next.ensures.same i }))
+
+pub returns-clause-count : goal.returns-clause-count
+returns-clause-count c = ap (λ (f : Flushed). f.count) (goes-over c.loop-count.invariant c.loop-count-test.false)
+
+pub returns-clause-after : goal.returns-clause-after
+returns-clause-after c = ap (λ (f : Flushed). f.lab) (goes-over c.loop-count.invariant c.loop-count-test.false)

@@ -1,0 +1,6 @@
+use Rattle.role_lab.specs.Inside.{lab_in}
+use Rattle.role_lab.proofs.Flushing.{Goes}
+use Rattle.role_lab.proofs.lab.Lab.flush.Given as goal
+
+abbrev pub invariant-loop-count : goal.invariant-loop-count
+invariant-loop-count l = Goes (lab_in l.fn.self) l.limit l.count (lab_in l.self)

@@ -1,0 +1,8 @@
+use Rattle.std.proofs.Common.{string_bytes}
+use Rattle.role_lab.proofs.Stepping.{asked_ok}
+use Rattle.role_lab.proofs.lab.asked_text.Goals as goal
+
+pub returns-in-Ok-clause-text : goal.returns-in-Ok-clause-text
+returns-in-Ok-clause-text c =
+    asked_ok string_bytes c.args.world.now c.args.node c.args.question c.in-Ok.answer c.answer_text.result
+    c.in-Ok.ensures.due c.in-Ok.ensures.answer c.answer_text.ensures.text c.answer_text.ensures.within

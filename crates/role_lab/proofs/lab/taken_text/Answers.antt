@@ -1,0 +1,8 @@
+use Rattle.role_lab.proofs.Stepping.{refused_leaves, OnOk-from}
+use Rattle.role_lab.proofs.lab.taken_text.Goals as goal
+
+pub returns-in_ok-unless_memory-in-Err-clause-after : goal.returns-in_ok-unless_memory-in-Err-clause-after
+returns-in_ok-unless_memory-in-Err-clause-after c =
+    OnOk-from c.format.result
+    (refused_leaves c.args.world.now c.step.new.self c.args.step c.in-Err.fault c.in-Err.ensures.due
+    c.in_ok-unless_memory-in-Err.ensures c.in-Err.ensures.err)

@@ -1,6 +1,0 @@
-use Rattle.role_lab.proofs.lines.peek.Goals as goal
-
-pub returns-in-Some-clause-begins : goal.returns-in-Some-clause-begins
-returns-in-Some-clause-begins g c =
-    let begun = rw c.front.ensures at c.in-Some.ensures.begins in
-    (begun.0, begun.1 _)

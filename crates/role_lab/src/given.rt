@@ -1,0 +1,93 @@
+//! Which packets of the pool were given.
+
+ghost use Rattle.std.specs.Prelude.{◌≡◌, ℕ, ◌<◌, ◌≤◌, ◌^◌, true, false, not, find, length, OnOk, IfSome};
+ghost use Rattle.std.specs.List.{range_with_len};
+ghost use Rattle.role_lab.specs.Flags.{flagged, AllBelow};
+ghost use Rattle.role_lab.specs.Labs.{with_number};
+
+use std::alloc::{AllocError, Global};
+
+/// The numbers that were given, a flag each, and the least that may not be given yet.
+#[derive(Drop)]
+pub struct Given {
+    flags: Vec<bool>,
+    least: usize,
+    ghost below: { AllBelow flags.items least },
+}
+
+impl Given {
+    ghost use Rattle.role_lab.specs.Inside.{given_in};
+
+    /// No number.
+    pub fn new(alloc: Global) -> Self
+        ensures { given_in result ≡ (λ k. false) }
+    {
+        Given {
+            flags: Vec::new(alloc),
+            least: 0,
+        }
+    }
+
+    /// Adds a number.
+    ///
+    /// # Errors
+    ///
+    /// Only for want of memory.
+    pub fn mark(&mut self, number: u32) -> Result<(), AllocError>
+        ensures { OnOk result (given_in self.new ≡ with_number (given_in self.old) number) }
+    {
+        set_flag(&mut self.flags, number as usize)
+    }
+
+    /// The least number below `end` that was not given.
+    pub fn next(&mut self, end: u32) -> Option<u32>
+        ensures value { result ≡ find (λ k. not (given_in self.old k)) (range_with_len 0 end) }
+        ensures below { IfSome result (λ number. number < end) }
+        ensures same { given_in self.new ≡ given_in self.old }
+    {
+        let least = first_unset(&self.flags, self.least, end as usize);
+        self.least = least;
+        if least < end as usize {
+            Some(least as u32)
+        } else {
+            None
+        }
+    }
+}
+
+/// Sets a flag, behind unset ones where there are too few.
+fn set_flag(flags: &mut Vec<bool>, number: usize) -> Result<(), AllocError>
+    requires { number < 2 ^ 32 }
+    ensures set { OnOk result (flagged flags.new.items ≡ with_number (flagged flags.old.items) number) }
+    ensures kept { (k : ℕ) → flagged flags.old.items k ≡ true → flagged flags.new.items k ≡ true }
+{
+    pad(flags, number + 1)?;
+    flags[number] = true;
+    Ok(())
+}
+
+/// Adds unset flags until there are so many.
+fn pad(flags: &mut Vec<bool>, count: usize) -> Result<(), AllocError>
+    ensures same { flagged flags.new.items ≡ flagged flags.old.items }
+    ensures many { OnOk result (count ≤ length flags.new.items) }
+{
+    if count > flags.len() {
+        flags.resize(count, false)?;
+    }
+    Ok(())
+}
+
+/// The least number from `from` to `end` whose flag is not set, where those before are; `end` at the earliest if there is
+/// none.
+fn first_unset(flags: &[bool], from: usize, end: usize) -> usize
+    requires { AllBelow flags.now from }
+    ensures below { AllBelow flags.now result }
+    ensures unset { result < end → flagged flags.now result ≡ false }
+{
+    for number in from..end {
+        if number >= flags.len() || !flags[number] {
+            return number;
+        }
+    }
+    end.max(from)
+}
