@@ -12,7 +12,7 @@ use Rattle.byz_world.specs.Headline.{IsFirstRule, IsRightDecision, Headline}
 use Rattle.byz_world.specs.Laws.{stream_of}
 use Rattle.byz_world.specs.Runs.{history_of, IsClusterRun}
 use Rattle.byz_world.specs.Steps.{after_step, after_steps}
-use Rattle.byz_world.specs.Inside.{IsSound}
+use Rattle.byz_world.specs.Steps.{IsSound}
 use Rattle.byz_world.specs.Worlds.{WorldValue, new_world, too_many_lie}
 use Rattle.byz_world.specs.declared.step.Step.{Step}
 use Rattle.quorum_sizes.specs.Sizes.{AreSizes}

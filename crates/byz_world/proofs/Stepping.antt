@@ -15,7 +15,9 @@ use Rattle.byz_world.specs.Runs.{history_of, has_sent, IsClusterRun}
 use Rattle.byz_world.specs.Pools.{pool}
 use Rattle.byz_world.specs.Worlds.{WorldValue, node_in, is_correct_in}
 use Rattle.byz_world.specs.Steps.{Arrival, arrival, arrives, given, is_pool_full, is_forged, of_reply, of_answer, answer_of, step_due, recorded_pair, with_run, after_step, after_steps, adds, IsStepAnswer}
-use Rattle.byz_world.specs.Inside.{MayHappen, IsSound, IsClusterRunOf}
+use Rattle.byz_world.specs.Inside.{MayHappen}
+use Rattle.byz_world.specs.Steps.{IsSound}
+use Rattle.byz_world.specs.Worlds.{IsClusterRunOf}
 use Rattle.byz_world.specs.declared.step.Step.{Step}
 use Rattle.byz_world.specs.declared.step.Step.TheVariants.{Issue, Give, Lie, Client}
 use Rattle.byz_world.specs.declared.step.StepReply.{StepReply}

@@ -81,17 +81,6 @@ MayArrive w (Ok (Some pair)) = MayHappen w pair.0 pair.1
 MayArrive w (Ok None) = ⊤
 MayArrive w (Err fault) = ⊤
 
--- a packet that a step brings is one: a SEND comes from its owner
-abbrev pub IsSound : Step → Type 0
-IsSound (step.Issue node command) = ⊤
-IsSound (step.Give packet) = ⊤
-IsSound (step.Lie p) = SentByOwner p
-IsSound (step.Client node act) = ⊤
-
--- the run of a world is a cluster run
-abbrev pub IsClusterRunOf : WorldValue → Type 0
-IsClusterRunOf w = IsClusterRun w.config w.liars w.run
-
 abbrev pub is_idle : Result Effect NodeFault → Bool
 is_idle (Ok Idle) = true
 is_idle (Ok Counted) = false

@@ -1,6 +1,6 @@
 -- What a step of the world does: the node and the event that it comes to, its answer, and the run after it.
-use Rattle.std.specs.Prelude.{◌≡◌, ℕ, ◌+◌, Bool, not, ◌&&◌, nat_lt, if◌then◌else◌, IsTrue, List, [], ◌∷◌, ◌++◌, length, slice_get, is_some, Option, Some, None, Result, Ok, Err}
-use Rattle.link_frames.specs.Packets.{PacketValue, message_of}
+use Rattle.std.specs.Prelude.{◌≡◌, ⊤, ℕ, ◌+◌, Bool, not, ◌&&◌, nat_lt, if◌then◌else◌, IsTrue, List, [], ◌∷◌, ◌++◌, length, slice_get, is_some, Option, Some, None, Result, Ok, Err}
+use Rattle.link_frames.specs.Packets.{PacketValue, SentByOwner, message_of}
 use Rattle.role_node.specs.Nodes.{due_at}
 use Rattle.role_node.specs.Answers.{is_recorded}
 use Rattle.role_node.specs.declared.event.Event.{Event}
@@ -103,3 +103,10 @@ IsStepAnswer w step (Err fault.PoolFull) = step_due w step ≡ Err fault.PoolFul
 IsStepAnswer w step (Err (fault.Node f)) = step_due w step ≡ Err (fault.Node f)
 IsStepAnswer w step (Err fault.NoSession) = step_due w step ≡ Err fault.NoSession
 IsStepAnswer w step (Err fault.Memory) = IsTrue (adds w step)
+
+-- a packet that a step brings is one: a SEND comes from its owner
+abbrev pub IsSound : Step → Type 0
+IsSound (Issue node command) = ⊤
+IsSound (Give packet) = ⊤
+IsSound (Lie p) = SentByOwner p
+IsSound (Client node act) = ⊤

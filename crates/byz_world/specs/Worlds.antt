@@ -6,7 +6,7 @@ use Rattle.quorum_sizes.specs.Sizes.{Counts}
 use Rattle.quorum_sizes.specs.NodeSets.{Nodes, nodes_among}
 use Rattle.role_node.specs.Configs.{ConfigValue, config_code}
 use Rattle.role_node.specs.Nodes.{NodeValue, event_code}
-use Rattle.byz_world.specs.Runs.{Run, history_of, is_correct}
+use Rattle.byz_world.specs.Runs.{Run, history_of, is_correct, IsClusterRun}
 
 pub record WorldValue : Type 0 where
   pub config : ConfigValue
@@ -41,3 +41,7 @@ node_in w node = record { config = w.config; me = node; history = history_of nod
 
 abbrev pub node_due : WorldValue → ℕ → Option NodeValue
 node_due w node = if is_correct_in w node then Some (node_in w node) else None
+
+-- the run of a world is a cluster run
+abbrev pub IsClusterRunOf : WorldValue → Type 0
+IsClusterRunOf w = IsClusterRun w.config w.liars w.run

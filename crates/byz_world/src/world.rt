@@ -15,7 +15,9 @@ ghost use Rattle.byz_world.specs.Steps.{arrival, unless_pool_full, arrives, is_f
 ghost use Rattle.byz_world.specs.Agreement.{agree_due};
 ghost use Rattle.byz_world.specs.Resting.{IsAtRest};
 ghost use Rattle.byz_world.specs.Asking.{IsMade, IsQuestionAnswer, decision_due};
-ghost use Rattle.byz_world.specs.Inside.{MayHappen, IsSound, IsClusterRunOf};
+ghost use Rattle.byz_world.specs.Inside.{MayHappen};
+ghost use Rattle.byz_world.specs.Steps.{IsSound};
+ghost use Rattle.byz_world.specs.Worlds.{IsClusterRunOf};
 ghost use Rattle.byz_world.specs.declared.step.Step.{Step};
 ghost use Rattle.byz_world.specs.declared.faults.WorldFault.TheVariants as fault;
 

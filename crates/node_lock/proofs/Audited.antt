@@ -25,17 +25,20 @@ all_of : (P : Receipt → Type 0) (rs : List Receipt) → ((r : Receipt) → Con
 all_of P rs each k d inside = each (get_or rs k d) (All-contains_itself rs k d inside)
 
 -- a receipt for the place is one of those
-member : (receipts : List Receipt) (place : ℕ) (rest here later : List Receipt) → IsSplit receipts place rest here later →
+member : (receipts : List Receipt) (place : ℕ) (rest here later : List Receipt) →
+    IsSplit receipts place rest here later →
     (r : Receipt) → Contains receipts r → r.place ≡ place → Contains here r
 member receipts place rest here later split r has at =
     let Q : List Receipt → Type 0 = λ rs. Contains rs r in
     ⊎_elim
     (λ (h : Contains here r). h)
-    (λ (h : Contains later r). let up = All-contains (λ (x : Receipt). place < x.place) later r split.above h in absurd (omega arith))
+    (λ (h : Contains later r). let up = All-contains (λ (x : Receipt). place < x.place) later r split.above h in
+    absurd (omega arith))
     (Contains-append_cases here later r (subst Q split.whole (split.rest_is.members r has (omega arith))))
 
 -- as many are recorded
-counted : (receipts : List Receipt) (place : ℕ) (rest here later : List Receipt) → IsSplit receipts place rest here later →
+counted : (receipts : List Receipt) (place : ℕ) (rest here later : List Receipt) →
+    IsSplit receipts place rest here later →
     recorded_at receipts place ≡ recorded_in here
 counted receipts place rest here later split =
     let none : recorded_at later place ≡ 0 =
@@ -77,7 +80,8 @@ not_true_at node receipts place rest here later split all =
     let Q : List Receipt → Type 0 = λ rs. Contains rs r in
     let at : r.place ≡ place = All-contains (λ (x : Receipt). x.place ≡ place) here r split.same has in
     let among = split.rest_is.among r (subst Q (sym split.whole) (Contains-append_left here later r has)) in
-    true_here node r place at (All-contains (λ (x : Receipt). x.place ≡ place → IsTrueOf node x) receipts r all among at))
+    true_here node r place at
+    (All-contains (λ (x : Receipt). x.place ≡ place → IsTrueOf node x) receipts r all among at))
 
 some_at : (history : List Event) (place : ℕ) → place < length history → IsSome (slice_get history place)
 some_at [] place inside = absurd (omega arith)
@@ -113,11 +117,13 @@ pub fault_at : (node : NodeValue) (receipts : List Receipt) (place : ℕ) (rest 
     IsSplit receipts place rest here later → AreRightBefore node receipts place → (fault : AuditFault) →
     IsFaultHere (node_at node place) (slice_get node.history place) here place fault → IsAuditFault node receipts fault
 fault_at node receipts place rest here later split before (Missing p) found =
-    let P : ℕ → Type 0 = λ q. AreRightBefore node receipts q × (q < length node.history) × (recorded_at receipts q ≡ 0) in
+    let P : ℕ → Type 0 = λ q. AreRightBefore node receipts q × (q < length node.history)
+    × (recorded_at receipts q ≡ 0) in
     subst P (sym found.0)
     (before, inside_of node.history place found.1, counted receipts place rest here later split ∙ found.2)
 fault_at node receipts place rest here later split before (Doubled p) found =
-    let P : ℕ → Type 0 = λ q. AreRightBefore node receipts q × (q < length node.history) × (1 < recorded_at receipts q) in
+    let P : ℕ → Type 0 = λ q. AreRightBefore node receipts q × (q < length node.history)
+    × (1 < recorded_at receipts q) in
     let same = counted receipts place rest here later split in
     let more : 1 < recorded_in here = found.2 in
     subst P (sym found.0) (before, inside_of node.history place found.1, omega arith)
@@ -163,7 +169,8 @@ audited node receipts rest here split before = record {
       let Q : List Receipt → Type 0 = λ rs. Contains rs r in
       let in_here : Contains (here ++ []) r = subst Q split.whole (split.rest_is.members r has (omega arith)) in
       ⊎_elim
-      (λ (k : Contains here r). let at = All-contains (λ (x : Receipt). x.place ≡ length node.history) here r split.same k in absurd (omega arith))
+      (λ (k : Contains here r). let at =
+      All-contains (λ (x : Receipt). x.place ≡ length node.history) here r split.same k in absurd (omega arith))
       (λ (k : Contains [] r). absurd (omega (arith, k.1)))
       (Contains-append_cases here [] r in_here))
       (cases_lt r.place (length node.history + 1)));
@@ -177,8 +184,10 @@ pub past_end : (node : NodeValue) (receipts : List Receipt) (rest here later : L
     IsAuditFault node receipts (Differs first.place)
 past_end node receipts rest here later first split before has least =
     let Q : List Receipt → Type 0 = λ rs. Contains rs first in
-    let up : length node.history < first.place = All-contains (λ (x : Receipt). length node.history < x.place) later first split.above has in
-    let among : Contains receipts first = split.rest_is.among first (subst Q (sym split.whole) (Contains-append_right here later first has)) in (
+    let up : length node.history < first.place =
+    All-contains (λ (x : Receipt). length node.history < x.place) later first split.above has in
+    let among : Contains receipts first =
+    split.rest_is.among first (subst Q (sym split.whole) (Contains-append_right here later first has)) in (
       (λ q below.
           ⊎_elim
           (λ (h : q < length node.history + 1). before q h)
@@ -187,12 +196,16 @@ past_end node receipts rest here later first split before has least =
             all = all_of (λ (r : Receipt). r.place ≡ q → IsTrueOf node r) receipts (λ r contained at.
                 let R : List Receipt → Type 0 = λ rs. Contains rs r in
                 ⊎_elim
-                (λ (k : Contains here r). let e = All-contains (λ (x : Receipt). x.place ≡ length node.history) here r split.same k in absurd (omega arith))
+                (λ (k : Contains here r). let e =
+                All-contains (λ (x : Receipt). x.place ≡ length node.history) here r split.same k in
+                absurd (omega arith))
                 (λ (k : Contains later r). let e = least r k in absurd (omega arith))
-                (Contains-append_cases here later r (subst R split.whole (split.rest_is.members r contained (omega arith)))));
+                (Contains-append_cases here later r
+                (subst R split.whole (split.rest_is.members r contained (omega arith)))));
           })
           (cases_lt q (length node.history + 1))),
       (λ inside. absurd (omega arith)),
-      (λ all. let is = All-contains (λ (x : Receipt). x.place ≡ first.place → IsTrueOf node x) receipts first all among refl in
+      (λ all. let is = All-contains (λ (x : Receipt). x.place ≡ first.place → IsTrueOf node x) receipts first all
+          among refl in
           let within : first.place ≤ length node.history = is.within in absurd (omega arith)),
     )

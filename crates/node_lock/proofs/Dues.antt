@@ -25,7 +25,8 @@ recorded_outcome (Err fault) = refl
 
 -- a true receipt of a call that records the event says so
 says_recorded : (node : NodeValue) (r : Receipt) (event : Event) → r.call ≡ Step event →
-    is_recorded (due_at node event) ≡ true → r.outcome ≡ outcome_due node r.call → IsTrue (is_recorded_outcome r.outcome)
+    is_recorded (due_at node event) ≡ true → r.outcome ≡ outcome_due node r.call →
+    IsTrue (is_recorded_outcome r.outcome)
 says_recorded node r event call recorded outcome =
     ap is_recorded_outcome (outcome ∙ ap (outcome_due node) call) ∙ recorded_outcome (due_at node event) ∙ recorded
 
@@ -49,7 +50,8 @@ recorded_here node (Some entry) r event call next recorded =
             event = λ _. subst P (sym call) (ap Some h.0);
           }),
       (λ h.
-          let same : Some entry.event ≡ Some event = subst P call (h.event (says_recorded node r event call recorded h.outcome)) in
+          let same : Some entry.event ≡ Some event =
+          subst P call (h.event (says_recorded node r event call recorded h.outcome)) in
           let is : entry.event ≡ event = cc in
           let due : due_at node event ≡ Ok entry.reply = ap (due_at node) (sym is) ∙ next.0 in
           let told : outcome_due node r.call ≡ Replied entry.reply = ap (outcome_due node) call ∙ ap outcome_from due in
@@ -57,8 +59,10 @@ recorded_here node (Some entry) r event call next recorded =
     )
 
 -- the entry at a place is the one that was due there
-pub next_entry : (node : NodeValue) (entries : List Entry) (place : ℕ) (entry : Entry) → map event_of entries ≡ node.history →
-    AreRepliesOf node entries → IsLegalNode node → slice_get entries place ≡ Some entry → IsNext (node_at node place) (Some entry)
+pub next_entry : (node : NodeValue) (entries : List Entry) (place : ℕ) (entry : Entry) → map event_of entries
+    ≡ node.history →
+    AreRepliesOf node entries → IsLegalNode node → slice_get entries place ≡ Some entry →
+    IsNext (node_at node place) (Some entry)
 next_entry node entries place entry same replies legal at =
     let event : slice_get node.history place ≡ Some entry.event =
     ap (λ es. slice_get es place) (sym same) ∙ slice_get-map event_of entries place ∙ ap (option_map event_of) at in
@@ -73,4 +77,5 @@ one_further node place event at =
     let more : take (place + 1) node.history ≡ take place node.history ++ event ∷ [] =
     take_more node.history place event inside
     ∙ ap (λ (e : Event). take place node.history ++ e ∷ []) (get_or_from_slice_get node.history place event event at) in
-    ap (λ (h : List Event). let n : NodeValue = record { config = node.config; me = node.me; history = h } in n) (sym more)
+    ap (λ (h : List Event). let n : NodeValue = record { config = node.config; me = node.me; history = h } in n)
+    (sym more)

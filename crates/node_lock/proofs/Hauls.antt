@@ -12,7 +12,8 @@ use Rattle.node_lock.specs.declared.inbox.Hand.{Hand}
 use Rattle.node_lock.specs.declared.job.Job.{Job}
 
 -- a view that is there, by its index
-pub at_of : (views : List Hand) (i : ℕ) (v : Hand) → get_elem? views i ≡ some v → (i < length views) × ((d : Hand) → get_or views i d ≡ v)
+pub at_of : (views : List Hand) (i : ℕ) (v : Hand) → get_elem? views i ≡ some v → (i < length views)
+    × ((d : Hand) → get_or views i d ≡ v)
 at_of [] i v e = absurd (some-ne-none v (sym e))
 at_of (x ∷ xs) zero v e = (omega arith, (λ d. some-injective x v e))
 at_of (x ∷ xs) (suc i) v e = let h = at_of xs i v e in (omega (arith, h.0), h.1)
@@ -24,14 +25,21 @@ swapped f views i v w at =
     let h = at_of views i v at in
     ap (λ (u : Hand). sum_by f (set views i w) + f u) (sym (h.1 v)) ∙ sum_by-set f views i w v h.0
 
-more : (test : Job → Bool) (xs : List Job) (x : Job) → count_by test (xs ++ x ∷ []) ≡ count_by test xs + count_by test (x ∷ [])
+more : (test : Job → Bool) (xs : List Job) (x : Job) → count_by test (xs ++ x ∷ [])
+    ≡ count_by test xs + count_by test (x ∷ [])
 more test xs x = sum_by-append _ xs (x ∷ [])
 
-first : (test : Job → Bool) (x : Job) (xs : List Job) → count_by test (x ∷ xs) ≡ count_by test (x ∷ []) + count_by test xs
+first : (test : Job → Bool) (x : Job) (xs : List Job) → count_by test (x ∷ xs)
+    ≡ count_by test (x ∷ []) + count_by test xs
 first test x xs = sum_by-append _ (x ∷ []) xs
 
 pub begins : IsFair [] (hand all_parts [] [] ∷ [])
-begins = record { parts = refl; even = λ test. refl; idle = All-cons IsIdle (hand all_parts [] []) [] (λ e. (refl, refl)) (All-nil IsIdle) }
+begins = record {
+  parts = refl;
+  even = λ test. refl;
+  idle =
+      All-cons IsIdle (hand all_parts [] []) [] (λ e. (refl, refl)) (All-nil IsIdle);
+}
 
 pub puts : (n port : ℕ) (v : Hand) (x : Job) → 0 < v.parts → Pushes IsFair n port v x (λ w. w ≡ put_more v x)
 puts n port v x held items views _ fair at = (
@@ -84,11 +92,13 @@ cuts port v held items views fair at =
           let e = fair.even test in
           omega arith;
       idle =
-          All-push IsIdle (set views port left) right (All-set IsIdle views port left (λ none. absurd (omega arith)) fair.idle)
+          All-push IsIdle (set views port left) right
+          (All-set IsIdle views port left (λ none. absurd (omega arith)) fair.idle)
           (λ none. absurd (omega arith));
     }
 
-pub joins : (port : ℕ) (v : Hand) (other : ℕ) (w : Hand) → 0 < v.parts → Merges IsFair port v other w (joined v w) (hand 0 [] [])
+pub joins : (port : ℕ) (v : Hand) (other : ℕ) (w : Hand) → 0 < v.parts →
+    Merges IsFair port v other w (joined v w) (hand 0 [] [])
 joins port v other w held items views fair at apart there =
     let both = joined v w in
     let spent = hand 0 [] [] in

@@ -17,7 +17,8 @@ last_of x [] = (x, refl)
 last_of x (z ∷ xs) = last_of z xs
 
 -- what is recorded found room
-had_room : (full : Bool) (o : Result Effect NodeFault) (r : Reply) → IsTrue (is_recorded (answered (unless_full full o) r))
+had_room : (full : Bool) (o : Result Effect NodeFault) (r : Reply) →
+    IsTrue (is_recorded (answered (unless_full full o) r))
     → full ≡ false
 had_room full (Ok effect.Idle) r h = cc
 had_room true (Ok effect.Counted) r h = cc

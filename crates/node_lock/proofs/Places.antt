@@ -28,26 +28,33 @@ on false b e = cc
 pub none_at : (place : ℕ) (rs : List Receipt) → All (λ (r : Receipt). r.place ≡ place → ⊥) rs → recorded_at rs place ≡ 0
 none_at place [] others = refl
 none_at place (r ∷ rs) others =
-    let here = off (r.place == place) (is_recorded_outcome r.outcome) (ne_eqb r.place place (All-head (λ (x : Receipt). x.place ≡ place → ⊥) r rs others)) in
+    let here = off (r.place == place) (is_recorded_outcome r.outcome)
+    (ne_eqb r.place place (All-head (λ (x : Receipt). x.place ≡ place → ⊥) r rs others)) in
     let rest = none_at place rs (All-tail (λ (x : Receipt). x.place ≡ place → ⊥) r rs others) in
-    sum_by-cons (λ (x : Receipt). cond ((x.place == place) && is_recorded_outcome x.outcome) 1 0) r rs ∙ ap (λ n. n + recorded_at rs place) here ∙ ap (λ n. 0 + n) rest
+    sum_by-cons (λ (x : Receipt). cond ((x.place == place) && is_recorded_outcome x.outcome) 1 0) r rs
+    ∙ ap (λ n. n + recorded_at rs place) here ∙ ap (λ n. 0 + n) rest
 
 -- of those for the place all recorded ones do
-pub all_at : (place : ℕ) (rs : List Receipt) → All (λ (r : Receipt). r.place ≡ place) rs → recorded_at rs place ≡ recorded_in rs
+pub all_at : (place : ℕ) (rs : List Receipt) → All (λ (r : Receipt). r.place ≡ place) rs → recorded_at rs place
+    ≡ recorded_in rs
 all_at place [] same = refl
 all_at place (r ∷ rs) same =
-    let here = on (r.place == place) (is_recorded_outcome r.outcome) (eq-eqb r.place place (All-head (λ (x : Receipt). x.place ≡ place) r rs same)) in
+    let here = on (r.place == place) (is_recorded_outcome r.outcome)
+    (eq-eqb r.place place (All-head (λ (x : Receipt). x.place ≡ place) r rs same)) in
     let rest = all_at place rs (All-tail (λ (x : Receipt). x.place ≡ place) r rs same) in
     sum_by-cons (λ (x : Receipt). cond ((x.place == place) && is_recorded_outcome x.outcome) 1 0) r rs
     ∙ ap (λ n. n + recorded_at rs place) here ∙ ap (λ n. cond (is_recorded_outcome r.outcome) 1 0 + n) rest
     ∙ sym (sum_by-cons (λ (x : Receipt). cond (is_recorded_outcome x.outcome) 1 0) r rs)
 
-pub at_append : (place : ℕ) (xs ys : List Receipt) → recorded_at (xs ++ ys) place ≡ recorded_at xs place + recorded_at ys place
+pub at_append : (place : ℕ) (xs ys : List Receipt) → recorded_at (xs ++ ys) place
+    ≡ recorded_at xs place + recorded_at ys place
 at_append place xs ys = sum_by-append _ xs ys
 
 -- where the places do not fall and the one at k is above the given one, those from k on are
-pub above_from : (rs : List Receipt) (place k : ℕ) → IsNonDecreasingBy place_of rs → All (λ (r : Receipt). place ≤ r.place) rs →
-    ((d : Receipt) → k < length rs → (get_or rs k d).place ≡ place → ⊥) → All (λ (r : Receipt). place < r.place) (drop k rs)
+pub above_from : (rs : List Receipt) (place k : ℕ) → IsNonDecreasingBy place_of rs →
+    All (λ (r : Receipt). place ≤ r.place) rs →
+    ((d : Receipt) → k < length rs → (get_or rs k d).place ≡ place → ⊥) →
+    All (λ (r : Receipt). place < r.place) (drop k rs)
 above_from rs place k ordered low at i d inside =
     let n : i + k < length rs = omega (arith, length-drop k rs) in
     let same : get_or (drop k rs) i d ≡ get_or rs (k + i) d = get_or-drop k rs i d in
@@ -65,7 +72,8 @@ ordered_of (b ∷ bs) ordered i j d up inside =
     let now : Bor Receipt → Receipt = λ x. x.now in
     let len : length (receipts_of (b ∷ bs)) ≡ length (b ∷ bs) = length-map (b ∷ bs) now in
     let end : j < length (b ∷ bs) = omega arith in
-    let at_i : get_or (receipts_of (b ∷ bs)) i d ≡ (get_or (b ∷ bs) i b).now = get_or-map now (b ∷ bs) i b d (omega arith) in
+    let at_i : get_or (receipts_of (b ∷ bs)) i d ≡ (get_or (b ∷ bs) i b).now =
+    get_or-map now (b ∷ bs) i b d (omega arith) in
     let at_j : get_or (receipts_of (b ∷ bs)) j d ≡ (get_or (b ∷ bs) j b).now = get_or-map now (b ∷ bs) j b d end in
     let between = ordered i j b up end in
     let P : Receipt → Type 0 = λ r. r.place ≤ (get_or (receipts_of (b ∷ bs)) j d).place in
@@ -78,7 +86,8 @@ pub rest_of_all : (receipts : List Receipt) (bs sorted : List (Bor Receipt)) →
     IsRest receipts 0 (receipts_of sorted)
 rest_of_all receipts bs sorted same permuted ordered =
     let P : List Receipt → Type 0 = λ rs. IsPermutation rs (receipts_of sorted) in
-    let perm : IsPermutation receipts (receipts_of sorted) = subst P same (IsPermutation-map (λ (x : Bor Receipt). x.now) bs sorted permuted) in
+    let perm : IsPermutation receipts (receipts_of sorted) =
+    subst P same (IsPermutation-map (λ (x : Bor Receipt). x.now) bs sorted permuted) in
     record {
       ordered = ordered_of sorted ordered;
       low = λ k d inside. omega arith;
@@ -106,12 +115,14 @@ next_rest receipts place rest here later is whole same above = record {
       let all = is.counts p (omega arith) in
       let split : recorded_at rest p ≡ recorded_at here p + recorded_at later p =
       ap (λ rs. recorded_at rs p) whole ∙ at_append p here later in
-      let none : recorded_at here p ≡ 0 = none_at p here (λ k d inside e. let f = same k d inside in absurd (omega arith)) in
+      let none : recorded_at here p ≡ 0 =
+      none_at p here (λ k d inside e. let f = same k d inside in absurd (omega arith)) in
       omega arith;
   members = λ r has up.
       let Q : List Receipt → Type 0 = λ rs. Contains rs r in
       ⊎_elim
-      (λ (h : Contains here r). let e = All-contains (λ (x : Receipt). x.place ≡ place) here r same h in absurd (omega arith))
+      (λ (h : Contains here r). let e = All-contains (λ (x : Receipt). x.place ≡ place) here r same h in
+      absurd (omega arith))
       (λ (h : Contains later r). h)
       (Contains-append_cases here later r (subst Q whole (is.members r has (omega arith))));
   among = λ r has.
@@ -187,7 +198,8 @@ least_first [] b first ordered = absurd cc
 least_first (x ∷ xs) b first ordered =
     let is : x ≡ b = cc in
     let P : Bor Receipt → Type 0 = λ y.
-    Contains (receipts_of (x ∷ xs)) y.now × ((r : Receipt) → Contains (receipts_of (x ∷ xs)) r → y.now.place ≤ r.place) in
+    Contains (receipts_of (x ∷ xs)) y.now
+    × ((r : Receipt) → Contains (receipts_of (x ∷ xs)) r → y.now.place ≤ r.place) in
     subst P is (
       (0, omega arith, refl),
       (λ r has.

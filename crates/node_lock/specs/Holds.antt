@@ -43,7 +43,8 @@ receipt_of h s call =
 -- an event that is recorded is put at the end of the history, with the seat's number beside it
 abbrev pub held_after : Held → Sitting → Event → Held
 held_after h s event =
-    if is_recorded (due_at h.node event) then record { node = with_event h.node event; seats = h.seats ++ s.number ∷ [] }
+    if is_recorded (due_at h.node event)
+    then record { node = with_event h.node event; seats = h.seats ++ s.number ∷ [] }
     else h
 
 -- the seat counts what it recorded, and has seen the whole history after the call

@@ -21,7 +21,8 @@ recorded_counts receipts workers = map (recorded_by receipts) (range_with_len 0 
 
 -- Receipt i is for call i, the receipts are true of the node, which is of this configuration and name, and each
 -- worker's count is that of its receipts.
-pub record IsReport (config : ConfigValue) (me : ℕ) (calls : List Call) (workers : ℕ) (report : PoolReport) : Type 0 where
+pub record IsReport (config : ConfigValue) (me : ℕ) (calls : List Call) (workers : ℕ)
+    (report : PoolReport) : Type 0 where
   pub calls_told : map call_of report.receipts.items ≡ calls
   pub audited : AreTrue report.node report.receipts.items
   pub config_given : report.node.config ≡ config

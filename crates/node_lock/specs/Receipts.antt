@@ -37,7 +37,8 @@ outcome_of_question (Some f) answer = Refused (of_ask_fault f)
 abbrev pub outcome_due : NodeValue → Call → Outcome
 outcome_due node (Step event) = outcome_from (due_at node event)
 outcome_due node (Ask question) =
-    outcome_of_question (ask_due (sessions_at node.history) question) (answer_after node.config.roles node.history question)
+    outcome_of_question (ask_due (sessions_at node.history) question)
+    (answer_after node.config.roles node.history question)
 
 -- the reply to an event that is recorded
 abbrev pub is_recorded_outcome : Outcome → Bool
@@ -48,4 +49,5 @@ is_recorded_outcome (Refused f) = false
 -- memory may be wanting: for an event that would be recorded, and for a listing that is due
 abbrev pub MayWantMemory : NodeValue → Call → Type 0
 MayWantMemory node (Step event) = IsTrue (is_recorded (due_at node event))
-MayWantMemory node (Ask question) = (ask_due (sessions_at node.history) question ≡ None) × IsTrue (takes_memory question)
+MayWantMemory node (Ask question) = (ask_due (sessions_at node.history) question ≡ None)
+    × IsTrue (takes_memory question)

@@ -193,7 +193,8 @@ fn count_recorded(receipts: &[&Receipt]) -> usize
 /// Whether all receipts here are true.
 fn are_true(replay: &mut Node, entry: &Option<Entry>, here: &[&Receipt]) -> Result<bool, AllocError>
     requires { IsNext replay.old entry.now }
-    ensures all { IfOk result (λ yes. IsTrue yes ↔ All (IsTrueHere replay.old (event_in entry.now)) (receipts_of here.now)) }
+    ensures all { IfOk result
+        (λ yes. IsTrue yes ↔ All (IsTrueHere replay.old (event_in entry.now)) (receipts_of here.now)) }
     ensures same { replay.new ≡ replay.old }
 {
     for receipt in here {

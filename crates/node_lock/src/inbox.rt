@@ -146,7 +146,8 @@ impl Model for InboxPass {
 
     ghost Value = { Passing };
 
-    ghost view = { λ p. passing p.pass.table_id p.pass.me.0.client.parts p.pass.me.0.client.put p.pass.me.0.client.taken };
+    ghost view = { λ p. passing p.pass.table_id p.pass.me.0.client.parts p.pass.me.0.client.put
+        p.pass.me.0.client.taken };
 
     ghost invariant = { λ p. (p.pass.me.1 ≡ []) × (p.pass.me.0.client.parts ≡ p.parts) × (0 < p.parts) };
 }
@@ -271,8 +272,10 @@ fn merged(queue: &Queue, mut passes: Vec<InboxPass>, mut all: Pass<Job, Hand>) -
     requires passes { All (IsPassTo queue.now.table.shared.table_id) passes.items }
     ensures pass { IsPassOf queue.now result }
     ensures parts { (view result).parts ≡ (view all).parts + sum_by parts_of passes.items }
-    ensures put { (test : JobValue → Bool) → put_in test (view result) ≡ put_in test (view all) + sum_by (λ (p : Passing). count_by test p.put) passes.items }
-    ensures taken { (test : JobValue → Bool) → taken_in test (view result) ≡ taken_in test (view all) + sum_by (λ (p : Passing). count_by test p.taken) passes.items }
+    ensures put { (test : JobValue → Bool) → put_in test (view result)
+        ≡ put_in test (view all) + sum_by (λ (p : Passing). count_by test p.put) passes.items }
+    ensures taken { (test : JobValue → Bool) → taken_in test (view result)
+        ≡ taken_in test (view all) + sum_by (λ (p : Passing). count_by test p.taken) passes.items }
 {
     while let Some(next) = passes.pop() {
         let InboxPass { pass, parts: _ } = next;

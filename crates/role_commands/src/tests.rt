@@ -59,7 +59,10 @@ fn no_commands(rt: HostRuntime) -> Result<(), Fail> {
 fn numbers_of_words(rt: HostRuntime) {
     assert_eq!(rt; numbers::byte_number("255"), Some(u8::MAX));
     assert_eq!(rt; numbers::byte_number("256"), None);
-    assert_eq!(rt; numbers::long_number("18446744073709551615"), Some(u64::MAX));
+    assert_eq!(rt;
+        numbers::long_number("18446744073709551615"),
+        Some(u64::MAX)
+    );
     assert_eq!(rt; numbers::long_number("18446744073709551616"), None);
     assert_eq!(rt; numbers::split_word("check 1 7"), Some(("check", "1 7")));
 }

@@ -78,20 +78,24 @@ later_line-good s takes line text t instance e from are sends after is =
     rw e ((refl, are, after, SendsAreFrom-push s takes t sends from), is)
 
 -- a line of allowed length
-pub next-short : (script : Script) (line : List ℕ) → length line ≤ most_line_bytes → next script line ≡ after_line script line
+pub next-short : (script : Script) (line : List ℕ) → length line ≤ most_line_bytes → next script line
+    ≡ after_line script line
 unfolding next
-next-short script line short = let within : nat_lt most_line_bytes (length line) ≡ false = grind (arith, nat_tests) in rw within refl
+next-short script line short = let within : nat_lt most_line_bytes (length line) ≡ false = grind (arith, nat_tests) in
+    rw within refl
 
 pub next-long : (script : Script) (line : List ℕ) → most_line_bytes < length line → next script line ≡ None
 unfolding next
-next-long script line long = let past : nat_lt most_line_bytes (length line) ≡ true = grind (arith, nat_tests) in rw past refl
+next-long script line long = let past : nat_lt most_line_bytes (length line) ≡ true = grind (arith, nat_tests) in
+    rw past refl
 
 -- a line of a cluster that is no text is bad
 asking-bad : (lab : labs.Lab) (stage : Stage) (line : List ℕ) → AreSizes (lab_sizes lab) → (IsUtf8 line → ⊥)
     → Answers (after_cluster_line lab line) stage None
 asking-bad lab stage line are not = bad (order_of_line (lab_sizes lab) line) refl
   where
-    bad : (o : Option Order) → o ≡ order_of_line (lab_sizes lab) line → Answers (option_map (after_asking lab) o) stage None
+    bad : (o : Option Order) → o ≡ order_of_line (lab_sizes lab) line →
+        Answers (option_map (after_asking lab) o) stage None
     bad None e = tt
     bad (Some order) e = absurd (not (order_line-text (lab_sizes lab) line order are (sym e)))
 
@@ -111,7 +115,8 @@ no_text-bad (OfInstance s takes) (Setting roles liars) line follows not = absurd
 no_text-bad (OfInstance s takes) (Living lab) line follows not = absurd follows
 no_text-bad (OfInstance s takes) (Running sizes instance) line follows not = bad (take_of_line s line) refl
   where
-    bad : (o : Option Take) → o ≡ take_of_line s line → Answers (option_map (after_take s takes) o) (Running sizes instance) None
+    bad : (o : Option Take) → o ≡ take_of_line s line →
+        Answers (option_map (after_take s takes) o) (Running sizes instance) None
     bad None e = tt
     bad (Some t) e = absurd (not (later_line-text s line t follows.1 (sym e)))
 no_text-bad (OfSetup roles liars) Start line follows not = absurd follows
@@ -148,7 +153,8 @@ start-bad script stage line e follows bad = first script (subst (λ (s : Stage).
 pub start-good : (script : Script) (stage after : Stage) (line text : List ℕ) → stage ≡ Start → Follows stage script
     → StageAnswers (after_line Unread line) (Some (after, text)) → Answers (after_line script line) after (Some text)
 unfolding Follows
-start-good script stage after line text e follows good = first script (subst (λ (s : Stage). Follows s script) e follows)
+start-good script stage after line text e follows good =
+    first script (subst (λ (s : Stage). Follows s script) e follows)
   where
     some : (o : Option (Script × List ℕ)) → StageAnswers o (Some (after, text)) → Answers o after (Some text)
     some None h = absurd h
@@ -161,12 +167,15 @@ start-good script stage after line text e follows good = first script (subst (λ
     first (OfCluster lab) h = absurd h
 
 -- the answer at a later line
-pub running : (script : Script) (stage after : Stage) (s : Counts) (instance : State) (line said : List ℕ) (text : Option (List ℕ)) → stage ≡ Running s instance → said ≡ line → Follows stage script
-    → ((takes : List Take) → AreSizes s → instance ≡ state s takes → SendsAreFrom owner takes → Answers (after_line (OfInstance s takes) said) after text)
+pub running : (script : Script) (stage after : Stage) (s : Counts) (instance : State) (line said : List ℕ)
+    (text : Option (List ℕ)) → stage ≡ Running s instance → said ≡ line → Follows stage script
+    → ((takes : List Take) → AreSizes s → instance ≡ state s takes → SendsAreFrom owner takes →
+    Answers (after_line (OfInstance s takes) said) after text)
     → Answers (after_line script line) after text
 unfolding Follows
 running script stage after s instance line said text e same follows answers =
-    subst (λ (l : List ℕ). Answers (after_line script l) after text) same (later script (subst (λ (s : Stage). Follows s script) e follows))
+    subst (λ (l : List ℕ). Answers (after_line script l) after text) same
+    (later script (subst (λ (s : Stage). Follows s script) e follows))
   where
     later : (script : Script) → Follows (Running s instance) script → Answers (after_line script said) after text
     later Unread h = absurd h
@@ -200,7 +209,8 @@ pub cluster_follows : (script : Script) (stage : Stage) (lab : Lab) → stage �
 unfolding Follows
 cluster_follows script stage lab e follows = are script (subst (λ (s : Stage). Follows s script) e follows)
   where
-    are : (script : Script) → Follows (Living lab) script → (script ≡ OfCluster (lab_in lab)) × AreSizes (lab_sizes (lab_in lab))
+    are : (script : Script) → Follows (Living lab) script → (script ≡ OfCluster (lab_in lab))
+        × AreSizes (lab_sizes (lab_in lab))
     are Unread h = absurd h
     are (OfInstance s takes) h = absurd h
     are (OfSetup table names) h = absurd h
@@ -211,7 +221,8 @@ cluster_follows script stage lab e follows = are script (subst (λ (s : Stage). 
 same_table : (a b : Table) (x y : Nodes) → OfSetup a x ≡ OfSetup b y → (a ≡ b) × (x ≡ y)
 same_table a b x y e = (cc, cc)
 
-table_sizes : (roles : Table) (role by : ℕ) (fault : Option TableFault) → (table_after roles role by fault).sizes ≡ roles.sizes
+table_sizes : (roles : Table) (role by : ℕ) (fault : Option TableFault) → (table_after roles role by fault).sizes
+    ≡ roles.sizes
 table_sizes roles role by None = refl
 table_sizes roles role by (Some fault) = refl
 

@@ -7,15 +7,18 @@ use Rattle.role_lab.specs.Flags.{flagged, AllBelow}
 use Rattle.role_lab.specs.Labs.{with_number}
 
 -- one flag more
-pub flagged-set : (flags : List Bool) (n : ℕ) → n < length flags → flagged (set flags n true) ≡ with_number (flagged flags) n
+pub flagged-set : (flags : List Bool) (n : ℕ) → n < length flags → flagged (set flags n true)
+    ≡ with_number (flagged flags) n
 flagged-set flags n within = λ i k. at k (k == n) refl i
   where
     at : (k : ℕ) (b : Bool) → (k == n) ≡ b → flagged (set flags n true) k ≡ ((k == n) || flagged flags k)
     at k true same =
         let e : k ≡ n = eqb-true k n same in
-        ap (flagged (set flags n true)) e ∙ get_or-set_same flags n true false within ∙ ap (λ b. b || flagged flags k) (sym same)
+        ap (flagged (set flags n true)) e ∙ get_or-set_same flags n true false within
+        ∙ ap (λ b. b || flagged flags k) (sym same)
     at k false other =
-        get_or-set_other flags n k true false (λ e. eqb-false k n other (e)) ∙ ap (λ b. b || flagged flags k) (sym other)
+        get_or-set_other flags n k true false (λ e. eqb-false k n other (e))
+        ∙ ap (λ b. b || flagged flags k) (sym other)
 
 pub with_number-kept : (given : ℕ → Bool) (n k : ℕ) → given k ≡ true → with_number given n k ≡ true
 with_number-kept given n k was = either (k == n) (given k) was
@@ -56,7 +59,8 @@ find-range p from (suc n) m before above within passes =
       | inl below ↦
           let e : p from ≡ false = before from (omega arith) below in
           ap (λ b. cond b (Some from) (find p (range_with_len (from + 1) n))) e
-          ∙ find-range p (from + 1) n m (λ k over under. before k (omega arith) under) (omega arith) (omega arith) passes
+          ∙ find-range p (from + 1) n m (λ k over under. before k (omega arith) under) (omega arith)
+          (omega arith) passes
       | inr least ↦
           let e : from ≡ m = omega arith in
           ap (λ b. cond b (Some from) (find p (range_with_len (from + 1) n))) (ap p e ∙ passes) ∙ ap Some e

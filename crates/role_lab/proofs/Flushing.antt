@@ -38,7 +38,8 @@ goes-first first limit is = record {
     all : (n : ℕ) → n - 0 ≡ n
     all n = omega arith
 
-pub goes-on : {first lab : Lab} {limit count : ℕ} (number : ℕ) (after : Lab) → Goes first limit count lab → count < limit
+pub goes-on : {first lab : Lab} {limit count : ℕ} (number : ℕ) (after : Lab) → Goes first limit count lab →
+    count < limit
     → next_number lab ≡ Some number → after ≡ after_doing lab (Give number) → Goes first limit (count + 1) after
 goes-on {first} {lab} {limit} {count} number after goes more some is = record {
   rest =

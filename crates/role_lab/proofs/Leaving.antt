@@ -64,7 +64,8 @@ stays_within w number within = found (slice_get (pool w.config w.run) number)
     recorded pair true room = one_pair_more w pair room
     recorded pair false room = same
 
-    unless_full : (pair : ℕ × Event) (b : Bool) → is_pool_full w ≡ b → After (cond b (Err fault.PoolFull) (Ok (Some pair)))
+    unless_full : (pair : ℕ × Event) (b : Bool) → is_pool_full w ≡ b →
+        After (cond b (Err fault.PoolFull) (Ok (Some pair)))
     unless_full pair true e = same
     unless_full pair false e =
         recorded pair (is_recorded (due_at (node_in w pair.0) pair.1))
@@ -89,7 +90,8 @@ unfolding left
 left-le given zero = omega arith
 left-le given (suc n) =
     let below : left given n ≤ n = left-le given n in
-    elim (given n) as (λ b. cond b (left given n) (suc (left given n)) ≤ suc n) [ true ↦ omega arith | false ↦ omega arith ]
+    elim (given n) as (λ b. cond b (left given n) (suc (left given n)) ≤ suc n)
+    [ true ↦ omega arith | false ↦ omega arith ]
 
 left-above : (given : ℕ → Bool) (k n : ℕ) → n ≤ k → left (with_number given k) n ≡ left given n
 unfolding left
@@ -146,7 +148,8 @@ found_is p from (suc n) k e = at (p from) refl e (found_is p (from + 1) n k)
     at true q s below = let is : from ≡ k = same_Some from k s in (ap p (sym is) ∙ q, omega arith)
     at false q s below = let rest = below s in (rest.0, omega (arith, rest.1))
 
-pub leaves_none : (times count : ℕ) (lab : Lab) → IsWithinLimit lab.world → left lab.given lab.world.config.limit ≤ times
+pub leaves_none : (times count : ℕ) (lab : Lab) → IsWithinLimit lab.world →
+    left lab.given lab.world.config.limit ≤ times
     → next_number (flush_within times count lab).lab ≡ None
 unfolding flush_within next_number after_step
 leaves_none zero count lab within few =
@@ -167,7 +170,8 @@ leaves_none (suc times) count lab within few =
         let inside : number < pool_length lab.world = omega (arith, found.1) in
         let fresh : lab.given number ≡ false = not-true (lab.given number) found.0 in
         let marked : given_after lab (Give number) ≡ with_number lab.given number = given-found lab number inside in
-        let fewer : suc (left (with_number lab.given number) lab.world.config.limit) ≡ left lab.given lab.world.config.limit =
+        let fewer : suc (left (with_number lab.given number) lab.world.config.limit)
+        ≡ left lab.given lab.world.config.limit =
         left-marked lab.given number lab.world.config.limit fresh (omega arith) in
         below (after_doing lab (Give number)) (stays_within lab.world number within)
         (subst (λ (g : ℕ → Bool). left g lab.world.config.limit ≤ times) (sym marked) (omega arith))

@@ -69,7 +69,8 @@ pub then_rest-decimal : {A : Type 0} (read : List ℕ → Option A) (a : A) (n :
 unfolding then_rest
 then_rest-decimal read a n rest small is = rw (split_word-decimal n rest small) (rw is refl)
 
-pub then_rest_is : {A : Type 0} (read : List ℕ → Option A) (text : List ℕ) (p : A × List ℕ) → then_rest read text ≡ Some p
+pub then_rest_is : {A : Type 0} (read : List ℕ → Option A) (text : List ℕ) (p : A × List ℕ) → then_rest read text
+    ≡ Some p
     → (word : List ℕ) × (text ≡ word ++ (32 ∷ p.1)) × (read word ≡ Some p.0)
 unfolding then_rest
 then_rest_is {A} read text p e =

@@ -19,7 +19,8 @@ pub three_numbers-grouped : (a b c : ℕ) → three_numbers a b c ≡ decimal a 
 three_numbers-grouped a b c = simp append_assoc
 
 pub four_numbers-grouped : (a b c d : ℕ)
-    → decimal a ++ codes " " ++ three_numbers b c d ≡ decimal a ++ (32 ∷ (decimal b ++ (32 ∷ (decimal c ++ (32 ∷ decimal d)))))
+    → decimal a ++ codes " " ++ three_numbers b c d ≡ decimal a
+    ++ (32 ∷ (decimal b ++ (32 ∷ (decimal c ++ (32 ∷ decimal d)))))
 four_numbers-grouped a b c d = simp append_assoc
 
 pub at_node-grouped : (name : List ℕ) (node : ℕ) (text : List ℕ)
@@ -34,7 +35,8 @@ session_rest n rest small = then_rest-decimal long_number n n rest small (long_r
 wide_rest : (n : ℕ) (rest : List ℕ) → n < 2 ^ 32 → then_rest wide_number (decimal n ++ (32 ∷ rest)) ≡ Some (n, rest)
 wide_rest n rest small = then_rest-decimal wide_number n n rest (omega arith) (wide_read n small)
 
-pub narrow_rest : (n : ℕ) (rest : List ℕ) → n < 2 ^ 16 → then_rest narrow_number (decimal n ++ (32 ∷ rest)) ≡ Some (n, rest)
+pub narrow_rest : (n : ℕ) (rest : List ℕ) → n < 2 ^ 16 → then_rest narrow_number (decimal n ++ (32 ∷ rest))
+    ≡ Some (n, rest)
 narrow_rest n rest small = then_rest-decimal narrow_number n n rest (omega arith) (narrow_read n small)
 
 pub session_and_user-numbers : (session user : ℕ) → session < 2 ^ 64 → user < 2 ^ 32
@@ -54,7 +56,8 @@ session_user_and_role-numbers session user role long wide narrow =
 
 pub access_of-numbers : (session user operation object : ℕ)
     → session < 2 ^ 64 → user < 2 ^ 32 → operation < 2 ^ 16 → object < 2 ^ 32
-    → access_of (decimal session ++ codes " " ++ three_numbers user operation object) ≡ Some (Check session user operation object)
+    → access_of (decimal session ++ codes " " ++ three_numbers user operation object)
+    ≡ Some (Check session user operation object)
 unfolding access_of
 access_of-numbers session user operation object long wide narrow fits =
     ap access_of (four_numbers-grouped session user operation object)
@@ -131,7 +134,8 @@ session_user_and_role_spelled text n e =
     let (role, is_role, made) = mapped _ _ _ read in
     let (last, narrow) = narrow_spelled role user.1 is_role in
     let behind = joined session.1 user.0 user.1 (decimal role) cut_user last in
-    subst (λ (q : ℕ × ℕ × ℕ). (text ≡ three_numbers q.0 q.1 q.2) × (q.0 < 2 ^ 64) × (q.1 < 2 ^ 32) × (q.2 < 2 ^ 16)) made
+    subst (λ (q : ℕ × ℕ × ℕ). (text ≡ three_numbers q.0 q.1 q.2) × (q.0 < 2 ^ 64) × (q.1 < 2 ^ 32) × (q.2 < 2 ^ 16))
+    made
     (joined text session.0 session.1 (two_numbers user.0 role) cut behind, long, wide, narrow)))
 
 -- what was read of `S USER OPERATION OBJECT`

@@ -35,8 +35,10 @@ use Rattle.role_lab.proofs.SpelledSetups.{cluster_of_line_spelled, setup_of_line
 
 said_text : (kind : Kind) (from : ℕ) (c : Command) → from < 2 ^ 32 → IsCommand c → Ascii (said_spelling kind from c)
 said_text Send from c small is = word_text (codes "send ") refl then command_text c is
-said_text Echo from c small is = word_text (codes "echo ") refl then number from (omega arith) then space then command_text c is
-said_text Ready from c small is = word_text (codes "ready ") refl then number from (omega arith) then space then command_text c is
+said_text Echo from c small is = word_text (codes "echo ") refl then number from (omega arith) then space
+    then command_text c is
+said_text Ready from c small is = word_text (codes "ready ") refl then number from (omega arith) then space
+    then command_text c is
 
 pub first_line-text : (line : List ℕ) (s : Counts) → sizes_of_line line ≡ Some s → IsUtf8 line
 first_line-text line s e =
@@ -48,12 +50,14 @@ first_line-text line s e =
 pub later_line-text : (s : Counts) (line : List ℕ) (t : Take) → AreSizes s → take_of_line s line ≡ Some t → IsUtf8 line
 later_line-text s line t are e =
     let spelled = take_of_line_spelled s line t e in
-    subst IsUtf8 (sym spelled.0) (IsUtf8-from_ascii _ (said_text t.kind t.from t.command (omega (arith, spelled.1.0.0)) spelled.1.1).is)
+    subst IsUtf8 (sym spelled.0)
+    (IsUtf8-from_ascii _ (said_text t.kind t.from t.command (omega (arith, spelled.1.0.0)) spelled.1.1).is)
 
 -- ---- a script of a cluster
 
 module _ (node : ℕ) (small : node < 2 ^ 64) where
-  at_node_text : (name text : List ℕ) → list_all (λ b. nat_lt b 128) name ≡ true → Ascii text → Ascii (at_node name node text)
+  at_node_text : (name text : List ℕ) → list_all (λ b. nat_lt b 128) name ≡ true → Ascii text →
+      Ascii (at_node name node text)
   at_node_text name text e ascii = word_text name e then space then number node small then space then ascii
 
   act_text : (act : ClientEvent) → IsAct act → Ascii (act_spelling node act)
@@ -113,7 +117,8 @@ order_text s (Agree one other owner) few is =
 
 setup_text : (s : Counts) (setup : Setup) → s.nodes ≤ 64 → IsSetup s setup → Ascii (setup_spelling setup)
 setup_text s (Owned role owner) few is =
-    word_text (codes "role ") refl then number role (omega (arith, is.0)) then space then number owner (omega (arith, is.1))
+    word_text (codes "role ") refl then number role (omega (arith, is.0)) then space
+    then number owner (omega (arith, is.1))
 setup_text s (Liar node) few is = word_text (codes "liar ") refl then number node (omega (arith, is))
 
 pub cluster_line-text : (line : List ℕ) (s : Counts) → cluster_of_line line ≡ Some s → IsUtf8 line

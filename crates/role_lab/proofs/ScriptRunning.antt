@@ -24,7 +24,8 @@ use Rattle.role_lab.proofs.Answering.{starts}
 
 -- ---- what a line did
 
-pub Holds-bad : (due : Option (Script × List ℕ)) (stage : Stage) (old new : List ℕ) (good : Bool) → Holds due stage old new good
+pub Holds-bad : (due : Option (Script × List ℕ)) (stage : Stage) (old new : List ℕ) (good : Bool) →
+    Holds due stage old new good
     → good ≡ false → (due ≡ None) × (new ≡ old)
 Holds-bad None stage old new good holds e = (refl, holds.1)
 Holds-bad (Some p) stage old new good holds e = cc
@@ -37,15 +38,18 @@ Holds-good (Some p) stage old new good holds e = (p, refl, holds.1, holds.2)
 
 -- ---- the lines so far
 
--- what is kept follows the lines so far, their text was written or is held, and neither the reader nor the writer failed
-pub record RunsSoFar (stage : Stage) (known pending out_old out_new : Option (List ℕ)) (held : List ℕ) (number : ℕ) (reader_old reader_new writer_old writer_new : Tally) : Type 0 where
+-- what is kept follows the lines so far, their text was written or is held, and neither the reader nor the writer
+-- failed
+pub record RunsSoFar (stage : Stage) (known pending out_old out_new : Option (List ℕ)) (held : List ℕ) (number : ℕ)
+    (reader_old reader_new writer_old writer_new : Tally) : Type 0 where
   pub script : Script
   pub follows : Follows stage script
   pub ran : Ran next Unread known pending out_old out_new held script number
   pub reader : WentOn reader_old reader_new
   pub writer : WentOn writer_old writer_new
 
-pub run_starts : (stage : Stage) (known out : Option (List ℕ)) (front held : List ℕ) (reader writer : Tally) → stage ≡ Start
+pub run_starts : (stage : Stage) (known out : Option (List ℕ)) (front held : List ℕ) (reader writer : Tally) → stage
+    ≡ Start
     → front ≡ [] → held ≡ []
     → RunsSoFar stage known (prepend_known front known) out out held 1 reader reader writer writer
 run_starts stage known out front held reader writer e none empty = record {
@@ -56,7 +60,8 @@ run_starts stage known out front held reader writer e none empty = record {
   writer = WentOn-nothing writer;
 }
 
-module _ {stage : Stage} {known pending a b : Option (List ℕ)} {held : List ℕ} {number : ℕ} {r0 r1 w0 w1 : Tally} (so_far : RunsSoFar stage known pending a b held number r0 r1 w0 w1) where
+module _ {stage : Stage} {known pending a b : Option (List ℕ)} {held : List ℕ} {number : ℕ} {r0 r1 w0 w1 : Tally}
+    (so_far : RunsSoFar stage known pending a b held number r0 r1 w0 w1) where
   -- some of what is held was written
   pub run_moves : (c : Option (List ℕ)) (left : List ℕ) (w2 : Tally) → Moved b c held left → WentOn w1 w2
       → RunsSoFar stage known pending a c left number r0 r1 w0 w2
@@ -102,12 +107,14 @@ module _ {stage : Stage} {known pending a b : Option (List ℕ)} {held : List �
 -- ---- how a script ends
 
 pub ends_bad : {known a b : Option (List ℕ)} {held : List ℕ} {number : ℕ} (reader c : Option (List ℕ))
-    → Ended next Unread known a b held (Some number) → Appends b c held → ScriptRan known reader a c (Err (BadScript number))
+    → Ended next Unread known a b held (Some number) → Appends b c held →
+    ScriptRan known reader a c (Err (BadScript number))
 ends_bad reader c end wrote = let whole = Ended-whole end c wrote in (whole.input, whole.has, whole.stops, whole.wrote)
 
 pub ends_good : {known a b : Option (List ℕ)} {held : List ℕ} (reader c : Option (List ℕ))
     → Ended next Unread known a b held None → IsAtEnd reader → Appends b c held → ScriptRan known reader a c (Ok tt)
-ends_good reader c end at_end wrote = let whole = Ended-whole end c wrote in (whole.input, whole.has, at_end, whole.stops, whole.wrote)
+ends_good reader c end at_end wrote = let whole = Ended-whole end c wrote in
+    (whole.input, whole.has, at_end, whole.stops, whole.wrote)
 
 -- reading ahead has failed
 pub ends_ahead : (known reader a b : Option (List ℕ)) (f : AheadFault) → WroteFront script_text known a b

@@ -34,7 +34,8 @@ sizes_due-AreSizes s are =
 pub sizes_of_line-spelling : SizesAreRead
 unfolding sizes_of_line sizes_of_numbers
 sizes_of_line-spelling s are =
-    let grouped : sizes_spelling s ≡ codes "instance" ++ (32 ∷ (decimal s.nodes ++ (32 ∷ decimal s.liars))) = simp append_assoc in
+    let grouped : sizes_spelling s ≡ codes "instance" ++ (32 ∷ (decimal s.nodes ++ (32 ∷ decimal s.liars))) =
+    simp append_assoc in
     ap sizes_of_line grouped
     ∙ rw (split_word-word (codes "instance") (decimal s.nodes ++ (32 ∷ decimal s.liars)) refl)
     (rw (split_word-decimal s.nodes (decimal s.liars) (omega arith))
@@ -60,15 +61,21 @@ unfolding take_of_line named_take said
 named_spelling s Send from c are within owners is =
     let grouped : said_spelling Send from c ≡ codes "send" ++ (32 ∷ spelling c) = refl in
     ap (λ (l : List ℕ). take_of_line s l) grouped
-    ∙ rw (split_word-word (codes "send") (spelling c) refl) (subst (λ (i : ℕ). take_from s Send i (spelling c) ≡ Some (said s Send from c within is)) (owners refl) (take_from-spelling s Send from c within is))
+    ∙ rw (split_word-word (codes "send") (spelling c) refl)
+    (subst (λ (i : ℕ). take_from s Send i (spelling c) ≡ Some (said s Send from c within is)) (owners refl)
+    (take_from-spelling s Send from c within is))
 named_spelling s Echo from c are within owners is =
-    let grouped : said_spelling Echo from c ≡ codes "echo" ++ (32 ∷ (decimal from ++ (32 ∷ spelling c))) = simp append_assoc in
+    let grouped : said_spelling Echo from c ≡ codes "echo" ++ (32 ∷ (decimal from ++ (32 ∷ spelling c))) =
+    simp append_assoc in
     ap (λ (l : List ℕ). take_of_line s l) grouped
-    ∙ rw (split_word-word (codes "echo") (decimal from ++ (32 ∷ spelling c)) refl) (vote_of-spelling s Echo from c within is (omega arith))
+    ∙ rw (split_word-word (codes "echo") (decimal from ++ (32 ∷ spelling c)) refl)
+    (vote_of-spelling s Echo from c within is (omega arith))
 named_spelling s Ready from c are within owners is =
-    let grouped : said_spelling Ready from c ≡ codes "ready" ++ (32 ∷ (decimal from ++ (32 ∷ spelling c))) = simp append_assoc in
+    let grouped : said_spelling Ready from c ≡ codes "ready" ++ (32 ∷ (decimal from ++ (32 ∷ spelling c))) =
+    simp append_assoc in
     ap (λ (l : List ℕ). take_of_line s l) grouped
-    ∙ rw (split_word-word (codes "ready") (decimal from ++ (32 ∷ spelling c)) refl) (vote_of-spelling s Ready from c within is (omega arith))
+    ∙ rw (split_word-word (codes "ready") (decimal from ++ (32 ∷ spelling c)) refl)
+    (vote_of-spelling s Ready from c within is (omega arith))
 
 pub take_of_line-spelling : TakesAreRead
 take_of_line-spelling s t are is = named_spelling s t.kind t.from t.command are is.0.0 is.0.1 is.1
@@ -84,10 +91,14 @@ sizes_due_is : (n f : ℕ) (s : Counts) → sizes_due n f ≡ Ok s → (n ≡ s.
 sizes_due_is n f s e = due (n == 0) (nat_lt most_nodes n) (nat_le n (3 * f)) refl refl refl e
   where
     made : record { nodes = n; liars = f } ≡ s → n ≤ 64 → 3 * f < n → (n ≡ s.nodes) × (f ≡ s.liars) × AreSizes s
-    made is few correct = let nodes = ap (λ (c : Counts). c.nodes) is in let liars = ap (λ (c : Counts). c.liars) is in (nodes, liars, (omega arith, omega arith))
+    made is few correct = let nodes = ap (λ (c : Counts). c.nodes) is in let liars =
+        ap (λ (c : Counts). c.liars) is in (nodes, liars, (omega arith, omega arith))
 
     due : (a b c : Bool) → a ≡ (n == 0) → b ≡ nat_lt most_nodes n → c ≡ nat_le n (3 * f)
-        → ◌≡◌ {A = Result Counts SizeFault} (if a then Err NoNodes else (if b then Err TooMany else (if c then Err TooManyLiars else Ok (record { nodes = n; liars = f })))) (Ok s)
+        → ◌≡◌ {A = Result Counts SizeFault}
+        (if a then Err NoNodes
+        else (if b then Err TooMany else (if c then Err TooManyLiars else Ok (record { nodes = n; liars = f }))))
+        (Ok s)
         → (n ≡ s.nodes) × (f ≡ s.liars) × AreSizes s
     due true b c p q r is = cc
     due false true c p q r is = cc
@@ -101,20 +112,28 @@ if_some false x y e = cc
 pub sizes_of_line_spelled : SizesAreSpelled
 unfolding sizes_of_line sizes_of_numbers
 sizes_of_line_spelled line s e =
-    option_and_then_some (λ (words : List ℕ × List ℕ). if bytes_eq words.0 (codes "instance") then sizes_of_numbers words.1 else None) (split_word line) s e
+    option_and_then_some
+    (λ (words : List ℕ × List ℕ). if bytes_eq words.0 (codes "instance") then sizes_of_numbers words.1 else None)
+    (split_word line) s e
     (λ words cut read.
     let named = if_some _ _ _ read in
     let name : words.0 ≡ codes "instance" = (bytes_eq-Decides words.0 (codes "instance")).0 named.0 in
-    option_and_then_some (λ (numbers : List ℕ × List ℕ). option_and_then (λ n. option_and_then (λ f. result_ok (sizes_due n f)) (byte_number numbers.1)) (byte_number numbers.0)) (split_word words.1) s named.1
+    option_and_then_some
+    (λ (numbers : List ℕ × List ℕ). option_and_then
+    (λ n. option_and_then (λ f. result_ok (sizes_due n f)) (byte_number numbers.1)) (byte_number numbers.0))
+    (split_word words.1) s named.1
     (λ numbers cut_numbers read_numbers.
-    option_and_then_some (λ (n : ℕ). option_and_then (λ f. result_ok (sizes_due n f)) (byte_number numbers.1)) (byte_number numbers.0) s read_numbers
+    option_and_then_some (λ (n : ℕ). option_and_then (λ f. result_ok (sizes_due n f)) (byte_number numbers.1))
+    (byte_number numbers.0) s read_numbers
     (λ n is_n read_n.
     option_and_then_some (λ (f : ℕ). result_ok (sizes_due n f)) (byte_number numbers.1) s read_n
     (λ f is_f read_f.
     let due = sizes_due_is n f s (ok_of _ _ read_f) in
     let joined : words.1 ≡ decimal s.nodes ++ (32 ∷ decimal s.liars) =
-    split_word-joined words.1 numbers cut_numbers ∙ rw ((byte_spelled n numbers.0 is_n).0, (byte_spelled f numbers.1 is_f).0, due.0, due.1) refl in
-    let grouped : sizes_spelling s ≡ codes "instance" ++ (32 ∷ (decimal s.nodes ++ (32 ∷ decimal s.liars))) = simp append_assoc in
+    split_word-joined words.1 numbers cut_numbers
+    ∙ rw ((byte_spelled n numbers.0 is_n).0, (byte_spelled f numbers.1 is_f).0, due.0, due.1) refl in
+    let grouped : sizes_spelling s ≡ codes "instance" ++ (32 ∷ (decimal s.nodes ++ (32 ∷ decimal s.liars))) =
+    simp append_assoc in
     (split_word-joined line words cut ∙ rw (name, joined) refl ∙ sym grouped, due.2)))))
 
 -- what is known of a message that was read
@@ -124,22 +143,32 @@ record Read (s : Counts) (kind : Kind) (text : List ℕ) (t : Take) : Type 0 whe
   text_is : text ≡ spelling t.command
   is : IsCommand t.command
 
-take_from_spelled : (s : Counts) (kind : Kind) (index : ℕ) (text : List ℕ) (t : Take) → take_from s kind index text ≡ Some t
+take_from_spelled : (s : Counts) (kind : Kind) (index : ℕ) (text : List ℕ) (t : Take) → take_from s kind index text
+    ≡ Some t
     → Read s kind text t × (t.from ≡ index)
 unfolding take_from
 take_from_spelled s kind index text t e =
-    option_and_then_some (λ (name : ℕ). option_map (λ c. record { kind = kind; from = name; command = c }) (command_of text)) (name_due s index) t e
+    option_and_then_some
+    (λ (name : ℕ). option_map (λ c. record { kind = kind; from = name; command = c }) (command_of text))
+    (name_due s index) t e
     (λ name is_name read. made name (name_due_is s index name is_name) (command_of text) refl read)
   where
     made : (name : ℕ) → (index < s.nodes) × (index ≡ name) → (o : Option Command) → o ≡ command_of text
-        → option_map (λ c. record { kind = kind; from = name; command = c }) o ≡ Some t → Read s kind text t × (t.from ≡ index)
+        → option_map (λ c. record { kind = kind; from = name; command = c }) o ≡ Some t → Read s kind text t
+        × (t.from ≡ index)
     made name named None p q = cc
     made name named (Some c) p q =
         let is : record { kind = kind; from = name; command = c } ≡ t = same_Some _ _ q in
         let command : c ≡ t.command = ap (λ (m : Take). m.command) is in
         let from : name ≡ t.from = ap (λ (m : Take). m.from) is in
         let spelled = command_of_spelled text c (sym p) in (
-          record { kind_is = sym (ap (λ (m : Take). m.kind) is); within = omega (arith, from, named.1); text_is = spelled.0 ∙ ap spelling command; is = subst IsCommand command spelled.1 },
+          record {
+            kind_is = sym (ap (λ (m : Take). m.kind) is);
+            within = omega (arith, from, named.1);
+            text_is =
+                spelled.0 ∙ ap spelling command;
+            is = subst IsCommand command spelled.1;
+          },
           sym (named.1 ∙ from),
         )
 
@@ -150,10 +179,13 @@ record ReadVote (s : Counts) (kind : Kind) (text : List ℕ) (t : Take) : Type 0
   text_is : text ≡ decimal t.from ++ (32 ∷ spelling t.command)
   is : IsCommand t.command
 
-vote_of_spelled : (s : Counts) (kind : Kind) (text : List ℕ) (t : Take) → vote_of s kind text ≡ Some t → ReadVote s kind text t
+vote_of_spelled : (s : Counts) (kind : Kind) (text : List ℕ) (t : Take) → vote_of s kind text ≡ Some t →
+    ReadVote s kind text t
 unfolding vote_of
 vote_of_spelled s kind text t e =
-    option_and_then_some (λ (words : List ℕ × List ℕ). option_and_then (λ index. take_from s kind index words.1) (byte_number words.0)) (split_word text) t e
+    option_and_then_some
+    (λ (words : List ℕ × List ℕ). option_and_then (λ index. take_from s kind index words.1) (byte_number words.0))
+    (split_word text) t e
     (λ words cut read.
     option_and_then_some (λ (index : ℕ). take_from s kind index words.1) (byte_number words.0) t read
     (λ index is_index read_take.
@@ -161,7 +193,8 @@ vote_of_spelled s kind text t e =
     record {
       kind_is = said.kind_is;
       within = said.within;
-      text_is = split_word-joined text words cut ∙ rw ((byte_spelled index words.0 is_index).0, said.text_is, ← from) refl;
+      text_is = split_word-joined text words cut
+          ∙ rw ((byte_spelled index words.0 is_index).0, said.text_is, ← from) refl;
       is = said.is;
     }))
 
@@ -174,8 +207,10 @@ unfolding Named
 named_send s name text t same e =
     let (said, from) = take_from_spelled s Send owner text t e in
     let is : name ≡ codes "send" = (bytes_eq-Decides name (codes "send")).0 same in
-    let grouped : said_spelling Send t.from t.command ≡ codes "send" ++ (32 ∷ spelling t.command) = refl in
-    (rw (is, said.text_is) refl ∙ sym grouped ∙ ap (λ k. said_spelling k t.from t.command) (sym said.kind_is), ((said.within, λ _. from), said.is))
+    let grouped : said_spelling Send t.from t.command ≡ codes "send" ++ (32 ∷ spelling t.command) = refl in (
+      rw (is, said.text_is) refl ∙ sym grouped ∙ ap (λ k. said_spelling k t.from t.command) (sym said.kind_is),
+      ((said.within, λ _. from), said.is),
+    )
 
 named_vote : (s : Counts) (name text word : List ℕ) (kind : Kind) (t : Take) → kind ≢ Send
     → ((from : ℕ) (c : Command) → said_spelling kind from c ≡ word ++ (32 ∷ (decimal from ++ (32 ∷ spelling c))))
@@ -184,7 +219,8 @@ unfolding Named
 named_vote s name text word kind t other grouped same e =
     let said = vote_of_spelled s kind text t e in
     let is : name ≡ word = (bytes_eq-Decides name word).0 same in (
-      rw (is, said.text_is) refl ∙ sym (grouped t.from t.command) ∙ ap (λ k. said_spelling k t.from t.command) (sym said.kind_is),
+      rw (is, said.text_is) refl ∙ sym (grouped t.from t.command)
+          ∙ ap (λ k. said_spelling k t.from t.command) (sym said.kind_is),
       ((said.within, λ sends. absurd (other (sym said.kind_is ∙ sends))), said.is),
     )
 
@@ -192,8 +228,10 @@ named_spelled : (s : Counts) (name text : List ℕ) (t : Take) → named_take s 
 unfolding named_take
 named_spelled s name text t e =
     if_else _ _ _ t e (named_send s name text t)
-    (λ votes. if_else _ _ _ t votes (named_vote s name text (codes "echo") Echo t (λ p. cc) (λ from c. simp append_assoc))
-    (λ readies. if_else _ _ _ t readies (named_vote s name text (codes "ready") Ready t (λ p. cc) (λ from c. simp append_assoc))
+    (λ votes. if_else _ _ _ t votes
+    (named_vote s name text (codes "echo") Echo t (λ p. cc) (λ from c. simp append_assoc))
+    (λ readies. if_else _ _ _ t readies
+    (named_vote s name text (codes "ready") Ready t (λ p. cc) (λ from c. simp append_assoc))
     (λ none. absurd (none-some t none))))
 
 pub take_of_line_spelled : TakesAreSpelled

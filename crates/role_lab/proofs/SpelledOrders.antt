@@ -56,7 +56,8 @@ no_space_rest = refl
 
 -- `KIND FROM TO OWNER PLACE C`, where the spaces stand
 packet-grouped : (p : PacketValue) → packet_spelling p
-    ≡ kind_word p.kind ++ (32 ∷ (decimal p.from ++ (32 ∷ (decimal p.to ++ (32 ∷ (decimal p.owner ++ (32 ∷ (decimal p.place
+    ≡ kind_word p.kind ++
+    (32 ∷ (decimal p.from ++ (32 ∷ (decimal p.to ++ (32 ∷ (decimal p.owner ++ (32 ∷ (decimal p.place
     ++ (32 ∷ spelling p.command)))))))))
 packet-grouped p = simp append_assoc
 
@@ -85,14 +86,19 @@ lie_read s p are is =
     let from_text = decimal p.from ++ (32 ∷ to_text) in
     ap (lie_of s) (packet-grouped p)
     ∙ rw (then_rest-word kind_of p.kind (kind_word p.kind) from_text (plain_kind p.kind) (kind_read p.kind))
-    (rw (then_rest-decimal (node_number s) p.from p.from to_text (omega (arith, is.from, are.0)) (node_read s p.from are is.from))
-    (rw (then_rest-decimal (node_number s) p.to p.to owner_text (omega (arith, is.to, are.0)) (node_read s p.to are is.to))
-    (rw (then_rest-decimal (node_number s) p.owner p.owner place_text (omega (arith, is.owner, are.0)) (node_read s p.owner are is.owner))
-    (rw (then_rest-decimal narrow_number p.place p.place (spelling p.command) (omega (arith, is.packet.1)) (narrow_read p.place is.packet.1))
+    (rw (then_rest-decimal (node_number s) p.from p.from to_text (omega (arith, is.from, are.0))
+    (node_read s p.from are is.from))
+    (rw (then_rest-decimal (node_number s) p.to p.to owner_text (omega (arith, is.to, are.0))
+    (node_read s p.to are is.to))
+    (rw (then_rest-decimal (node_number s) p.owner p.owner place_text (omega (arith, is.owner, are.0))
+    (node_read s p.owner are is.owner))
+    (rw (then_rest-decimal narrow_number p.place p.place (spelling p.command) (omega (arith, is.packet.1))
+    (narrow_read p.place is.packet.1))
     (rw (command_of-spelling p.command is.packet.2) (own_packet p is.packet.0))))))
 
 -- what a packet that is due keeps
-due_is : (from to : ℕ) (m : Message) (p : PacketValue) → packet_due from to m ≡ Some p → (packet_of from to m ≡ p) × SentByOwner p
+due_is : (from to : ℕ) (m : Message) (p : PacketValue) → packet_due from to m ≡ Some p → (packet_of from to m ≡ p)
+    × SentByOwner p
 due_is from to m p e = by_kind m.kind refl (from == m.owner) refl
   where
     Is : Type 0
@@ -147,10 +153,12 @@ lie_spelled s text p e =
 -- ---- reading what was written
 
 module _ (s : Counts) (are : AreSizes s) (node : ℕ) (within : node < s.nodes) where
-  order_of_node-read : (name text : List ℕ) → order_of_node s name (decimal node ++ (32 ∷ text)) ≡ order_at_node s name node text
+  order_of_node-read : (name text : List ℕ) → order_of_node s name (decimal node ++ (32 ∷ text))
+      ≡ order_at_node s name node text
   unfolding order_of_node
   order_of_node-read name text =
-      rw (then_rest-decimal (node_number s) node node text (omega (arith, are.0, within)) (node_read s node are within)) refl
+      rw (then_rest-decimal (node_number s) node node text (omega (arith, are.0, within))
+      (node_read s node are within)) refl
 
   order_of_line-named : (name text : List ℕ) → position_or_len is_space name ≡ length name
       → bytes_eq name (codes "give") ≡ false → bytes_eq name (codes "lie") ≡ false
@@ -166,7 +174,8 @@ module _ (s : Counts) (are : AreSizes s) (node : ℕ) (within : node < s.nodes) 
 
   act_read : (act : ClientEvent) → IsAct act → order_of_line s (act_spelling node act) ≡ Some (Do (Client node act))
   unfolding order_at_node
-  act_read (Open user) is = order_of_line-named (codes "open") (decimal user) refl refl refl ∙ rw (wide_read user is) refl
+  act_read (Open user) is = order_of_line-named (codes "open") (decimal user) refl refl refl
+      ∙ rw (wide_read user is) refl
   act_read (Activate session user role) is =
       order_of_line-named (codes "activate") (three_numbers session user role) refl refl refl
       ∙ rw (session_user_and_role-numbers session user role is.0 is.1 is.2) refl
@@ -178,15 +187,18 @@ module _ (s : Counts) (are : AreSizes s) (node : ℕ) (within : node < s.nodes) 
       ∙ rw (session_and_user-numbers session user is.0 is.1) refl
 
   listing_read : (name text : List ℕ) (q : Question) → position_or_len is_space name ≡ length name
-      → named_listing name text ≡ Some q → order_of_line s (at_node (codes "list") node (name ++ (32 ∷ text))) ≡ Some (Ask node q)
+      → named_listing name text ≡ Some q → order_of_line s (at_node (codes "list") node (name ++ (32 ∷ text)))
+      ≡ Some (Ask node q)
   unfolding order_at_node listing_of
   listing_read name text q plain is =
-      order_of_line-named (codes "list") (name ++ (32 ∷ text)) refl refl refl ∙ rw (split_word-word name text plain) (rw is refl)
+      order_of_line-named (codes "list") (name ++ (32 ∷ text)) refl refl refl
+      ∙ rw (split_word-word name text plain) (rw is refl)
 
   question_read : (q : Question) → IsQuestion q → order_of_line s (question_spelling node q) ≡ Some (Ask node q)
   unfolding order_at_node named_listing
   question_read (Check session user operation object) is =
-      order_of_line-named (codes "check") (decimal session ++ codes " " ++ three_numbers user operation object) refl refl refl
+      order_of_line-named (codes "check") (decimal session ++ codes " " ++ three_numbers user operation object) refl
+      refl refl
       ∙ rw (access_of-numbers session user operation object is.0 is.1 is.2 is.3) refl
   question_read (AssignedUsers role) is =
       listing_read (codes "users") (decimal role) (AssignedUsers role) refl (rw (narrow_read role is) refl)
@@ -203,12 +215,14 @@ module _ (s : Counts) (are : AreSizes s) (node : ℕ) (within : node < s.nodes) 
       let read = user_operations_of-numbers user object is.0 is.1 in
       listing_read (codes "user-operations") (two_numbers user object) (UserOperations user object) refl read
   question_read (SessionRoles session) is =
-      listing_read (codes "session-roles") (decimal session) (SessionRoles session) refl (rw (long_read session is) refl)
+      listing_read (codes "session-roles") (decimal session) (SessionRoles session) refl
+      (rw (long_read session is) refl)
   question_read (SessionPermissions session) is =
       let read = long_read session is in
       listing_read (codes "session-permissions") (decimal session) (SessionPermissions session) refl (rw read refl)
 
-  reach_read : (owner : ℕ) → owner < s.nodes → order_of_line s (at_node (codes "reach") node (decimal owner)) ≡ Some (Reach node owner)
+  reach_read : (owner : ℕ) → owner < s.nodes → order_of_line s (at_node (codes "reach") node (decimal owner))
+      ≡ Some (Reach node owner)
   unfolding order_at_node
   reach_read owner inside =
       order_of_line-named (codes "reach") (decimal owner) refl refl refl ∙ rw (node_read s owner are inside) refl
@@ -219,10 +233,12 @@ module _ (s : Counts) (are : AreSizes s) (node : ℕ) (within : node < s.nodes) 
   agree_read other owner other_in owner_in =
       order_of_line-named (codes "agree") (two_numbers other owner) refl refl refl
       ∙ ap (agreement_of s node) (two_numbers-grouped other owner)
-      ∙ rw (then_rest-decimal (node_number s) other other (decimal owner) (omega (arith, are.0, other_in)) (node_read s other are other_in))
+      ∙ rw (then_rest-decimal (node_number s) other other (decimal owner) (omega (arith, are.0, other_in))
+      (node_read s other are other_in))
       (rw (node_read s owner are owner_in) refl)
 
-  issue_read : (c : Command) → IsCommand c → order_of_line s (at_node (codes "issue") node (spelling c)) ≡ Some (Do (Issue node c))
+  issue_read : (c : Command) → IsCommand c → order_of_line s (at_node (codes "issue") node (spelling c))
+      ≡ Some (Do (Issue node c))
   unfolding order_at_node
   issue_read c is = order_of_line-named (codes "issue") (spelling c) refl refl refl ∙ rw (command_of-spelling c is) refl
 
@@ -236,7 +252,8 @@ named_line s name text plain =
     let no_rest = one_word (name ++ (32 ∷ text)) (codes "rest") (name, text) no_space_rest words in
     rw (no_flush, no_rest) (rw words refl)
 
-step_read : (s : Counts) (step : Step) → AreSizes s → IsStep s step → order_of_line s (step_spelling step) ≡ Some (Do step)
+step_read : (s : Counts) (step : Step) → AreSizes s → IsStep s step → order_of_line s (step_spelling step)
+    ≡ Some (Do step)
 unfolding named_order
 step_read s (Issue node c) are is = issue_read s are node is.0 c is.1
 step_read s (Give number) are is = named_line s (codes "give") (decimal number) refl ∙ rw (wide_read number is) refl
@@ -276,12 +293,14 @@ module _ (s : Counts) (node : ℕ) (within : node < s.nodes) (text : List ℕ) w
       let (numbers, long, wide, narrow) = session_user_and_role_spelled text n e in
       record { text_is = ap (at_node (codes "activate") node) numbers; is = (within, (long, wide, narrow)) }
 
-  drop_said : (n : ℕ × ℕ × ℕ) → session_user_and_role text ≡ Some n → Said s node (codes "drop") text (Do (Client node (DropRole n.0 n.1 n.2)))
+  drop_said : (n : ℕ × ℕ × ℕ) → session_user_and_role text ≡ Some n →
+      Said s node (codes "drop") text (Do (Client node (DropRole n.0 n.1 n.2)))
   drop_said n e =
       let (numbers, long, wide, narrow) = session_user_and_role_spelled text n e in
       record { text_is = ap (at_node (codes "drop") node) numbers; is = (within, (long, wide, narrow)) }
 
-  close_said : (n : ℕ × ℕ) → session_and_user text ≡ Some n → Said s node (codes "close") text (Do (Client node (Close n.0 n.1)))
+  close_said : (n : ℕ × ℕ) → session_and_user text ≡ Some n →
+      Said s node (codes "close") text (Do (Client node (Close n.0 n.1)))
   close_said n e =
       let (numbers, long, wide) = session_and_user_spelled text n e in
       record { text_is = ap (at_node (codes "close") node) numbers; is = (within, (long, wide)) }

@@ -28,7 +28,8 @@ cluster-grouped s = simp append_assoc
 
 sizes_of_numbers-numbers : (s : Counts) → AreSizes s → sizes_of_numbers (two_numbers s.nodes s.liars) ≡ Some s
 sizes_of_numbers-numbers s are =
-    sym (numbers_line (two_numbers s.nodes s.liars)) ∙ ap sizes_of_line (sym (sizes-grouped s)) ∙ sizes_of_line-spelling s are
+    sym (numbers_line (two_numbers s.nodes s.liars)) ∙ ap sizes_of_line (sym (sizes-grouped s))
+    ∙ sizes_of_line-spelling s are
 
 sizes_of_numbers_spelled : (text : List ℕ) (s : Counts) → sizes_of_numbers text ≡ Some s
     → (text ≡ two_numbers s.nodes s.liars) × AreSizes s
@@ -90,7 +91,8 @@ role_said s text setup e =
       is = (narrow, small);
     }))
 
-liar_said : (s : Counts) (text : List ℕ) (node : ℕ) → node_number s text ≡ Some node → SetUp s (codes "liar") text (Liar node)
+liar_said : (s : Counts) (text : List ℕ) (node : ℕ) → node_number s text ≡ Some node →
+    SetUp s (codes "liar") text (Liar node)
 liar_said s text node e =
     let (word, within) = node_spelled s node text e in
     record { line_is = ap (λ (w : List ℕ). codes "liar" ++ (32 ∷ w)) word; is = within }

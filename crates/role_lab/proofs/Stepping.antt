@@ -53,7 +53,8 @@ given-found lab number found =
 -- ---- questions
 
 -- there is one answer
-pub asked_ok : {S E : Type 0} (bytes : S → List ℕ) (w : WorldValue) (node : ℕ) (q : Question) (a : Answer) (r : Result S E)
+pub asked_ok : {S E : Type 0} (bytes : S → List ℕ) (w : WorldValue) (node : ℕ) (q : Question) (a : Answer)
+    (r : Result S E)
     → question_due w node q ≡ None → IsAnswerTo w.config.roles (history_of node w.run) q a
     → IfOk r (λ t. bytes t ≡ answer_text a) → OnOk r (IsWithin a) → IfOk r (λ t. bytes t ≡ asked_text w node q)
 asked_ok bytes w node q a (Ok t) due is told within =
@@ -64,14 +65,16 @@ asked_ok bytes w node q a (Ok t) due is told within =
 asked_ok bytes w node q a (Err e) due is told within = tt
 
 -- or a refusal
-pub asked_err : {S E : Type 0} (bytes : S → List ℕ) (w : WorldValue) (node : ℕ) (q : Question) (f : WorldFault) (r : Result S E)
+pub asked_err : {S E : Type 0} (bytes : S → List ℕ) (w : WorldValue) (node : ℕ) (q : Question) (f : WorldFault)
+    (r : Result S E)
     → IsQuestionAnswer w node q (Err f) → (f ≡ fault.Memory → ⊥)
     → IfOk r (λ t. bytes t ≡ world_fault_text f) → IfOk r (λ t. bytes t ≡ asked_text w node q)
 asked_err bytes w node q f (Ok t) is other told =
     let answer = answer_text (answer_after w.config.roles (history_of node w.run) q) in
     told ∙ ap (λ o. option_map_or world_fault_text o answer) (sym (refused f is other))
   where
-    refused : (f : WorldFault) → IsQuestionAnswer w node q (Err f) → (f ≡ fault.Memory → ⊥) → question_due w node q ≡ Some f
+    refused : (f : WorldFault) → IsQuestionAnswer w node q (Err f) → (f ≡ fault.Memory → ⊥) → question_due w node q
+        ≡ Some f
     refused fault.TooManyLiars is other = absurd is
     refused fault.NotCorrect is other = is
     refused fault.NoSuchPacket is other = absurd is

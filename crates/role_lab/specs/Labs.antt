@@ -43,7 +43,8 @@ with_number given number = λ k. (k == number) || given k
 
 -- a packet was given if the pool has it
 abbrev pub given_after : Lab → Step → (ℕ → Bool)
-given_after lab (Give number) = if nat_lt number (pool_length lab.world) then with_number lab.given number else lab.given
+given_after lab (Give number) = if nat_lt number (pool_length lab.world) then with_number lab.given number
+    else lab.given
 given_after lab (Issue node command) = lab.given
 given_after lab (Lie packet) = lab.given
 given_after lab (Client node act) = lab.given
@@ -56,7 +57,8 @@ after_doing lab step = record { world = after_step lab.world step; given = given
 unfoldable pub next_number : Lab → Option ℕ
 next_number lab = find (λ k. not (lab.given k)) (range_with_len 0 (pool_length lab.world))
 
--- The least number that was not given is given, and then the least of what is left, so many times at most and until none
+-- The least number that was not given is given, and then the least of what is left, so many times at most and until
+-- none
 -- is left. How many were given, and the cluster afterwards.
 pub record Flushed : Type 0 where
   pub count : ℕ

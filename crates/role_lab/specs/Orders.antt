@@ -1,4 +1,5 @@
--- The lines of a script of a cluster: `cluster N F` first, then `role R OWNER` and `liar I`, and then what is done to the
+-- The lines of a script of a cluster: `cluster N F` first, then `role R OWNER` and `liar I`, and then what is done to
+-- the
 -- cluster and what is asked of it. The laws of `one_spelling_of_orders` say that a line has one spelling.
 use Rattle.std.specs.Prelude.{ℕ, if◌then◌else◌, List, codes, Option, Some, None, option_and_then, option_map}
 use Rattle.std.specs.Str.{bytes_eq}
@@ -36,7 +37,8 @@ then_rest read text = option_and_then (λ words. option_map (λ a. (a, words.1))
 -- the sizes that the first line names
 unfoldable pub cluster_of_line : List ℕ → Option Counts
 cluster_of_line line =
-    option_and_then (λ words. if bytes_eq words.0 (codes "cluster") then sizes_of_numbers words.1 else None) (split_word line)
+    option_and_then (λ words. if bytes_eq words.0 (codes "cluster") then sizes_of_numbers words.1 else None)
+    (split_word line)
 
 -- `R OWNER`
 unfoldable pub role_and_owner : List ℕ → Option Setup
@@ -67,7 +69,8 @@ unfoldable pub session_user_and_role : List ℕ → Option (ℕ × ℕ × ℕ)
 session_user_and_role text =
     option_and_then (λ session.
     option_and_then (λ user.
-    option_map (λ role. (session.0, user.0, role)) (narrow_number user.1)) (then_rest wide_number session.1)) (then_rest long_number text)
+    option_map (λ role. (session.0, user.0, role)) (narrow_number user.1)) (then_rest wide_number session.1))
+    (then_rest long_number text)
 
 -- `S USER OPERATION OBJECT`
 unfoldable pub access_of : List ℕ → Option Question
@@ -138,7 +141,8 @@ order_at_node s name node text =
     then option_map (λ n. Do (Client node (Activate n.0 n.1 n.2))) (session_user_and_role text)
     else (if bytes_eq name (codes "drop")
     then option_map (λ n. Do (Client node (DropRole n.0 n.1 n.2))) (session_user_and_role text)
-    else (if bytes_eq name (codes "close") then option_map (λ n. Do (Client node (Close n.0 n.1))) (session_and_user text)
+    else (if bytes_eq name (codes "close") then option_map (λ n. Do (Client node (Close n.0 n.1)))
+    (session_and_user text)
     else (if bytes_eq name (codes "check") then option_map (Ask node) (access_of text)
     else (if bytes_eq name (codes "list") then option_map (Ask node) (listing_of text)
     else (if bytes_eq name (codes "reach") then option_map (Reach node) (node_number s text)

@@ -40,4 +40,5 @@ TakesAreRead = (s : Counts) (t : Take) → AreSizes s → IsTake s t → take_of
 
 -- a line that is read as a message is what is written for it
 abbrev pub TakesAreSpelled : Type 0
-TakesAreSpelled = (s : Counts) (line : List ℕ) (t : Take) → take_of_line s line ≡ Some t → (line ≡ take_spelling t) × IsTake s t
+TakesAreSpelled = (s : Counts) (line : List ℕ) (t : Take) → take_of_line s line ≡ Some t → (line ≡ take_spelling t)
+    × IsTake s t

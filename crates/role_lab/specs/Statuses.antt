@@ -1,4 +1,5 @@
--- The faults of a script: which fault of the lines that are read ahead it is, and the exit status of the program at each.
+-- The faults of a script: which fault of the lines that are read ahead it is, and the exit status of the program at
+-- each.
 use Rattle.std.specs.Prelude.{ℕ}
 use Rattle.link_frames.specs.declared.blocks.AheadFault.{AheadFault}
 use Rattle.link_frames.specs.declared.blocks.AheadFault.TheVariants as ahead

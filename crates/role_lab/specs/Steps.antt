@@ -16,15 +16,18 @@ Holds (Some due) stage held_old held_new good =
     (good ≡ true) × Follows stage due.0 × (held_new ≡ held_old ++ ended due.1)
 
 -- a script that was run so far
-abbrev pub ScriptRuns : Option (List ℕ) → Option (List ℕ) → Option (List ℕ) → Option (List ℕ) → List ℕ → Script → ℕ → Type 0
+abbrev pub ScriptRuns : Option (List ℕ) → Option (List ℕ) → Option (List ℕ) → Option (List ℕ) → List ℕ → Script → ℕ →
+    Type 0
 ScriptRuns = Ran next Unread
 
 -- a script that ends, at a bad line or at none
 abbrev pub ScriptEnds : Option (List ℕ) → Option (List ℕ) → Option (List ℕ) → List ℕ → Option ℕ → Type 0
 ScriptEnds = Ended next Unread
 
--- What the next line does to a script that was run so far: it was good; it is bad; or nothing comes behind what was read.
-abbrev pub IsTaken : Took → Option (List ℕ) → Option (List ℕ) → Option (List ℕ) → Option (List ℕ) → Option (List ℕ) → List ℕ → Stage → ℕ → Type 0
+-- What the next line does to a script that was run so far: it was good; it is bad; or nothing comes behind what was
+-- read.
+abbrev pub IsTaken : Took → Option (List ℕ) → Option (List ℕ) → Option (List ℕ) → Option (List ℕ) → Option (List ℕ) →
+    List ℕ → Stage → ℕ → Type 0
 IsTaken Line known left reader writer_old writer_new held stage number =
     (script : Script) × Follows stage script × ScriptRuns known left writer_old writer_new held script (number + 1)
 IsTaken BadLine known left reader writer_old writer_new held stage number =

@@ -77,7 +77,8 @@ fn pad(flags: &mut Vec<bool>, count: usize) -> Result<(), AllocError>
     Ok(())
 }
 
-/// The least number from `from` to `end` whose flag is not set, where those before are; `end` at the earliest if there is
+/// The least number from `from` to `end` whose flag is not set, where those before are; `end` at the earliest if there
+/// is
 /// none.
 fn first_unset(flags: &[bool], from: usize, end: usize) -> usize
     requires { AllBelow flags.now from }

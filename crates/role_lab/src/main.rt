@@ -1,5 +1,5 @@
-//! A laboratory for the registry. It reads a script on standard input, of one instance of the broadcast or of a cluster, and
-//! writes one line for each line of it.
+//! A laboratory for the registry. It reads a script on standard input, of one instance of the broadcast or of a
+//! cluster, and writes one line for each line of it.
 //!
 //! `specs/Scripts.antt` says what a script means, and `specs/Runs.antt` what running it does.
 #![tactic(auto)]

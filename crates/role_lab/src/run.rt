@@ -55,7 +55,8 @@ pub fn run_script<R: Read, W: Write>(
     ensures device { IfErr result (λ e. e ≡ ScriptFault.Device →
         ReaderFailed (watched_tally reader.old) (watched_tally reader.new)
         ⊎ (CallFailed (watched_tally writer.old) (watched_tally writer.new)
-        ⊎ IsEndless (R.remaining (watched_inner reader.old)) (W.contents (watched_inner writer.old)) (W.contents (watched_inner writer.new)))) }
+        ⊎ IsEndless (R.remaining (watched_inner reader.old)) (W.contents (watched_inner writer.old))
+        (W.contents (watched_inner writer.new)))) }
 {
     let mut stage = Stage::Start;
     run_lines(alloc, &mut stage, reader, writer)
@@ -74,7 +75,8 @@ fn run_lines<R: Read, W: Write>(
     ensures device { IfErr result (λ e. e ≡ ScriptFault.Device →
         ReaderFailed (watched_tally reader.old) (watched_tally reader.new)
         ⊎ (CallFailed (watched_tally writer.old) (watched_tally writer.new)
-        ⊎ IsEndless (R.remaining (watched_inner reader.old)) (W.contents (watched_inner writer.old)) (W.contents (watched_inner writer.new)))) }
+        ⊎ IsEndless (R.remaining (watched_inner reader.old)) (W.contents (watched_inner writer.old))
+        (W.contents (watched_inner writer.new)))) }
 {
     let mut ahead = Ahead::new(alloc);
     let mut held = Vec::new(alloc);
@@ -104,9 +106,13 @@ fn take_next<R: Read>(
     held: &mut Vec<u8>,
     reader: &mut Watched<R>,
 ) -> Result<Took, AheadFault>
-    ensures taken { IfOk result (λ took. (known writer_old writer_new : Option (List ℕ)) (script : Script) (number : ℕ) → Follows stage.old script →
-        ScriptRuns known (pending (R.remaining (watched_inner reader.old)) ahead.old) writer_old writer_new held.old.items script number →
-        IsTaken took known (pending (R.remaining (watched_inner reader.new)) ahead.new) (R.remaining (watched_inner reader.new)) writer_old writer_new held.new.items stage.new number) }
+    ensures taken { IfOk result
+        (λ took. (known writer_old writer_new : Option (List ℕ)) (script : Script) (number : ℕ) →
+        Follows stage.old script →
+        ScriptRuns known (pending (R.remaining (watched_inner reader.old)) ahead.old) writer_old writer_new
+        held.old.items script number →
+        IsTaken took known (pending (R.remaining (watched_inner reader.new)) ahead.new)
+        (R.remaining (watched_inner reader.new)) writer_old writer_new held.new.items stage.new number) }
     ensures counts { ReadAhead (watched_tally reader.old) (watched_tally reader.new) result }
 {
     match ahead.peek(reader, MOST_LINE_BYTES)? {
@@ -137,7 +143,9 @@ fn take_line(
     line: &[u8],
 ) -> Result<bool, AllocError>
     requires { length line.now ≤ most_line_bytes }
-    ensures { IfOk result (λ good. (script : Script) → Follows stage.old script → Holds (next script line.now) stage.new held.old.items held.new.items good) }
+    ensures { IfOk result
+        (λ good. (script : Script) → Follows stage.old script →
+        Holds (next script line.now) stage.new held.old.items held.new.items good) }
 {
     let Some(text) = answer(alloc, stage, line)? else {
         return Ok(false);
@@ -153,9 +161,12 @@ fn write_when_due<W: Write>(
     held: &mut Vec<u8>,
     writer: &mut Watched<W>,
 ) -> Result<(), DeviceFault>
-    ensures moved { OnOk result (Moved (W.contents (watched_inner writer.old)) (W.contents (watched_inner writer.new)) held.old.items held.new.items) }
+    ensures moved { OnOk result
+        (Moved (W.contents (watched_inner writer.old))
+        (W.contents (watched_inner writer.new)) held.old.items held.new.items) }
     ensures went_on { OnOk result (WentOn (watched_tally writer.old) (watched_tally writer.new)) }
-    ensures part { OnErr result (AppendsFront (W.contents (watched_inner writer.old)) (W.contents (watched_inner writer.new)) held.old.items) }
+    ensures part { OnErr result
+        (AppendsFront (W.contents (watched_inner writer.old)) (W.contents (watched_inner writer.new)) held.old.items) }
     ensures failed { OnErr result (CallFailed (watched_tally writer.old) (watched_tally writer.new)) }
 {
     if held.len() >= BLOCK_BYTES || ahead.begins(MOST_LINE_BYTES).is_none() {

@@ -46,7 +46,9 @@ pub enum Stage {
 /// Only for want of memory.
 pub fn answer(alloc: Global, stage: &mut Stage, line: &[u8]) -> Result<Option<String>, AllocError>
     requires { length line.now ≤ most_line_bytes }
-    ensures { IfOk result (λ text. (script : Script) → Follows stage.old script → Answers (next script line.now) stage.new (option_map string_bytes text)) }
+    ensures { IfOk result
+        (λ text. (script : Script) → Follows stage.old script →
+        Answers (next script line.now) stage.new (option_map string_bytes text)) }
 {
     let Ok(text) = str::from_utf8(line) else {
         return Ok(None);
@@ -76,7 +78,8 @@ pub fn answer(alloc: Global, stage: &mut Stage, line: &[u8]) -> Result<Option<St
 }
 
 fn first_line(alloc: Global, line: &str) -> Result<Option<(Stage, String)>, AllocError>
-    ensures { IfOk result (λ first. StageAnswers (after_line Unread line.now) (option_map (λ p. (p.0, string_bytes p.1)) first)) }
+    ensures { IfOk result
+        (λ first. StageAnswers (after_line Unread line.now) (option_map (λ p. (p.0, string_bytes p.1)) first)) }
 {
     if let Some(sizes) = sizes_of_line(line) {
         let text = sizes_text(alloc, &sizes)?;
@@ -98,8 +101,10 @@ fn later_line(
     instance: &mut Instance,
     line: &str,
 ) -> Result<Option<String>, AllocError>
-    ensures { IfOk result (λ text. (takes : List Take) → AreSizes sizes.now → instance.old ≡ state sizes.now takes → SendsAreFrom owner takes →
-        Answers (after_line (OfInstance sizes.now takes) line.now) (Stage.Running sizes.now instance.new) (option_map string_bytes text)) }
+    ensures { IfOk result (λ text. (takes : List Take) → AreSizes sizes.now → instance.old ≡ state sizes.now takes →
+        SendsAreFrom owner takes →
+        Answers (after_line (OfInstance sizes.now takes) line.now) (Stage.Running sizes.now instance.new)
+        (option_map string_bytes text)) }
 {
     let Some(said) = take_of_line(sizes, line) else {
         return Ok(None);

@@ -28,7 +28,8 @@ fn quorums_text(alloc: Global, e: u8, a: u8, d: u8) -> Result<String, AllocError
 
 /// The line for a message: `idle`, or `counted` with what is sent and delivered.
 pub fn outcome_text(alloc: Global, taken: &Taken) -> Result<String, AllocError>
-    ensures { IfOk result (λ text. string_bytes text ≡ texts.outcome_of taken.now.effect taken.now.broadcast taken.now.delivered) }
+    ensures { IfOk result
+        (λ text. string_bytes text ≡ texts.outcome_of taken.now.effect taken.now.broadcast taken.now.delivered) }
 {
     match taken.effect {
         Effect::Idle => String::from_str(alloc, "idle"),

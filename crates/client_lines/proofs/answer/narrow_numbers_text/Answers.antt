@@ -17,4 +17,5 @@ returns c =
     let i = c.loop-number.number-index in
     all_joined decimal (codes ",") _ _ _ _ i c.in-Some.ensures.cases.0 c.loop-number-test.false
     (c.loop-number.invariant
-    ∙ ap (λ (front : List ℕ). front ++ flat_map (λ y. codes "," ++ decimal y) (take i c.in-Some.others.now)) c.in_ok-text.ensures.ok)
+    ∙ ap (λ (front : List ℕ). front ++ flat_map (λ y. codes "," ++ decimal y) (take i c.in-Some.others.now))
+    c.in_ok-text.ensures.ok)

@@ -4,4 +4,5 @@ use Rattle.std.specs.Fmt.{decimal}
 use Rattle.client_lines.proofs.answer.wide_numbers_text.Given as goal
 
 abbrev pub invariant-loop-number : goal.invariant-loop-number
-invariant-loop-number l = string_bytes l.text ≡ string_bytes l.initial.text ++ flat_map (λ y. codes "," ++ decimal y) (take l.number-index l.others)
+invariant-loop-number l = string_bytes l.text ≡ string_bytes l.initial.text
+    ++ flat_map (λ y. codes "," ++ decimal y) (take l.number-index l.others)

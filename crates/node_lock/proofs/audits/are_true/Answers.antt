@@ -7,12 +7,15 @@ use Rattle.node_lock.proofs.audits.are_true.Goals as goal
 
 pub returns-then-not-branch-clause-all : goal.returns-then-not-branch-clause-all
 returns-then-not-branch-clause-all c =
-    let P : NodeValue → Type 0 = λ node. All (IsTrueHere node (event_in c.args.entry.now)) (receipts_of c.args.here.now) in
-    let yes : IsTrueHere c.loop-receipt.replay (event_in c.args.entry.now) c.receipt-item.result.now → IsTrue c.in_ok-is_true.field-0 =
+    let P : NodeValue → Type 0 = λ node. All (IsTrueHere node (event_in c.args.entry.now))
+    (receipts_of c.args.here.now) in
+    let yes : IsTrueHere c.loop-receipt.replay (event_in c.args.entry.now) c.receipt-item.result.now →
+    IsTrue c.in_ok-is_true.field-0 =
     c.in_ok-is_true.ensures.is.1 in (
       (λ h. absurd cc),
       (λ h. absurd
-          (not_all (IsTrueHere c.loop-receipt.replay (event_in c.args.entry.now)) c.args.here.now c.loop-receipt.receipt-index
+          (not_all (IsTrueHere c.loop-receipt.replay (event_in c.args.entry.now)) c.args.here.now
+          c.loop-receipt.receipt-index
           c.receipt-item.result c.loop-receipt-test.true c.receipt-item.is
           (λ here. let t = yes here in let f = c.if-not-branch.true in absurd cc)
           (subst P (sym c.loop-receipt.invariant.same) h))),
@@ -27,14 +30,17 @@ loop-receipt-preserved c =
     record {
       same = c.in_ok-is_true.ensures.same ∙ c.loop-receipt.invariant.same;
       all = subst P (sym c.in_ok-is_true.ensures.same)
-          (all_more (IsTrueHere c.loop-receipt.replay (event_in c.args.entry.now)) c.args.here.now c.loop-receipt.receipt-index
+          (all_more (IsTrueHere c.loop-receipt.replay (event_in c.args.entry.now)) c.args.here.now
+          c.loop-receipt.receipt-index
           c.receipt-item.result c.loop-receipt-test.true c.receipt-item.is c.loop-receipt.invariant.all here);
     }
 
 pub returns-clause-all : goal.returns-clause-all
 returns-clause-all c =
-    let P : NodeValue → Type 0 = λ node. All (IsTrueHere node (event_in c.args.entry.now)) (receipts_of c.args.here.now) in
+    let P : NodeValue → Type 0 = λ node. All (IsTrueHere node (event_in c.args.entry.now))
+    (receipts_of c.args.here.now) in
     let all =
-    all_taken (IsTrueHere c.loop-receipt.replay (event_in c.args.entry.now)) c.args.here.now c.loop-receipt.receipt-index
+    all_taken (IsTrueHere c.loop-receipt.replay (event_in c.args.entry.now)) c.args.here.now
+    c.loop-receipt.receipt-index
     c.loop-receipt-test.false c.loop-receipt.invariant.all in
     ((λ h. subst P c.loop-receipt.invariant.same all), (λ h. refl))

@@ -8,7 +8,8 @@ use Rattle.node_lock.proofs.audits.by_place.Goals as goal
 
 pub returns : goal.returns
 returns c =
-    let all = c.loop-receipt.invariant ∙ take_all c.loop-receipt.receipt-index c.args.receipts.now c.loop-receipt-test.false in
+    let all = c.loop-receipt.invariant
+    ∙ take_all c.loop-receipt.receipt-index c.args.receipts.now c.loop-receipt-test.false in
     rest_of_all c.args.receipts.now c.loop-receipt.sorted.items c.sort_unstable_by_key.new.self.items all
     c.sort_unstable_by_key.ensures.permutation
     (IsNonDecreasingBy-from_sort_by_key (λ (b : Bor Receipt). b.now.place) _ c.sort_unstable_by_key.ensures.sorted

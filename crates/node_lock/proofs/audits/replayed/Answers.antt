@@ -14,24 +14,29 @@ use Rattle.node_lock.proofs.Audited.{IsSplit, right_found, right_before, fault_f
 use Rattle.node_lock.proofs.audits.replayed.Goals as goal
 
 -- the references from an index on, as a slice of them is given
-from_on : (sorted : List (Bor Receipt)) (done : ℕ) → receipts_of (take (length sorted - done) (drop done sorted)) ≡ receipts_of (drop done sorted)
+from_on : (sorted : List (Bor Receipt)) (done : ℕ) → receipts_of (take (length sorted - done) (drop done sorted))
+    ≡ receipts_of (drop done sorted)
 from_on sorted done = ap receipts_of (take_rest sorted done)
 
 pub returns-in-Err-clause-err : goal.returns-in-Err-clause-err
 returns-in-Err-clause-err c =
-    let split : IsSplit c.args.receipts.now c.loop-place.place (receipts_of (drop c.loop-place.done c.as_slice-sorted.result.now))
+    let split : IsSplit c.args.receipts.now c.loop-place.place
+    (receipts_of (drop c.loop-place.done c.as_slice-sorted.result.now))
     (receipts_of c.split_at_place.result.0.now) (receipts_of c.split_at_place.result.1.now) = record {
       rest_is = c.loop-place.invariant.rest;
       whole = sym (from_on c.as_slice-sorted.result.now c.loop-place.done) ∙ c.split_at_place.ensures.whole;
       same = c.split_at_place.ensures.here;
       above = c.split_at_place.ensures.later;
     } in
-    fault_found c.args.node.now c.args.receipts.now c.loop-place.place _ _ _ split c.loop-place.invariant.right c.in-Err.fault
-    c.loop-place.replay (Some c.entry_at.result.event) c.loop-place.invariant.replay c.entry_at.ensures.event c.in-Err.ensures.err
+    fault_found c.args.node.now c.args.receipts.now c.loop-place.place _ _ _ split c.loop-place.invariant.right
+    c.in-Err.fault
+    c.loop-place.replay (Some c.entry_at.result.event) c.loop-place.invariant.replay c.entry_at.ensures.event
+    c.in-Err.ensures.err
 
 pub loop-place-preserved : goal.loop-place-preserved
 loop-place-preserved c =
-    let split : IsSplit c.args.receipts.now c.loop-place.place (receipts_of (drop c.loop-place.done c.as_slice-sorted.result.now))
+    let split : IsSplit c.args.receipts.now c.loop-place.place
+    (receipts_of (drop c.loop-place.done c.as_slice-sorted.result.now))
     (receipts_of c.split_at_place.result.0.now) (receipts_of c.split_at_place.result.1.now) = record {
       rest_is = c.loop-place.invariant.rest;
       whole = sym (from_on c.as_slice-sorted.result.now c.loop-place.done) ∙ c.split_at_place.ensures.whole;
@@ -41,11 +46,13 @@ loop-place-preserved c =
     let within : c.loop-place.place ≤ length c.args.node.now.history = omega arith in
     let right =
     right_found c.args.node.now c.args.receipts.now c.loop-place.place _ _ _ split within
-    c.loop-place.replay (Some c.entry_at.result.event) c.loop-place.invariant.replay c.entry_at.ensures.event c.in_default.ensures.ok in
+    c.loop-place.replay (Some c.entry_at.result.event) c.loop-place.invariant.replay c.entry_at.ensures.event
+    c.in_default.ensures.ok in
     let P : List Receipt → Type 0 = λ rs. IsRest c.args.receipts.now (c.loop-place.place + 1) rs in
     record {
       done =
-          within_all c.as_slice-sorted.result.now c.loop-place.done c.split_at_place.result.0.now c.split_at_place.result.1.now
+          within_all c.as_slice-sorted.result.now c.loop-place.done c.split_at_place.result.0.now
+          c.split_at_place.result.1.now
           c.loop-place.invariant.done split.whole;
       right = right_before c.args.node.now c.args.receipts.now c.loop-place.place c.loop-place.invariant.right right;
       rest =
@@ -67,17 +74,21 @@ returns-in-Err-check_place-clause-err c =
     let at_end : c.loop-place.place ≡ c.end_of-end.result = omega arith in
     let end : slice_get c.args.node.now.history c.end_of-end.result ≡ None =
     slice_get_past c.args.node.now.history c.end_of-end.result (omega arith) in
-    let R : ℕ → Type 0 = λ n. IsRest c.args.receipts.now n (receipts_of (drop c.loop-place.done c.as_slice-sorted.result.now)) in
+    let R : ℕ → Type 0 =
+    λ n. IsRest c.args.receipts.now n (receipts_of (drop c.loop-place.done c.as_slice-sorted.result.now)) in
     let B : ℕ → Type 0 = λ n. AreRightBefore c.args.node.now c.args.receipts.now n in
-    let split : IsSplit c.args.receipts.now c.end_of-end.result (receipts_of (drop c.loop-place.done c.as_slice-sorted.result.now))
+    let split : IsSplit c.args.receipts.now c.end_of-end.result
+    (receipts_of (drop c.loop-place.done c.as_slice-sorted.result.now))
     (receipts_of c.split_at_place-2.result.0.now) (receipts_of c.split_at_place-2.result.1.now) = record {
       rest_is = subst R at_end c.loop-place.invariant.rest;
       whole = sym (from_on c.as_slice-sorted.result.now c.loop-place.done) ∙ c.split_at_place-2.ensures.whole;
       same = c.split_at_place-2.ensures.here;
       above = c.split_at_place-2.ensures.later;
     } in
-    fault_found c.args.node.now c.args.receipts.now c.end_of-end.result _ _ _ split (subst B at_end c.loop-place.invariant.right)
-    c.in-Err-check_place.fault c.loop-place.replay None (c.loop-place.invariant.replay ∙ ap (node_at c.args.node.now) at_end)
+    fault_found c.args.node.now c.args.receipts.now c.end_of-end.result _ _ _ split
+    (subst B at_end c.loop-place.invariant.right)
+    c.in-Err-check_place.fault c.loop-place.replay None
+    (c.loop-place.invariant.replay ∙ ap (node_at c.args.node.now) at_end)
     end c.in-Err-check_place.ensures.err
 
 pub returns-in-Some-clause-err : goal.returns-in-Some-clause-err
@@ -99,7 +110,8 @@ returns-in-Some-clause-err c =
     } in
     let right =
     right_found node rs (length node.history) _ _ _ split (omega arith) c.loop-place.replay None
-    (c.loop-place.invariant.replay ∙ ap (node_at node) at_end) (slice_get_past node.history (length node.history) (omega arith))
+    (c.loop-place.invariant.replay ∙ ap (node_at node) at_end)
+    (slice_get_past node.history (length node.history) (omega arith))
     c.in_default-check_place.ensures.ok in
     let before = right_before node rs (length node.history) (subst B at_end c.loop-place.invariant.right) right in
     let first =
@@ -126,10 +138,12 @@ returns-clause-ok c =
     } in
     let right =
     right_found node rs (length node.history) _ _ _ split (omega arith) c.loop-place.replay None
-    (c.loop-place.invariant.replay ∙ ap (node_at node) at_end) (slice_get_past node.history (length node.history) (omega arith))
+    (c.loop-place.invariant.replay ∙ ap (node_at node) at_end)
+    (slice_get_past node.history (length node.history) (omega arith))
     c.in_default-check_place.ensures.ok in
     let before = right_before node rs (length node.history) (subst B at_end c.loop-place.invariant.right) right in
     let none = none_first c.split_at_place-2.result.1.now (sym c.in-None.ensures.value) in
     let L : List Receipt → Type 0 = λ later. IsSplit rs (length node.history)
-    (receipts_of (drop c.loop-place.done c.as_slice-sorted.result.now)) (receipts_of c.split_at_place-2.result.0.now) later in
+    (receipts_of (drop c.loop-place.done c.as_slice-sorted.result.now))
+    (receipts_of c.split_at_place-2.result.0.now) later in
     audited node rs _ _ (subst L none split) before

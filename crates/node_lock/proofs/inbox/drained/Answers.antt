@@ -13,7 +13,8 @@ every [] = refl
 every (x ∷ xs) = sum_by-cons (λ (y : Job). 1) x xs ∙ let h = every xs in omega arith
 
 -- what is even after some jobs were taken is even with these as what is left
-none_left : (v w : Hand) (left items : List Job) → w ≡ hand all_parts v.put (v.taken ++ left) → IsEven w items → items ≡ [] →
+none_left : (v w : Hand) (left items : List Job) → w ≡ hand all_parts v.put (v.taken ++ left) → IsEven w items → items
+    ≡ [] →
     IsEven v left
 none_left v w left items is even none test =
     let e : put_in test w ≡ taken_in test w + count_by test items = even test in
@@ -67,4 +68,5 @@ returns g c =
     let before = c.len_as-count.ensures.rule.1 in
     let same : length c.loop-i.left.items ≡ length before.0 = let n = before.1 in omega arith in
     none_left (view c.args.all) (view c.loop-i.all) c.loop-i.left.items held.0 c.loop-i.invariant.known held.1
-    (all_taken (view c.args.all) (view c.loop-i.all) c.loop-i.left.items before.0 held.0 c.loop-i.invariant.known before.2 held.1 same)
+    (all_taken (view c.args.all) (view c.loop-i.all) c.loop-i.left.items before.0 held.0 c.loop-i.invariant.known
+    before.2 held.1 same)

@@ -10,7 +10,8 @@ invariant-loop-next l = record {
   pass : IsPassOf l.queue l.all;
   some : 0 < (view l.all).parts;
   passes : All (IsPassTo l.queue.table.shared.table_id) l.passes.items;
-  parts : (view l.all).parts + sum_by parts_of l.passes.items ≡ (view l.fn.all).parts + sum_by parts_of l.fn.passes.items;
+  parts : (view l.all).parts + sum_by parts_of l.passes.items
+      ≡ (view l.fn.all).parts + sum_by parts_of l.fn.passes.items;
   put : (test : Job → Bool) →
       put_in test (view l.all) + sum_by (λ (p : Passing). count_by test p.put) l.passes.items
       ≡ put_in test (view l.fn.all) + sum_by (λ (p : Passing). count_by test p.put) l.fn.passes.items;

@@ -19,7 +19,8 @@ pair_eq-Decides x y = (
       let e : x.0 ≡ y.0 = (Decides-eqb x.0 y.0).0 p.0 in
       let f : x.1 ≡ y.1 = (Decides-eqb x.1 y.1).0 p.1 in
       ap (λ (n : ℕ). let q : ℕ × ℕ = (n, x.1) in q) e ∙ ap (λ (n : ℕ). let q : ℕ × ℕ = (y.0, n) in q) f),
-  (λ h. both _ _ ((Decides-eqb x.0 y.0).1 (ap (λ (q : ℕ × ℕ). q.0) h)) ((Decides-eqb x.1 y.1).1 (ap (λ (q : ℕ × ℕ). q.1) h))),
+  (λ h. both _ _ ((Decides-eqb x.0 y.0).1 (ap (λ (q : ℕ × ℕ). q.0) h))
+      ((Decides-eqb x.1 y.1).1 (ap (λ (q : ℕ × ℕ). q.1) h))),
 )
 
 pub returns : goal.returns

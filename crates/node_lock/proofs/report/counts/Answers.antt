@@ -7,4 +7,5 @@ pub loop-worker-preserved : goal.loop-worker-preserved
 loop-worker-preserved c =
     c.in_ok-push.ensures.items ∙ ap (λ (n : ℕ). c.loop-worker.counts.items ++ n ∷ []) c.count_by_worker.ensures
     ∙ ap (λ (ns : List ℕ). ns ++ recorded_by c.args.receipts.now c.loop-worker.worker ∷ []) c.loop-worker.invariant
-    ∙ sym (map-range_with_len_more (recorded_by c.args.receipts.now) 0 c.loop-worker.worker c.loop-worker.worker (omega arith))
+    ∙ sym (map-range_with_len_more (recorded_by c.args.receipts.now) 0 c.loop-worker.worker c.loop-worker.worker
+    (omega arith))

@@ -18,7 +18,8 @@ finish-requires-2 g c =
     c.in_ok-push-2.ensures.items ∙ ap (λ (ps : List Passing). ps ++ c.args.kept ∷ []) (back ∙ one) in
     let all : All (IsPassTo c.args.inbox) (([] ++ c.args.pass ∷ []) ++ c.args.kept ∷ []) =
     All-push (IsPassTo c.args.inbox) ([] ++ c.args.pass ∷ []) c.args.kept
-    (All-push (IsPassTo c.args.inbox) [] c.args.pass (All-nil (IsPassTo c.args.inbox)) c.requires.pass) c.requires.kept in
+    (All-push (IsPassTo c.args.inbox) [] c.args.pass (All-nil (IsPassTo c.args.inbox)) c.requires.pass)
+    c.requires.kept in
     let P : List Passing → Type 0 = λ ps. All (IsPassTo c.in-Err-PassMissing.inbox) ps in
     let Q : TableId → Type 0 = λ i. All (IsPassTo i) (([] ++ c.args.pass ∷ []) ++ c.args.kept ∷ []) in
     subst P (sym both) (subst Q (sym same) all)

@@ -10,7 +10,8 @@ returns-in_err-pad-clause-kept c k was = ap (λ given. given k) c.pad.ensures.sa
 pub returns-clause-set : goal.returns-clause-set
 returns-clause-set c =
     let within : c.args.number < length c.pad.new.flags.items = omega (arith, c.in_ok-pad.ensures.many) in
-    flagged-set c.pad.new.flags.items c.args.number within ∙ ap (λ given. with_number given c.args.number) c.pad.ensures.same
+    flagged-set c.pad.new.flags.items c.args.number within
+    ∙ ap (λ given. with_number given c.args.number) c.pad.ensures.same
 
 pub returns-clause-kept : goal.returns-clause-kept
 returns-clause-kept c k was =

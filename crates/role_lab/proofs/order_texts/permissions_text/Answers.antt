@@ -27,10 +27,12 @@ loop-operation-preserved c =
     let p = get_or xs i (0, 0) in
     let text = string_bytes c.loop-operation.text in
     let grouped : text ++ (32 ∷ (decimal p.0 ++ (58 ∷ decimal p.1))) ≡ text ++ item p = rw (item-grouped p) in
-    let written = c.in_ok-write.ensures.bytes ∙ grouped ∙ ap (λ (front : List ℕ). front ++ item p) c.loop-operation.invariant.0
+    let written = c.in_ok-write.ensures.bytes ∙ grouped
+    ∙ ap (λ (front : List ℕ). front ++ item p) c.loop-operation.invariant.0
     ∙ written_more item (codes "list") xs i (0, 0) c.loop-operation-test.true in
     let here : IsItemWithin xs i = (omega arith, omega arith) in
     (written, below_more (IsItemWithin xs) i c.loop-operation.invariant.1 here)
 
 pub returns-clause-within : goal.returns-clause-within
-returns-clause-within c = each_within _ c.args.permissions.now (0, 0) (λ i h. c.loop-operation.invariant.1 i (omega arith))
+returns-clause-within c =
+    each_within _ c.args.permissions.now (0, 0) (λ i h. c.loop-operation.invariant.1 i (omega arith))

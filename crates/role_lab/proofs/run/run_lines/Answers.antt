@@ -15,11 +15,13 @@ returns-in_err-write_when_due-clause-ran g c =
 pub returns-in_err-write_when_due-clause-device : goal.returns-in_err-write_when_due-clause-device
 returns-in_err-write_when_due-clause-device g c =
     let p = err_from_is_err_and c.from_residual.result c.from_residual.ensures.1 in
-    rw (p.1, p.2) (λ q. inr (inl (CallFailed-later _ _ _ c.loop-number.invariant.writer c.in_err-write_when_due.ensures.failed)))
+    rw (p.1, p.2) (λ q. inr
+    (inl (CallFailed-later _ _ _ c.loop-number.invariant.writer c.in_err-write_when_due.ensures.failed)))
 
 pub returns-in_err-take_next-clause-ran : goal.returns-in_err-take_next-clause-ran
 returns-in_err-take_next-clause-ran g c =
-    let moved = run_moves c.loop-number.invariant _ _ _ c.in_ok-write_when_due.ensures.moved c.in_ok-write_when_due.ensures.went_on in
+    let moved = run_moves c.loop-number.invariant _ _ _ c.in_ok-write_when_due.ensures.moved
+    c.in_ok-write_when_due.ensures.went_on in
     let p = err_from_is_err_and c.from_residual-in_err-take_next.result c.from_residual-in_err-take_next.ensures.1 in
     rw (p.1, p.2) (ends_ahead _ None _ _ c.in_err-take_next.field-0.0 (run_stops moved))
 
@@ -31,60 +33,72 @@ returns-in_err-take_next-clause-device g c =
 
 pub returns-in_err-write_whole-in-BadLine-clause-ran : goal.returns-in_err-write_whole-in-BadLine-clause-ran
 returns-in_err-write_whole-in-BadLine-clause-ran g c =
-    let moved = run_moves c.loop-number.invariant _ _ _ c.in_ok-write_when_due.ensures.moved c.in_ok-write_when_due.ensures.went_on in
+    let moved = run_moves c.loop-number.invariant _ _ _ c.in_ok-write_when_due.ensures.moved
+    c.in_ok-write_when_due.ensures.went_on in
     let end = rw c.in-BadLine.is at (c.in_ok-take_next.ensures.taken _ _ _ moved.script _ moved.follows moved.ran) in
     let part = rw c.deref.ensures.value at c.in_err-write_whole-in-BadLine.ensures.part in
-    let p = err_from_is_err_and c.from_residual-in_err-write_whole-in-BadLine.result c.from_residual-in_err-write_whole-in-BadLine.ensures.1 in
+    let p = err_from_is_err_and c.from_residual-in_err-write_whole-in-BadLine.result
+    c.from_residual-in_err-write_whole-in-BadLine.ensures.1 in
     rw (p.1, p.2) (Ended-front end _ part)
 
 pub returns-in_err-write_whole-in-BadLine-clause-device : goal.returns-in_err-write_whole-in-BadLine-clause-device
 returns-in_err-write_whole-in-BadLine-clause-device g c =
     let on = WentOn-trans c.loop-number.invariant.writer c.in_ok-write_when_due.ensures.went_on in
-    let p = err_from_is_err_and c.from_residual-in_err-write_whole-in-BadLine.result c.from_residual-in_err-write_whole-in-BadLine.ensures.1 in
+    let p = err_from_is_err_and c.from_residual-in_err-write_whole-in-BadLine.result
+    c.from_residual-in_err-write_whole-in-BadLine.ensures.1 in
     rw (p.1, p.2) (λ q. inr (inl (CallFailed-later _ _ _ on c.in_err-write_whole-in-BadLine.ensures.err)))
 
 pub returns-in-BadLine-clause-ran : goal.returns-in-BadLine-clause-ran
 returns-in-BadLine-clause-ran g c =
-    let moved = run_moves c.loop-number.invariant _ _ _ c.in_ok-write_when_due.ensures.moved c.in_ok-write_when_due.ensures.went_on in
+    let moved = run_moves c.loop-number.invariant _ _ _ c.in_ok-write_when_due.ensures.moved
+    c.in_ok-write_when_due.ensures.went_on in
     let end = rw c.in-BadLine.is at (c.in_ok-take_next.ensures.taken _ _ _ moved.script _ moved.follows moved.ran) in
     ends_bad None _ end (rw c.deref.ensures.value at c.in_ok-write_whole-in-BadLine.ensures.written)
 
 pub returns-in_err-write_whole-in-All-clause-ran : goal.returns-in_err-write_whole-in-All-clause-ran
 returns-in_err-write_whole-in-All-clause-ran g c =
-    let moved = run_moves c.loop-number.invariant _ _ _ c.in_ok-write_when_due.ensures.moved c.in_ok-write_when_due.ensures.went_on in
+    let moved = run_moves c.loop-number.invariant _ _ _ c.in_ok-write_when_due.ensures.moved
+    c.in_ok-write_when_due.ensures.went_on in
     let end = rw c.in-All.is at (c.in_ok-take_next.ensures.taken _ _ _ moved.script _ moved.follows moved.ran) in
     let part = rw c.deref-in-All.ensures.value at c.in_err-write_whole-in-All.ensures.part in
-    let p = err_from_is_err_and c.from_residual-in_err-write_whole-in-All.result c.from_residual-in_err-write_whole-in-All.ensures.1 in
+    let p = err_from_is_err_and c.from_residual-in_err-write_whole-in-All.result
+    c.from_residual-in_err-write_whole-in-All.ensures.1 in
     rw (p.1, p.2) (Ended-front end.0 _ part)
 
 pub returns-in_err-write_whole-in-All-clause-device : goal.returns-in_err-write_whole-in-All-clause-device
 returns-in_err-write_whole-in-All-clause-device g c =
     let on = WentOn-trans c.loop-number.invariant.writer c.in_ok-write_when_due.ensures.went_on in
-    let p = err_from_is_err_and c.from_residual-in_err-write_whole-in-All.result c.from_residual-in_err-write_whole-in-All.ensures.1 in
+    let p = err_from_is_err_and c.from_residual-in_err-write_whole-in-All.result
+    c.from_residual-in_err-write_whole-in-All.ensures.1 in
     rw (p.1, p.2) (λ q. inr (inl (CallFailed-later _ _ _ on c.in_err-write_whole-in-All.ensures.err)))
 
 pub returns-in-All-clause-ran : goal.returns-in-All-clause-ran
 returns-in-All-clause-ran g c =
-    let moved = run_moves c.loop-number.invariant _ _ _ c.in_ok-write_when_due.ensures.moved c.in_ok-write_when_due.ensures.went_on in
+    let moved = run_moves c.loop-number.invariant _ _ _ c.in_ok-write_when_due.ensures.moved
+    c.in_ok-write_when_due.ensures.went_on in
     let end = rw c.in-All.is at (c.in_ok-take_next.ensures.taken _ _ _ moved.script _ moved.follows moved.ran) in
     ends_good _ _ end.0 end.1 (rw c.deref-in-All.ensures.value at c.in_ok-write_whole-in-All.ensures.written)
 
 pub loop-number-preserved : goal.loop-number-preserved
 loop-number-preserved g c =
-    let moved = run_moves c.loop-number.invariant _ _ _ c.in_ok-write_when_due.ensures.moved c.in_ok-write_when_due.ensures.went_on in
+    let moved = run_moves c.loop-number.invariant _ _ _ c.in_ok-write_when_due.ensures.moved
+    c.in_ok-write_when_due.ensures.went_on in
     let more = rw c.in-Line.is at (c.in_ok-take_next.ensures.taken _ _ _ moved.script _ moved.follows moved.ran) in
     run_goes_on moved _ _ _ _ more.0 more.1 more.2 c.in_ok-take_next.ensures.counts
 
 pub returns-in_err-write_whole-clause-ran : goal.returns-in_err-write_whole-clause-ran
 returns-in_err-write_whole-clause-ran g c =
     let part = rw c.deref-2.ensures.value at c.in_err-write_whole.ensures.part in
-    let p = err_from_is_err_and c.from_residual-in_err-write_whole.result c.from_residual-in_err-write_whole.ensures.1 in
+    let p = err_from_is_err_and c.from_residual-in_err-write_whole.result c.from_residual-in_err-write_whole.ensures.1
+    in
     rw (p.1, p.2) (run_breaks c.loop-number.invariant _ part)
 
 pub returns-in_err-write_whole-clause-device : goal.returns-in_err-write_whole-clause-device
 returns-in_err-write_whole-clause-device g c =
-    let p = err_from_is_err_and c.from_residual-in_err-write_whole.result c.from_residual-in_err-write_whole.ensures.1 in
-    rw (p.1, p.2) (λ q. inr (inl (CallFailed-later _ _ _ c.loop-number.invariant.writer c.in_err-write_whole.ensures.err)))
+    let p = err_from_is_err_and c.from_residual-in_err-write_whole.result c.from_residual-in_err-write_whole.ensures.1
+    in
+    rw (p.1, p.2) (λ q. inr
+    (inl (CallFailed-later _ _ _ c.loop-number.invariant.writer c.in_err-write_whole.ensures.err)))
 
 pub returns-clause-ran : goal.returns-clause-ran
 returns-clause-ran g c =

@@ -54,14 +54,16 @@ returns-in-Living c =
     IfOk-weaker c.cluster_line-in-Living.result _ _
     (λ text answers script follows.
     let (is, are) = cluster_follows script _ _ c.in-Living.is follows in
-    rw (next-short script c.args.line.now c.requires, is, cluster_goes_on _ _) (rw c.in-Ok.ensures.cases.0 at (answers are)))
+    rw (next-short script c.args.line.now c.requires, is, cluster_goes_on _ _)
+    (rw c.in-Ok.ensures.cases.0 at (answers are)))
     c.cluster_line-in-Living.ensures
 
 pub returns-in_default-3 : goal.returns-in_default-3
 returns-in_default-3 c script follows =
     let (is, are, few) = setting_follows script _ _ _ c.in-Setting.is follows in
     let many = rw c.in_default-3.is at c.in_ok-lab-in-Setting.ensures.none in
-    absurd (true≢false (sym many ∙ ap (λ (t : Table). too_many_lie t.sizes c.in-Setting.liars) c.in_ok-copy-in-Setting.ensures ∙ few))
+    absurd (true≢false (sym many
+    ∙ ap (λ (t : Table). too_many_lie t.sizes c.in-Setting.liars) c.in_ok-copy-in-Setting.ensures ∙ few))
 
 pub returns-in_ok-answer-in-Setting : goal.returns-in_ok-answer-in-Setting
 returns-in_ok-answer-in-Setting c script follows =

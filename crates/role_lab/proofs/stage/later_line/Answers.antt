@@ -12,7 +12,13 @@ returns-in_default c takes are at sends =
 pub returns : goal.returns
 returns c takes are at sends =
     let t : Take = take_said c.in-Some.said in
-    let read : take_of_line c.args.sizes.now c.args.line.now ≡ Some t = sym c.take_of_line.ensures.value ∙ ap (option_map take_said) c.in-Some.is in
+    let read : take_of_line c.args.sizes.now c.args.line.now ≡ Some t = sym c.take_of_line.ensures.value
+    ∙ ap (option_map take_said) c.in-Some.is in
     let all = SendsAreFrom-push c.args.sizes.now takes t sends c.in-Some.ensures.from in
     later_line-good _ takes _ _ t _ read c.in-Some.ensures.from are sends (c.in_ok-taken.ensures.state takes at)
-    (c.in_ok-text.ensures ∙ rw (c.in_ok-taken.ensures.effect takes owner at all, c.in_ok-taken.ensures.broadcast takes at, c.in_ok-taken.ensures.delivered takes at) refl)
+    (c.in_ok-text.ensures
+    ∙ rw (
+      c.in_ok-taken.ensures.effect takes owner at all,
+      c.in_ok-taken.ensures.broadcast takes at,
+      c.in_ok-taken.ensures.delivered takes at,
+    ) refl)

@@ -19,7 +19,8 @@ returns-then-may_deliver-clause-ok c =
     c.may_ready.ensures c.in_ok-support.ensures.support)
     c.first_of-self-inside.ensures
     (sym c.if-may_deliver.true
-    ∙ deliver_by_support c.args.sizes.now c.args.command c.may_deliver.result c.in_ok-support.support c.count_ready.new.self
+    ∙ deliver_by_support c.args.sizes.now c.args.command c.may_deliver.result c.in_ok-support.support
+    c.count_ready.new.self
     c.may_deliver.ensures c.in_ok-support.ensures.support)
     c.forget.ensures
     ∙ ap (λ st. after_ready c.args.sizes.now st c.args.from c.args.command st.delivered) c.self.view_is
@@ -40,6 +41,7 @@ returns-clause-ok c =
     c.may_ready.ensures c.in_ok-support.ensures.support)
     c.first_of-self-inside.ensures
     (sym c.if-may_deliver.false
-    ∙ deliver_by_support c.args.sizes.now c.args.command c.may_deliver.result c.in_ok-support.support c.count_ready.new.self
+    ∙ deliver_by_support c.args.sizes.now c.args.command c.may_deliver.result c.in_ok-support.support
+    c.count_ready.new.self
     c.may_deliver.ensures c.in_ok-support.ensures.support)
     ∙ ap (λ st. after_ready c.args.sizes.now st c.args.from c.args.command st.delivered) c.self.view_is

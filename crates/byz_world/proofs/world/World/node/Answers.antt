@@ -1,5 +1,5 @@
 use Rattle.std.proofs.Common.{subst}
-use Rattle.byz_world.specs.Inside.{IsClusterRunOf}
+use Rattle.byz_world.specs.Worlds.{IsClusterRunOf}
 use Rattle.byz_world.proofs.world.World.node.Goals as goal
 
 pub returns-clause-run : goal.returns-clause-run

@@ -1,5 +1,5 @@
 use Rattle.std.proofs.Common.{◌≡◌, take, List}
-use Rattle.byz_world.specs.Inside.{IsClusterRunOf}
+use Rattle.byz_world.specs.Worlds.{IsClusterRunOf}
 use Rattle.byz_world.specs.Steps.{after_steps}
 use Rattle.byz_world.specs.Worlds.{new_world, WorldValue}
 use Rattle.byz_world.specs.declared.step.Step.{Step}

@@ -105,7 +105,8 @@ pub returns-clause-due : goal.returns-clause-due
 returns-clause-due c packets is sent =
     let s = c.args.sizes.now in
     let p = c.args.packet.now in
-    let inside : p.place < reach_in c.args.self.now + window = look_within c.args.self.now p _ c.in_ok-look.ensures.seen in
+    let inside : p.place < reach_in c.args.self.now + window =
+    look_within c.args.self.now p _ c.in_ok-look.ensures.seen in
     let before =
     reach_of_run s p.owner (held c.args.self.now) packets (reach_in c.args.self.now) is.at_each_place
     c.requires.kept.run c.requires.kept.run_ends
