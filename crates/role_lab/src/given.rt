@@ -78,8 +78,7 @@ fn pad(flags: &mut Vec<bool>, count: usize) -> Result<(), AllocError>
 }
 
 /// The least number from `from` to `end` whose flag is not set, where those before are; `end` at the earliest if there
-/// is
-/// none.
+/// is none.
 fn first_unset(flags: &[bool], from: usize, end: usize) -> usize
     requires { AllBelow flags.now from }
     ensures below { AllBelow flags.now result }
