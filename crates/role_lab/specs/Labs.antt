@@ -58,8 +58,7 @@ unfoldable pub next_number : Lab → Option ℕ
 next_number lab = find (λ k. not (lab.given k)) (range_with_len 0 (pool_length lab.world))
 
 -- The least number that was not given is given, and then the least of what is left, so many times at most and until
--- none
--- is left. How many were given, and the cluster afterwards.
+-- none is left. How many were given, and the cluster afterwards.
 pub record Flushed : Type 0 where
   pub count : ℕ
   pub lab : Lab

@@ -1,6 +1,5 @@
 -- The lines of a script of a cluster: `cluster N F` first, then `role R OWNER` and `liar I`, and then what is done to
--- the
--- cluster and what is asked of it. The laws of `one_spelling_of_orders` say that a line has one spelling.
+-- the cluster and what is asked of it. The laws of `one_spelling_of_orders` say that a line has one spelling.
 use Rattle.std.specs.Prelude.{ℕ, if◌then◌else◌, List, codes, Option, Some, None, option_and_then, option_map}
 use Rattle.std.specs.Str.{bytes_eq}
 use Rattle.quorum_sizes.specs.Sizes.{Counts, name_due}

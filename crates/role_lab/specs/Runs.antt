@@ -8,9 +8,8 @@ use Rattle.role_lab.specs.declared.fault.ScriptFault.{ScriptFault}
 use Rattle.role_lab.specs.declared.fault.ScriptFault.TheVariants.{BadScript, Device, Memory}
 
 -- Of what the reader had, `reader_new` is left, and `writer_old` has become `writer_new`. At the end the text of all
--- of it
--- is written. At a bad line, which is the first, the text of the lines before it is written, and else a front of the
--- text.
+-- of it is written. At a bad line, which is the first, the text of the lines before it is written, and else a front of
+-- the text.
 abbrev pub ScriptRan : Option (List ℕ) → Option (List ℕ) → Option (List ℕ) → Option (List ℕ) →
     Result (Unit {0}) ScriptFault → Type 0
 ScriptRan reader_old reader_new writer_old writer_new (Ok _) =
