@@ -61,7 +61,8 @@ joined_more f xs i d old new within was is =
 module _ (value : PolicyValue) (users : Relation ℕ ℕ)
     (is : set.from_list {R = assignment_cmp} users.by_first.items ≡ value.assignments)
     (kept : IsKeptBothWays nat_cmp nat_cmp users) where
-  pub assigned_is : (user role : ℕ) → is_among assignment_cmp users.by_first.items (user, role) ≡ assigned_in value user role
+  pub assigned_is : (user role : ℕ) →
+      is_among assignment_cmp users.by_first.items (user, role) ≡ assigned_in value user role
   assigned_is user role =
       sym (set.contains-from_list assignments_total users.by_first.items (user, role))
       ∙ ap (λ a. set.contains a (user, role)) is
@@ -102,7 +103,8 @@ module _ (value : PolicyValue) (grants : Relation (ℕ × ℕ) ℕ)
   abbrev of_role : ℕ → List (ℕ × (ℕ × ℕ))
   of_role role = filter (λ g. eq_by_cmp nat_cmp role g.0) grants.by_second.items
 
-  role_may : (role : ℕ) (p : ℕ × ℕ) → Contains (map (λ g. g.1) (of_role role)) p ↔ IsTrue (granted_in value p.0 p.1 role)
+  role_may : (role : ℕ) (p : ℕ × ℕ) →
+      Contains (map (λ g. g.1) (of_role role)) p ↔ IsTrue (granted_in value p.0 p.1 role)
   role_may role p =
       iff_trans
       (seconds_members nat_cmp_total permissions_total exact_unsigned permissions_exact grants.by_second.items role p)

@@ -56,7 +56,8 @@ module _ {K : Type 0} {R : K → K → Ordering} (o : IsTotalOrder R) where
       set.contains-from_list o new q ∙ put ∙ (λ i. e i || sym (set.contains-from_list o old q) i)
 
   -- after a key is taken away
-  contains-take_away : (old new : List K) (q : K) (a b : Bool) → a ≡ b → is_among R new q ≡ (not a && is_among R old q) →
+  contains-take_away : (old new : List K) (q : K) (a b : Bool) → a ≡ b →
+      is_among R new q ≡ (not a && is_among R old q) →
       set.contains (set.from_list {R = R} new) q ≡ (not b && set.contains (set.from_list {R = R} old) q)
   contains-take_away old new q a b e taken =
       set.contains-from_list o new q ∙ taken ∙ (λ i. not (e i) && sym (set.contains-from_list o old q) i)

@@ -10,8 +10,7 @@ use Rattle.std.specs.Cmp.{IsTotalOrder, Equal-is}
 use Rattle.std.proofs.lemmas.Cmp.{eq_by_cmp_equiv, then_total, on_total}
 use Rattle.std.proofs.lemmas.Map.Lookups.{CmpEqualImpliesEq, exact_pairs}
 use Rattle.std.proofs.lemmas.Map.Views.{any-filter_same, Contains-from_any, list_any-from_Contains, tells_apart}
-use Rattle.rbac_state.specs.declared.relation.Relation.{Relation}
-use Rattle.rbac_state.specs.Relations.{pair_cmp, is_among, IsKeptBothWays, SamePairs}
+use Rattle.rbac_state.specs.Relations.{pair_cmp, is_among}
 use Rattle.rbac_state.proofs.Members.{picked_from, picked_into}
 
 pub pair_tied : (u v : Ordering) → is_eq (ordering_then u v) ≡ (is_eq u && is_eq v)
@@ -30,14 +29,6 @@ turned u v = pair_tied u v ∙ and_comm (is_eq u) (is_eq v) ∙ sym (pair_tied v
 
 level_less : (u v : Ordering) → u ≡ Equal → ordering_then u v ≡ Less → v ≡ Less
 level_less u v e less = sym (ap (λ w. ordering_then w v) e) ∙ less
-
-module _ {A B : Type 0} {R : A → A → Ordering} {S : B → B → Ordering} where
-  pub kept_same : (old new : Relation A B) → SamePairs old new → IsKeptBothWays R S old → IsKeptBothWays R S new
-  kept_same old new pairs kept = record {
-    by_first = rw (pairs.by_first) kept.by_first;
-    by_second = rw (pairs.by_second) kept.by_second;
-    same = λ first second. rw (pairs.by_first, pairs.by_second) (kept.same first second);
-  }
 
 module _ {A B : Type 0} {R : A → A → Ordering} (S : B → B → Ordering) (o : IsTotalOrder R) where
   later_seconds : (a : A) (p : A × B) (ps : List (A × B)) → AllByRecursion (λ q. pair_cmp R S p q ≡ Less) ps →
@@ -75,14 +66,11 @@ module _ {A B : Type 0} {R : A → A → Ordering} {S : B → B → Ordering} (o
   pairs_total = then_total (on_total (λ p. p.0) o) (on_total (λ p. p.1) ob)
 
   -- a pair in the list
-  pub among : (ps : List (A × B)) (q : A × B) → IsTrue (is_among (pair_cmp R S) ps q) ↔ Contains ps q
+  among : (ps : List (A × B)) (q : A × B) → IsTrue (is_among (pair_cmp R S) ps q) ↔ Contains ps q
   among ps q = (
     λ t. Contains-from_any (tells_apart (exact_pairs R S exact exact_second)) q ps t,
     λ h. list_any-from_Contains (eq_by_cmp_equiv pairs_total) q ps h,
   )
-
-  pub alike : (a : A) (p : A × B) → eq_by_cmp R a p.0 ≡ true → p ≡ (a, p.1)
-  alike a p e = λ i. (sym (tells_apart exact a p.0 e) i, p.1)
 
   -- the seconds of one first, as members
   pub seconds_members : (ps : List (A × B)) (a : A) (b : B) →

@@ -32,8 +32,8 @@ returns-in-Grant-clause-applied c =
     ∙ sym c.is_owned_by.ensures.value ∙ c.if-not-is_owned_by.false in
     rw (c.in-Grant.is, ← c.self.view_is)
     (applied-Grant c.args.owner c.in-Grant.role c.in-Grant.operation c.in-Grant.object _ _ owned refl refl
-    (λ operation object role. granted-put c.self.inside.granted.by_first.items _ c.in-Grant.operation c.in-Grant.object c.in-Grant.role
-    operation object role (c.put-in-Grant.ensures.members (operation, object) role)))
+    (λ operation object role. granted-put c.self.inside.granted.by_first.items _ c.in-Grant.operation
+    c.in-Grant.object c.in-Grant.role operation object role (c.put-in-Grant.ensures.members (operation, object) role)))
 
 pub returns-in-Revoke-clause-applied : goal.returns-in-Revoke-clause-applied
 returns-in-Revoke-clause-applied c =
@@ -42,5 +42,6 @@ returns-in-Revoke-clause-applied c =
     ∙ sym c.is_owned_by.ensures.value ∙ c.if-not-is_owned_by.false in
     rw (c.in-Revoke.is, ← c.self.view_is)
     (applied-Revoke c.args.owner c.in-Revoke.role c.in-Revoke.operation c.in-Revoke.object _ _ owned refl refl
-    (λ operation object role. granted-take_away c.self.inside.granted.by_first.items _ c.in-Revoke.operation c.in-Revoke.object c.in-Revoke.role
-    operation object role (c.take_away-in-Revoke.ensures.members (operation, object) role)))
+    (λ operation object role. granted-take_away c.self.inside.granted.by_first.items _ c.in-Revoke.operation
+    c.in-Revoke.object c.in-Revoke.role operation object role
+    (c.take_away-in-Revoke.ensures.members (operation, object) role)))

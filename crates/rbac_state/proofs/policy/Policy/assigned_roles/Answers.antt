@@ -11,5 +11,5 @@ returns c =
     IfOk-weaker c.seconds.result (λ xs. xs.items ≡ map (λ p. p.1) c.with_first.result.now)
     (λ xs. IsListing nat_cmp (λ role. HasRole c.args.self.now c.args.user role) xs.items)
     (λ xs is. rw (is, c.with_first.ensures)
-    (roles_listing c.args.self.now c.self.inside.assigned (ap (λ v. v.assignments) c.self.view_is) c.self.invariant.users
-    c.args.user)) c.seconds.ensures
+    (roles_listing c.args.self.now c.self.inside.assigned (ap (λ v. v.assignments) c.self.view_is)
+    c.self.invariant.users c.args.user)) c.seconds.ensures

@@ -11,5 +11,5 @@ returns c =
     IfOk-weaker c.seconds.result (λ xs. xs.items ≡ map (λ p. p.1) c.with_second.result.now)
     (λ xs. IsListing nat_cmp (λ user. HasRole c.args.self.now user c.args.role) xs.items)
     (λ xs is. rw (is, c.with_second.ensures)
-    (users_listing c.args.self.now c.self.inside.assigned (ap (λ v. v.assignments) c.self.view_is) c.self.invariant.users
-    c.args.role)) c.seconds.ensures
+    (users_listing c.args.self.now c.self.inside.assigned (ap (λ v. v.assignments) c.self.view_is)
+    c.self.invariant.users c.args.role)) c.seconds.ensures
