@@ -11,7 +11,8 @@ use Rattle.byz_world.proofs.keys.lab_keys.Goals as goal
 pub loop-index-preserved : goal.loop-index-preserved
 loop-index-preserved c =
     let f : ℕ → List ℕ = lab_key c.args.me in
-    let pushed : c.push.new.self.items ≡ c.loop-index.keys.items ++ c.lab_key.result ∷ [] = grind (arith, common_steps) in
+    let pushed : c.push.new.self.items
+    ≡ c.loop-index.keys.items ++ c.lab_key.result ∷ [] = grind (arith, common_steps) in
     let name : c.unwrap.result ≡ c.loop-index.index = grind (arith, common_steps) in
     let one : c.lab_key.result ≡ f c.loop-index.index = c.lab_key.ensures ∙ ap f name in
     pushed ∙ (λ i. c.loop-index.invariant i ++ one i ∷ [])

@@ -13,7 +13,9 @@ record Fits (w : WorldValue) : Type 0 where
   limit : w.config.limit ≤ most_events
 
 fits : (c : goal.After-from) → Fits c.args.self.now
-fits c = subst Fits c.self.view_is (record { within = c.self.invariant.world.within; limit = c.self.invariant.world.limit })
+fits c =
+    let is = c.self.invariant.world in
+    subst Fits c.self.view_is (record { within = is.within; limit = is.limit })
 
 counted : (c : goal.After-from)
     → c.len.result * c.from.result ≡ length (pool c.args.self.now.config c.args.self.now.run)
