@@ -3,9 +3,11 @@
 --     has_sent_is, is_has_sent, has_sent_stays      a message was sent where its command was, and stays so
 --     history_of-..      a node's history in a run that is put together
 --     empty_run, cluster_run_push, after_step_runs, after_steps_runs      a world's run is a cluster run, and stays one
+--     pool-length      how many packets the messages of a run are
 --     consistency, integrity, same_policy, at_rest      the laws of every run, or of one at rest
 --     ready_for_one ..      their parts, of a run with what is known of it; `taken_by` is what a node took at a place
 pub use Rattle.byz_world.proofs.Pooled.{sent_is_pooled, pooled_is_sent, IsPooled, has_sent_is, is_has_sent, has_sent_stays, recorded_after}
+pub use Rattle.byz_world.proofs.Numbering.{pool-length}
 pub use Rattle.byz_world.proofs.Pushing.{history_of-append, history_of-none, history_of-own, history_of-other, history_of-push, history_of-push_other, messages-push, messages-none}
 pub use Rattle.byz_world.proofs.Growing.{empty_run, cluster_run_push}
 pub use Rattle.byz_world.proofs.Stepping.{after_step_runs, after_steps_runs, may_arrive, refused_after}

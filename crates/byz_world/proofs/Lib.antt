@@ -5,6 +5,7 @@ pub mod Pooled
 pub mod Growing
 pub mod Ordered
 pub mod Making
+pub mod Opened
 pub mod Numbering
 pub mod Recording
 pub mod Lists

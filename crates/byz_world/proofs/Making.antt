@@ -1,19 +1,21 @@
--- A world in which nothing has happened.
+-- A world in which nothing has happened, and its keys.
 use Rattle.std.proofs.Common.{◌≡◌, ℕ, ◌<◌, ◌≤◌, ⊎_elim, Bool, true, false, ◌&&◌, List, [], length, Option, Some, None, refl, sym, ap, ◌∙◌, arith}
-use Rattle.std.specs.Prelude.{if◌then◌else◌, nat_lt, not, map, option_map, option_and_then}
+use Rattle.std.specs.Prelude.{if◌then◌else◌, nat_lt, not, map, slice_get, option_map, option_and_then}
 use Rattle.std.specs.FinSet as sets
 use Rattle.std.specs.List.{range_with_len, flat_map}
 use Rattle.std.proofs.lemmas.Bool.{cases_lt}
 use Rattle.std.proofs.lemmas.Bool.Decides.{nat_tests}
 use Rattle.std.proofs.lemmas.List.FromFn.{length-map-range_with_len}
 use Rattle.std.proofs.lemmas.Option.{slice_get-map, slice_get_past}
-use Rattle.quorum_sizes.specs.Sizes.{AreSizes}
+use Rattle.quorum_sizes.specs.Sizes.{Counts, AreSizes}
 use Rattle.quorum_sizes.specs.NodeSets.{Nodes, nodes_among}
+use Rattle.link_frames.specs.KeyRings.{KeyRing}
 use Rattle.role_node.specs.Configs.{ConfigValue, most_events}
 use Rattle.role_node.specs.Nodes.{NodeValue, new_node}
 use Rattle.byz_world.specs.Runs.{history_of}
 use Rattle.byz_world.specs.Pools.{packets_of, pool}
 use Rattle.byz_world.specs.Worlds.{WorldValue, new_world, node_in, node_due, is_correct_in}
+use Rattle.byz_world.specs.LabKeys.{lab_ring, ring_due, rings_due, ring_in}
 use Rattle.byz_world.specs.Inside.{member_in, history_in, run_after, run_in, IsWorldIn}
 use Rattle.byz_world.proofs.Pushing.{history_of-none, messages-none}
 use Rattle.byz_world.proofs.Pooled.{name_at}
@@ -33,22 +35,40 @@ past_is_none w name past =
     let test : nat_lt name w.config.roles.sizes.nodes ≡ false = grind (arith, nat_tests) in
     ap (λ b. if (b && not (sets.contains w.liars name)) then Some (node_in w name) else None) test
 
-flat : {A : Type 0} (o : Option (Option A)) → Option A
-flat o = option_and_then (λ x. x) o
+-- what is kept for each name, by its name; nothing is for a name past the nodes
+kept_at : {A : Type 0} (due : ℕ → Option A) (nodes name : ℕ) → (nodes ≤ name → due name ≡ None) →
+    option_and_then (λ x. x) (slice_get (map due (range_with_len 0 nodes)) name) ≡ due name
+kept_at due nodes name none =
+    ⊎_elim
+    (λ (h : name < nodes).
+    ap (option_and_then (λ x. x))
+    (slice_get-map due (range_with_len 0 nodes) name ∙ ap (option_map due) (name_at nodes name h)))
+    (λ (h : nodes ≤ name).
+    ap (option_and_then (λ x. x))
+    (slice_get_past (map due
+    (range_with_len 0 nodes)) name (omega (arith, length-map-range_with_len due 0 nodes, h)))
+    ∙ sym (none h))
+    (cases_lt name nodes)
 
 member_at : (w : WorldValue) (nodes name : ℕ) → w.config.roles.sizes.nodes ≡ nodes →
     member_in (map (node_due w) (range_with_len 0 nodes)) name ≡ node_due w name
 member_at w nodes name all =
-    ⊎_elim
-    (λ (h : name < nodes).
-    ap (option_and_then (λ x. x))
-    (slice_get-map (node_due w) (range_with_len 0 nodes) name ∙ ap (option_map (node_due w)) (name_at nodes name h)))
-    (λ (h : nodes ≤ name).
-    ap (option_and_then (λ x. x))
-    (slice_get_past (map (node_due w)
-    (range_with_len 0 nodes)) name (omega (arith, length-map-range_with_len (node_due w) 0 nodes, h)))
-    ∙ sym (past_is_none w name (omega (arith, h, all))))
-    (cases_lt name nodes)
+    kept_at (node_due w) nodes name (λ (h : nodes ≤ name). past_is_none w name (omega (arith, h, all)))
+
+-- the keys of a node
+pub ring_is : (s : Counts) (liars : Nodes) (rings : List (Option KeyRing)) (name : ℕ) → rings ≡ rings_due s liars →
+    ring_in rings name ≡ ring_due s liars name
+ring_is s liars rings name e =
+    ap (λ rs. ring_in rs name) e
+    ∙ kept_at (ring_due s liars) s.nodes name (λ (h : s.nodes ≤ name).
+    let test : nat_lt name s.nodes ≡ false = grind (arith, nat_tests) in
+    ap (λ b. if (b && not (sets.contains liars name)) then Some (lab_ring s name) else None) test)
+
+pub new_ring_is : (s : Counts) (liars : Nodes) (name : ℕ) → name < s.nodes →
+    sets.contains liars name ≡ false → Some (lab_ring s name) ≡ ring_due s liars name
+new_ring_is s liars name node honest =
+    let test : nat_lt name s.nodes ≡ true = grind (arith, nat_tests) in
+    sym (λ i. if (test i && not (honest i)) then Some (lab_ring s name) else None)
 
 nothing_in : (w : WorldValue) (name : ℕ) → w.run ≡ [] → (b : Bool) → is_correct_in w name ≡ b
     → history_in (node_due w name) ≡ []

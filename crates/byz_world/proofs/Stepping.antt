@@ -2,6 +2,7 @@
 use Rattle.std.proofs.Common.{◌≡◌, ℕ, suc, Bool, true, false, ◌&&◌, List, [], ◌∷◌, ◌++◌, length, Option, Some, None, Result, Ok, Err, refl, sym, ap, ◌∙◌, subst, append-nil}
 use Rattle.std.specs.Prelude.{if◌then◌else◌, not, nat_lt, IsTrue, IfOk, IfErr, OnOk, slice_get}
 use Rattle.link_frames.specs.Packets.{PacketValue, SentByOwner, message_of}
+use Rattle.link_frames.specs.declared.opening.LinkFault.{LinkFault}
 use Rattle.bracha_instance.specs.declared.instance.Effect.{Effect}
 use Rattle.bracha_instance.specs.declared.instance.Effect.TheVariants as effect
 use Rattle.role_node.specs.Answers.{outlook, answered, reply_to, is_recorded}
@@ -14,12 +15,12 @@ use Rattle.role_node.specs.declared.faults.NodeFault.{NodeFault}
 use Rattle.byz_world.specs.Runs.{history_of, has_sent, IsClusterRun}
 use Rattle.byz_world.specs.Pools.{pool}
 use Rattle.byz_world.specs.Worlds.{WorldValue, node_in, is_correct_in}
-use Rattle.byz_world.specs.Steps.{Arrival, arrival, arrives, given, is_pool_full, is_forged, of_reply, of_answer, answer_of, step_due, recorded_pair, with_run, after_step, after_steps, adds, IsStepAnswer}
+use Rattle.byz_world.specs.Steps.{Arrival, arrival, arrives, given, unless_forged, opened_at, of_opened, is_pool_full, is_forged, of_reply, of_answer, answer_of, step_due, recorded_pair, with_run, after_step, after_steps, adds, IsStepAnswer}
 use Rattle.byz_world.specs.Inside.{MayHappen}
 use Rattle.byz_world.specs.Steps.{IsSound}
 use Rattle.byz_world.specs.Worlds.{IsClusterRunOf}
 use Rattle.byz_world.specs.declared.step.Step.{Step}
-use Rattle.byz_world.specs.declared.step.Step.TheVariants.{Issue, Give, Lie, Client}
+use Rattle.byz_world.specs.declared.step.Step.TheVariants.{Issue, Give, Lie, Bytes, Client}
 use Rattle.byz_world.specs.declared.step.StepReply.{StepReply}
 use Rattle.byz_world.specs.declared.step.StepReply.TheVariants.{Absorbed, Node}
 use Rattle.byz_world.specs.declared.faults.WorldFault.{WorldFault}
@@ -28,6 +29,7 @@ use Rattle.byz_world.proofs.Elements.{contained}
 use Rattle.byz_world.proofs.Pooled.{IsPooled, pooled_is_sent}
 use Rattle.byz_world.proofs.Telling.{pooled_is_own}
 use Rattle.byz_world.proofs.Growing.{cluster_run_push}
+use Rattle.byz_world.proofs.Opened.{opened_is_own}
 use Rattle.byz_world.proofs.Recording.{counted_recorded}
 
 -- A step that comes to an event.
@@ -130,12 +132,25 @@ given_other : (w : WorldValue) (o : Option PacketValue) → given w o ≡ Err fa
 given_other w None e = cc
 given_other w (Some p) e = arrives_other (is_correct_in w p.to) (is_pool_full w) (p.to, event.Take p) e
 
-lie_other : (a b : Bool) (c : Arrival) → (c ≡ Err fault.Memory → ⊥) →
-    ◌≡◌ {A = Arrival} (if not a then Err fault.NotCorrect else (if b then Err fault.NotSent else c))
-    (Err fault.Memory) → ⊥
-lie_other false b c h e = cc
-lie_other true true c h e = cc
-lie_other true false c h e = h e
+unforged_other : (b : Bool) (c : Arrival) → (c ≡ Err fault.Memory → ⊥) →
+    ◌≡◌ {A = Arrival} (if b then Err fault.NotSent else c) (Err fault.Memory) → ⊥
+unforged_other true c h e = cc
+unforged_other false c h e = h e
+
+packet_other : (w : WorldValue) (p : PacketValue) → unless_forged w p ≡ Err fault.Memory → ⊥
+packet_other w p e =
+    unforged_other (is_forged w p) (arrives w p)
+    (arrives_other (is_correct_in w p.to) (is_pool_full w) (p.to, event.Take p)) e
+
+lie_other : (a : Bool) (c : Arrival) → (c ≡ Err fault.Memory → ⊥) →
+    ◌≡◌ {A = Arrival} (if not a then Err fault.NotCorrect else c) (Err fault.Memory) → ⊥
+lie_other false c h e = cc
+lie_other true c h e = h e
+
+bytes_other : (w : WorldValue) (o : Option (Result PacketValue LinkFault)) → of_opened w o ≡ Err fault.Memory → ⊥
+bytes_other w None e = cc
+bytes_other w (Some (Err f)) e = cc
+bytes_other w (Some (Ok p)) e = packet_other w p e
 
 client_other : (a : Bool) (pair : ℕ × Event) →
     ◌≡◌ {A = Arrival} (if a then Ok (Some pair) else Err fault.NotCorrect) (Err fault.Memory) → ⊥
@@ -147,9 +162,9 @@ arrival_other : (w : WorldValue) (step : Step) → arrival w step ≡ Err fault.
 arrival_other w (Issue node c) e = issue_other (is_correct_in w node) (is_pool_full w) (node, event.Issue c) e
 arrival_other w (Give k) e = given_other w (slice_get (pool w.config w.run) k) e
 arrival_other w (Lie p) e =
-    lie_other (nat_lt p.from w.config.roles.sizes.nodes && nat_lt p.to w.config.roles.sizes.nodes) (is_forged w p)
-    (arrives w p)
-    (arrives_other (is_correct_in w p.to) (is_pool_full w) (p.to, event.Take p)) e
+    lie_other (nat_lt p.from w.config.roles.sizes.nodes && nat_lt p.to w.config.roles.sizes.nodes) (unless_forged w p)
+    (packet_other w p) e
+arrival_other w (Bytes to bytes) e = bytes_other w (opened_at w to bytes) e
 arrival_other w (Client node act) e = client_other (is_correct_in w node) (node, event.Client act) e
 
 err_by : (w : WorldValue) (step : Step) (f : WorldFault) → step_due w step ≡ Err f → (f ≡ fault.Memory → ⊥)
@@ -159,6 +174,7 @@ err_by w step fault.NotCorrect e other = e
 err_by w step fault.NoSuchPacket e other = e
 err_by w step fault.NotSent e other = e
 err_by w step fault.PoolFull e other = e
+err_by w step (fault.Link f) e other = e
 err_by w step (fault.Node f) e other = e
 err_by w step fault.NoSession e other = e
 err_by w step fault.Memory e other = absurd (other refl)
@@ -176,6 +192,7 @@ due_err w step fault.NotCorrect e other = e
 due_err w step fault.NoSuchPacket e other = e
 due_err w step fault.NotSent e other = e
 due_err w step fault.PoolFull e other = e
+due_err w step (fault.Link f) e other = e
 due_err w step (fault.Node f) e other = e
 due_err w step fault.NoSession e other = e
 due_err w step fault.Memory e other = absurd (other refl)
@@ -223,12 +240,15 @@ client_is : (a : Bool) (pair q : ℕ × Event) →
 client_is true pair q e = (refl, cc)
 client_is false pair q e = absurd cc
 
-lie_is : (a b : Bool) (c : Arrival) (q : ℕ × Event) →
-    ◌≡◌ {A = Arrival} (if not a then Err fault.NotCorrect else (if b then Err fault.NotSent else c)) (Ok (Some q)) →
-    (b ≡ false) × (c ≡ Ok (Some q))
-lie_is false b c q e = absurd cc
-lie_is true true c q e = absurd cc
-lie_is true false c q e = (refl, e)
+lie_is : (a : Bool) (c : Arrival) (q : ℕ × Event) →
+    ◌≡◌ {A = Arrival} (if not a then Err fault.NotCorrect else c) (Ok (Some q)) → c ≡ Ok (Some q)
+lie_is false c q e = absurd cc
+lie_is true c q e = e
+
+unforged_is : (b : Bool) (c : Arrival) (q : ℕ × Event) →
+    ◌≡◌ {A = Arrival} (if b then Err fault.NotSent else c) (Ok (Some q)) → (b ≡ false) × (c ≡ Ok (Some q))
+unforged_is true c q e = absurd cc
+unforged_is false c q e = (refl, e)
 
 abbrev MayBe : WorldValue → ℕ × Event → Type 0
 MayBe w q = MayHappen w q.0 q.1
@@ -260,6 +280,19 @@ unforged true true e h = refl
 unforged true false e h = absurd cc
 unforged false b e h = absurd cc
 
+unforged_may : (w : WorldValue) (p : PacketValue) (q : ℕ × Event) → SentByOwner p → unless_forged w p ≡ Ok (Some q) →
+    MayBe w q
+unforged_may w p q own e =
+    let is = unforged_is (is_forged w p) (arrives w p) q e in
+    taken_may w p q own (unforged (is_correct_in w p.from)
+    (has_sent w.config.roles.sizes w.run p.from (message_of p)) is.0) is.1
+
+opened_may : (w : WorldValue) (o : Option (Result PacketValue LinkFault)) (q : ℕ × Event) →
+    ((p : PacketValue) → o ≡ Some (Ok p) → SentByOwner p) → of_opened w o ≡ Ok (Some q) → MayBe w q
+opened_may w None q own e = absurd cc
+opened_may w (Some (Err f)) q own e = absurd cc
+opened_may w (Some (Ok p)) q own e = unforged_may w p q (own p refl) e
+
 given_may : (w : WorldValue) (o : Option PacketValue) (k : ℕ) (q : ℕ × Event) → IsClusterRunOf w →
     slice_get (pool w.config w.run) k ≡ o → given w o ≡ Ok (Some q) → MayBe w q
 given_may w None k q is at e = absurd cc
@@ -280,10 +313,11 @@ may_arrive w (Issue node c) at e is sound h =
     })
 may_arrive w (Give k) at e is sound h = given_may w (slice_get (pool w.config w.run) k) k (at, e) is refl h
 may_arrive w (Lie p) at e is sound h =
-    let l = lie_is (nat_lt p.from w.config.roles.sizes.nodes && nat_lt p.to w.config.roles.sizes.nodes)
-    (is_forged w p) (arrives w p) (at, e) h in
-    taken_may w p (at, e) sound (unforged (is_correct_in w p.from)
-    (has_sent w.config.roles.sizes w.run p.from (message_of p)) l.0) l.1
+    unforged_may w p (at, e) sound
+    (lie_is (nat_lt p.from w.config.roles.sizes.nodes && nat_lt p.to w.config.roles.sizes.nodes)
+    (unless_forged w p) (at, e) h)
+may_arrive w (Bytes to bytes) at e is sound h =
+    opened_may w (opened_at w to bytes) (at, e) (opened_is_own w to bytes) h
 may_arrive w (Client node act) at e is sound h =
     let i = client_is (is_correct_in w node) (node, event.Client act) (at, e) h in
     subst (MayBe w) i.1

@@ -12,7 +12,7 @@ use Rattle.role_sessions.specs.declared.verdict.Verdict.{Verdict}
 use Rattle.byz_world.specs.Runs.{history_of}
 use Rattle.byz_world.specs.Worlds.{WorldValue, too_many_lie, is_correct_in}
 use Rattle.byz_world.specs.declared.faults.WorldFault.{WorldFault}
-use Rattle.byz_world.specs.declared.faults.WorldFault.TheVariants.{TooManyLiars, NotCorrect, NoSuchPacket, NotSent, PoolFull, Node, NoSession, Memory}
+use Rattle.byz_world.specs.declared.faults.WorldFault.TheVariants.{TooManyLiars, NotCorrect, NoSuchPacket, NotSent, PoolFull, Link, Node, NoSession, Memory}
 
 -- a world is refused exactly where more nodes lie than may; then memory can be wanting
 abbrev pub IsMade : ConfigValue → Nodes → Result WorldValue WorldFault → Type 0
@@ -22,6 +22,7 @@ IsMade config liars (Err NotCorrect) = ⊥
 IsMade config liars (Err NoSuchPacket) = ⊥
 IsMade config liars (Err NotSent) = ⊥
 IsMade config liars (Err PoolFull) = ⊥
+IsMade config liars (Err (Link fault)) = ⊥
 IsMade config liars (Err (Node fault)) = ⊥
 IsMade config liars (Err NoSession) = ⊥
 IsMade config liars (Err Memory) = too_many_lie config.roles.sizes liars ≡ false
@@ -44,6 +45,7 @@ IsQuestionAnswer w node question (Err NotCorrect) = question_due w node question
 IsQuestionAnswer w node question (Err NoSuchPacket) = ⊥
 IsQuestionAnswer w node question (Err NotSent) = ⊥
 IsQuestionAnswer w node question (Err PoolFull) = ⊥
+IsQuestionAnswer w node question (Err (Link fault)) = ⊥
 IsQuestionAnswer w node question (Err (Node fault)) = ⊥
 IsQuestionAnswer w node question (Err NoSession) = question_due w node question ≡ Some NoSession
 IsQuestionAnswer w node question (Err Memory) = (question_due w node question ≡ None) × IsTrue (takes_memory question)

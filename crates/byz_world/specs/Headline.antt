@@ -60,7 +60,8 @@ pub record KeepsThePromise (config : ConfigValue) (liars : Nodes) (run : Run) : 
       IsPrefixOf (stream_of config run i owner) (issued (history_of owner run))
 
 -- For every configuration and set of liars, of whom no more are nodes than may lie, and for every list of steps:
--- deliveries, losses, repeats, forgeries and client calls, each packet of which is one (a SEND comes from its owner).
+-- deliveries, losses, repeats, forgeries, any bytes and client calls. A packet that a step brings is one (a SEND comes
+-- from its owner); of bytes nothing is asked.
 abbrev pub Headline : Type 0
 Headline =
     (config : ConfigValue) (liars : Nodes) (steps : List Step) → AreSizes config.roles.sizes →

@@ -13,8 +13,6 @@ use Rattle.role_node.specs.declared.faults.NodeFault.{NodeFault}
 use Rattle.std.specs.List.{list_all}
 use Rattle.byz_world.specs.Runs.{Run, is_correct, has_sent, IsClusterRun}
 use Rattle.byz_world.specs.Pools.{Sent, listed, messages, pool}
-use Rattle.byz_world.specs.declared.step.Step.{Step}
-use Rattle.byz_world.specs.declared.step.Step.TheVariants as step
 use Rattle.byz_world.specs.Worlds.{WorldValue, node_due}
 use Rattle.byz_world.specs.Steps.{is_pool_full, Arrival}
 

@@ -1,6 +1,7 @@
 pub mod Runs
 pub mod Pools
 pub mod Worlds
+pub mod LabKeys
 pub mod Steps
 pub mod Faults
 pub mod Resting

@@ -1,6 +1,8 @@
 -- What a step of the world does: the node and the event that it comes to, its answer, and the run after it.
 use Rattle.std.specs.Prelude.{◌≡◌, ⊤, ℕ, ◌+◌, Bool, not, ◌&&◌, nat_lt, if◌then◌else◌, IsTrue, List, [], ◌∷◌, ◌++◌, length, slice_get, is_some, Option, Some, None, Result, Ok, Err}
+use Rattle.link_frames.specs.Opening.{open_due}
 use Rattle.link_frames.specs.Packets.{PacketValue, SentByOwner, message_of}
+use Rattle.link_frames.specs.declared.opening.LinkFault.{LinkFault}
 use Rattle.role_node.specs.Nodes.{due_at}
 use Rattle.role_node.specs.Answers.{is_recorded}
 use Rattle.role_node.specs.declared.event.Event.{Event}
@@ -9,9 +11,10 @@ use Rattle.role_node.specs.declared.event.Reply.{Reply}
 use Rattle.role_node.specs.declared.faults.NodeFault.{NodeFault}
 use Rattle.byz_world.specs.Runs.{Run, has_sent}
 use Rattle.byz_world.specs.Pools.{pool, sent_by}
+use Rattle.byz_world.specs.LabKeys.{lab_ring}
 use Rattle.byz_world.specs.Worlds.{WorldValue, is_correct_in, node_in}
 use Rattle.byz_world.specs.declared.step.Step.{Step}
-use Rattle.byz_world.specs.declared.step.Step.TheVariants.{Issue, Give, Lie, Client}
+use Rattle.byz_world.specs.declared.step.Step.TheVariants.{Issue, Give, Lie, Bytes, Client}
 use Rattle.byz_world.specs.declared.step.StepReply.{StepReply}
 use Rattle.byz_world.specs.declared.step.StepReply.TheVariants.{Absorbed, Node}
 use Rattle.byz_world.specs.declared.faults.WorldFault.{WorldFault}
@@ -36,6 +39,20 @@ arrives w p = if is_correct_in w p.to then unless_pool_full w (p.to, event.Take 
 abbrev pub is_forged : WorldValue → PacketValue → Bool
 is_forged w p = is_correct_in w p.from && not (has_sent w.config.roles.sizes w.run p.from (message_of p))
 
+-- a packet that anybody may have sent: where it is forged it is refused
+abbrev pub unless_forged : WorldValue → PacketValue → Arrival
+unless_forged w p = if is_forged w p then Err fault.NotSent else arrives w p
+
+-- what comes of opening bytes at a correct node: the packet whose frame they are, or the first fault of the link
+abbrev pub opened_at : WorldValue → ℕ → List ℕ → Option (Result PacketValue LinkFault)
+opened_at w to bytes =
+    if is_correct_in w to then Some (open_due (lab_ring w.config.roles.sizes to) w.config.cluster bytes) else None
+
+abbrev pub of_opened : WorldValue → Option (Result PacketValue LinkFault) → Arrival
+of_opened w None = Err fault.NotCorrect
+of_opened w (Some (Err f)) = Err (fault.Link f)
+of_opened w (Some (Ok p)) = unless_forged w p
+
 -- packet K of the pool is given
 abbrev pub given : WorldValue → Option PacketValue → Arrival
 given w None = Err fault.NoSuchPacket
@@ -48,9 +65,8 @@ arrival w (Issue node command) =
 arrival w (Give packet) = given w (slice_get (pool w.config w.run) packet)
 arrival w (Lie p) =
     if not (nat_lt p.from w.config.roles.sizes.nodes && nat_lt p.to w.config.roles.sizes.nodes)
-    then Err fault.NotCorrect
-    else (if is_forged w p then Err fault.NotSent
-    else arrives w p)
+    then Err fault.NotCorrect else unless_forged w p
+arrival w (Bytes to bytes) = of_opened w (opened_at w to bytes)
 arrival w (Client node act) = if is_correct_in w node then Ok (Some (node, event.Client act)) else Err fault.NotCorrect
 
 -- the node's answer, where the pool has these packets so far: a message it sends is a packet to each node
@@ -100,13 +116,15 @@ IsStepAnswer w step (Err fault.NotCorrect) = step_due w step ≡ Err fault.NotCo
 IsStepAnswer w step (Err fault.NoSuchPacket) = step_due w step ≡ Err fault.NoSuchPacket
 IsStepAnswer w step (Err fault.NotSent) = step_due w step ≡ Err fault.NotSent
 IsStepAnswer w step (Err fault.PoolFull) = step_due w step ≡ Err fault.PoolFull
+IsStepAnswer w step (Err (fault.Link f)) = step_due w step ≡ Err (fault.Link f)
 IsStepAnswer w step (Err (fault.Node f)) = step_due w step ≡ Err (fault.Node f)
 IsStepAnswer w step (Err fault.NoSession) = step_due w step ≡ Err fault.NoSession
 IsStepAnswer w step (Err fault.Memory) = IsTrue (adds w step)
 
--- a packet that a step brings is one: a SEND comes from its owner
+-- a packet that a step brings is one: a SEND comes from its owner. What bytes open to is one whatever they are
 abbrev pub IsSound : Step → Type 0
 IsSound (Issue node command) = ⊤
 IsSound (Give packet) = ⊤
 IsSound (Lie p) = SentByOwner p
+IsSound (Bytes to bytes) = ⊤
 IsSound (Client node act) = ⊤

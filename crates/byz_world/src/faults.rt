@@ -1,9 +1,10 @@
+use link_frames::LinkFault;
 use role_node::NodeFault;
 use std::alloc::AllocError;
 use std::error::Error;
 use std::fmt;
 
-/// Why the world refuses. Written as its code and its name, a node's fault as that fault.
+/// Why the world refuses. Written as its code and its name, a link's or a node's fault as that fault.
 #[derive(Clone, Copy, Debug, PartialEq, Eq, Hash)]
 pub enum WorldFault {
     /// More nodes lie than may.
@@ -16,6 +17,8 @@ pub enum WorldFault {
     NotSent,
     /// The pool has no room for one more message to all nodes.
     PoolFull,
+    /// The bytes are no frame that the node opens.
+    Link(LinkFault),
     /// The node refuses.
     Node(NodeFault),
     /// A session is to be listed that is not open.
@@ -37,6 +40,7 @@ impl fmt::Display for WorldFault {
             WorldFault::NoSuchPacket => write!(f, "V3 NoSuchPacket"),
             WorldFault::NotSent => write!(f, "V4 NotSent"),
             WorldFault::PoolFull => write!(f, "V5 PoolFull"),
+            WorldFault::Link(fault) => write!(f, "{fault}"),
             WorldFault::Node(fault) => write!(f, "{fault}"),
             WorldFault::NoSession => write!(f, "N1 NoSession"),
             WorldFault::Memory => write!(f, "out of memory"),

@@ -48,8 +48,8 @@ pub fn an_example()
     ensures { AnExample }
 {}
 
-/// For every list of steps, with no more liars than may lie: correct nodes decide as Core RBAC does over the streams
-/// that they delivered, these agree as far as they reach, and nothing in them is forged.
+/// For every list of steps, any bytes included, with no more liars than may lie: correct nodes decide as Core RBAC does
+/// over the streams that they delivered, these agree as far as they reach, and nothing in them is forged.
 pub fn law_headline()
     ensures { Headline }
 {}

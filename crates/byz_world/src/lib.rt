@@ -5,6 +5,7 @@
 #![tactic(auto)]
 
 mod faults;
+mod keys;
 pub mod laws;
 mod members;
 mod notes;
@@ -12,6 +13,7 @@ mod step;
 mod world;
 
 pub use faults::WorldFault;
+pub use keys::lab_key;
 pub use laws::{law_at_rest, law_consistency, law_headline, law_integrity, law_same_policy};
 pub use step::{Step, StepReply};
 pub use world::World;

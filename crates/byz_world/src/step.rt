@@ -1,10 +1,10 @@
 use link_frames::Packet;
 use quorum_sizes::NodeName;
-use role_commands::Command;
+use role_commands::{Command, Items};
 use role_node::{ClientEvent, Reply};
 
 /// What may happen next to a cluster.
-#[derive(Clone, Copy, Debug, PartialEq, Eq, Hash)]
+#[derive(Drop, Debug)]
 pub enum Step {
     /// A node publishes a command.
     Issue { node: NodeName, command: Command },
@@ -12,6 +12,8 @@ pub enum Step {
     Give { packet: u32 },
     /// A liar sends a packet in its own name, or the network repeats one that was sent.
     Lie { packet: Packet },
+    /// Bytes arrive at a node, from whomever.
+    Bytes { to: NodeName, bytes: Items<u8> },
     /// A client acts at a node.
     Client { node: NodeName, event: ClientEvent },
 }

@@ -1,7 +1,7 @@
 use super::*;
-use link_frames::{Kind, Message, Packet};
+use link_frames::{Kind, LinkFault, Message, Packet};
 use quorum_sizes::{NodeName, NodeSet, Sizes};
-use role_commands::{Command, RoleTable};
+use role_commands::{Command, Items, RoleTable};
 use role_node::{Answer, Config, MOST_EVENTS, Question, Reply};
 use role_sessions::ClientEvent;
 use std::alloc::Global;
@@ -30,6 +30,56 @@ fn echo(from: u8, command: Command) -> Result<Step, Fail> {
     };
     let packet = Packet::new(name(from)?, name(1)?, message).ok_or("no packet")?;
     Ok(Step::Lie { packet })
+}
+
+/// The frame of the SEND of that command at node 0's first place, from node 0 to node 1, in cluster 1 with laboratory
+/// keys. Its tag was computed elsewhere.
+const FRAME: [u8; 52] = [
+    0x01, 0x00, 0x00, 0x00, 0x01, 0x00, 0x01, 0x01, 0x00, 0x00, 0x00, 0x01, 0x00, 0x02, 0x00, 0x00,
+    0x00, 0x07, 0x00, 0x00, 0x77, 0x48, 0x22, 0x7d, 0xd6, 0x0f, 0xa0, 0xe7, 0xd9, 0xfe, 0x50, 0xa5,
+    0xb9, 0xac, 0x4a, 0x3a, 0x2e, 0x2f, 0x05, 0x1b, 0x6d, 0x9e, 0xf1, 0x9e, 0x52, 0xf2, 0x81, 0x3c,
+    0x98, 0x87, 0x25, 0x5a,
+];
+
+/// Bytes that arrive at node 1.
+fn arriving(alloc: Global, bytes: &[u8]) -> Result<Step, Fail> {
+    Ok(Step::Bytes {
+        to: name(1)?,
+        bytes: Items::new(bytes.to_vec(alloc)?),
+    })
+}
+
+#[test]
+fn frames(rt: HostRuntime) -> Result<(), Fail> {
+    let alloc = rt.alloc();
+    let mut world = World::new(alloc, config(alloc, MOST_EVENTS)?, NodeSet::new())?;
+    let unsent = world.step(arriving(alloc, &FRAME)?);
+    assert_eq!(rt; unsent, Err(WorldFault::NotSent));
+    let _ = world.step(Step::Issue {
+        node: name(0)?,
+        command: ASSIGN,
+    })?;
+    let mut turned = FRAME;
+    turned[51] ^= 1;
+    let forged = world.step(arriving(alloc, &turned)?);
+    assert_eq!(rt; forged, Err(WorldFault::Link(LinkFault::BadTag)));
+    let taken = world.step(arriving(alloc, &FRAME)?)?;
+    let is_echoed = matches!(
+        taken,
+        StepReply::Node {
+            first: 4,
+            count: 4,
+            ..
+        }
+    );
+    assert!(rt; is_echoed);
+    let again = StepReply::Node {
+        reply: Reply::Idle,
+        first: 8,
+        count: 0,
+    };
+    assert_eq!(rt; world.step(Step::Give { packet: 1 })?, again);
+    Ok(())
 }
 
 #[test]

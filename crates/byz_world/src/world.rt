@@ -9,9 +9,10 @@ ghost use Rattle.role_node.specs.Questions.{IsAnswerTo};
 ghost use Rattle.role_node.specs.Nodes.{NodeValue};
 ghost use Rattle.bracha_instance.specs.declared.instance.Effect.TheVariants.{Counted};
 ghost use Rattle.byz_world.specs.Runs.{history_of, has_sent};
+ghost use Rattle.byz_world.specs.LabKeys.{ring_due};
 ghost use Rattle.byz_world.specs.Pools.{pool, sent_by};
 ghost use Rattle.byz_world.specs.Worlds.{new_world, is_correct_in, node_due};
-ghost use Rattle.byz_world.specs.Steps.{arrival, unless_pool_full, arrives, is_forged, is_pool_full, of_reply, with_run, after_step, after_steps, IsStepAnswer};
+ghost use Rattle.byz_world.specs.Steps.{arrival, opened_at, unless_pool_full, unless_forged, arrives, is_forged, is_pool_full, of_reply, with_run, after_step, after_steps, IsStepAnswer};
 ghost use Rattle.byz_world.specs.Agreement.{agree_due};
 ghost use Rattle.byz_world.specs.Resting.{IsAtRest};
 ghost use Rattle.byz_world.specs.Asking.{IsMade, IsQuestionAnswer, decision_due};
@@ -22,11 +23,12 @@ ghost use Rattle.byz_world.specs.declared.step.Step.{Step};
 ghost use Rattle.byz_world.specs.declared.faults.WorldFault.TheVariants as fault;
 
 use crate::faults::WorldFault;
+use crate::keys::{keys_of, new_keys};
 use crate::members::{apply_at, ask_at, check_at, has_said, member, new_members, takes_all};
 use crate::notes::{note_name, note_sent, sent_by};
 use crate::step::{Step, StepReply};
 use bracha_instance::Effect;
-use link_frames::{Message, Packet};
+use link_frames::{LinkFault, Message, Packet, PairKeys, open_frame};
 use quorum_sizes::{NodeName, NodeSet, Sizes};
 use role_node::{Answer, AskFault, Config, Event, Node, NodeFault, Question, Reply};
 use role_sessions::Verdict;
@@ -42,6 +44,7 @@ pub struct World {
     config: Config,
     liars: NodeSet,
     members: Vec<Option<Node>>,
+    keys: Vec<Option<PairKeys>>,
     order: Vec<NodeName>,
     sent: Vec<(NodeName, Message)>,
 }
@@ -61,7 +64,8 @@ impl Model for World {
 }
 
 impl World {
-    /// A world in which nothing has happened. Names among the liars that are no nodes are passed over.
+    /// A world in which nothing has happened, whose correct nodes have laboratory keys. Names among the liars that are
+    /// no nodes are passed over.
     ///
     /// # Errors
     ///
@@ -76,10 +80,12 @@ impl World {
             return Err(WorldFault::TooManyLiars);
         }
         let members = new_members(alloc, &config, &liars)?;
+        let keys = new_keys(alloc, sizes, &liars)?;
         Ok(World {
             config,
             liars,
             members,
+            keys,
             order: Vec::new(alloc),
             sent: Vec::new(alloc),
         })
@@ -102,17 +108,17 @@ impl World {
     {
         let mut world = World::new(alloc, config, liars)?;
         for step in steps {
-            world.pass(*step)?;
+            world.pass(step)?;
         }
         Ok(world)
     }
 
     /// A step that is passed over where it is refused.
-    fn pass(&mut self, step: Step) -> Result<(), AllocError>
-        ensures after { OnOk result (self.new ≡ after_step self.old step) }
+    fn pass(&mut self, step: &Step) -> Result<(), AllocError>
+        ensures after { OnOk result (self.new ≡ after_step self.old step.now) }
         ensures run { IsClusterRunOf self.new }
     {
-        match self.step(step) {
+        match self.answer(step) {
             Ok(_) => Ok(()),
             Err(fault) => match fault {
                 WorldFault::Memory => Err(AllocError),
@@ -134,7 +140,16 @@ impl World {
         ensures err { OnErr result (self.new ≡ self.old) }
         ensures run { IsClusterRunOf self.new }
     {
-        match self.arrival(&step) {
+        self.answer(&step)
+    }
+
+    fn answer(&mut self, step: &Step) -> Result<StepReply, WorldFault>
+        ensures due { IsStepAnswer self.old step.now result }
+        ensures ok { OnOk result (self.new ≡ after_step self.old step.now) }
+        ensures err { OnErr result (self.new ≡ self.old) }
+        ensures run { IsClusterRunOf self.new }
+    {
+        match self.arrival(step) {
             Ok(Some((name, event))) => self.happen(name, event),
             Ok(None) => Ok(StepReply::Absorbed),
             Err(fault) => Err(fault),
@@ -163,11 +178,13 @@ impl World {
                 if !sizes.has(packet.from()) || !sizes.has(packet.to()) {
                     return Err(WorldFault::NotCorrect);
                 }
-                if self.is_forged(packet) {
-                    return Err(WorldFault::NotSent);
-                }
-                self.arrives(*packet)
+                self.unless_forged(*packet)
             }
+            Step::Bytes { to, bytes } => match self.opened_at(*to, bytes.as_slice()) {
+                Some(Ok(packet)) => self.unless_forged(packet),
+                Some(Err(fault)) => Err(WorldFault::Link(fault)),
+                None => Err(WorldFault::NotCorrect),
+            },
             Step::Client { node, event } => {
                 if !self.is_correct(*node) {
                     return Err(WorldFault::NotCorrect);
@@ -175,6 +192,34 @@ impl World {
                 Ok(Some((*node, Event::Client(*event))))
             }
         }
+    }
+
+    /// What comes of bytes that arrive at a correct node.
+    fn opened_at(&self, to: NodeName, bytes: &[u8]) -> Option<Result<Packet, LinkFault>>
+        ensures { result ≡ opened_at self.now to bytes.now }
+    {
+        match self.keys(to) {
+            Some(keys) => Some(open_frame(keys, &self.sizes(), self.config.cluster(), bytes)),
+            None => None,
+        }
+    }
+
+    /// The keys of the correct node of this name.
+    fn keys(&self, name: NodeName) -> Option<&PairKeys>
+        ensures { option_copied result ≡ ring_due self.now.config.roles.sizes self.now.liars name }
+    {
+        keys_of(&self.keys, name)
+    }
+
+    /// Where a packet arrives that anybody may have sent, unless it is forged.
+    fn unless_forged(&self, packet: Packet) -> Result<Option<(NodeName, Event)>, WorldFault>
+        ensures due { result ≡ unless_forged self.now packet }
+        ensures kept { IsPacket packet }
+    {
+        if self.is_forged(&packet) {
+            return Err(WorldFault::NotSent);
+        }
+        self.arrives(packet)
     }
 
     /// Where a packet arrives that may be taken: a liar absorbs it.

@@ -19,5 +19,5 @@ returns c =
     let P : WorldValue → Type 0 = λ w. IsTrue (list_all (has_taken_all a.sent.items) a.members.items)
     ↔ IsAtRest w.config w.liars w.run in
     let is : P c.args.self.now = subst P c.self.view_is (rest_is a.config a.liars a.members.items a.order.items
-    a.sent.items c.self.invariant) in
+    a.sent.items c.self.invariant.world) in
     subst (λ b. IsTrue b ↔ IsAtRest c.args.self.now.config c.args.self.now.liars c.args.self.now.run) (sym all) is

@@ -2,6 +2,7 @@ use Rattle.std.proofs.Common.{◌≡◌, ◌≤◌, ap, ◌∙◌, subst, arith}
 use Rattle.std.specs.FinSet as sets
 use Rattle.quorum_sizes.specs.Sizes.{AreSizes}
 use Rattle.quorum_sizes.specs.NodeSets.{nodes_among}
+use Rattle.byz_world.specs.LabKeys.{rings_due}
 use Rattle.byz_world.proofs.Making.{new_is_world, no_run}
 use Rattle.byz_world.proofs.world.World.new.Goals as goal
 
@@ -16,9 +17,12 @@ invariant_of-result c =
     ∙ ap (λ s. s.liars) same in
     let few : sets.len (nodes_among c.args.config.roles.sizes c.args.liars) ≤ c.args.config.roles.sizes.liars =
     omega (arith, counted, most, c.if-count_among-from.false) in
-    rw (c.new.ensures.items, c.new-2.ensures.items)
-    (new_is_world c.args.config c.args.liars c.in_ok-members.members.items sizes few c.roles.ensures.limit
-    c.in_ok-members.ensures)
+    record {
+      world = rw (c.new.ensures.items, c.new-2.ensures.items)
+          (new_is_world c.args.config c.args.liars c.in_ok-members.members.items sizes few c.roles.ensures.limit
+          c.in_ok-members.ensures);
+      keys = c.in_ok-keys.ensures ∙ ap (λ s. rings_due s c.args.liars) same;
+    }
 
 pub returns-clause-ok : goal.returns-clause-ok
 returns-clause-ok c =
@@ -29,4 +33,4 @@ returns-clause-ok c =
     }
 
 pub returns-clause-run : goal.returns-clause-run
-returns-clause-run c = (invariant_of-result c).cluster
+returns-clause-run c = (invariant_of-result c).world.cluster

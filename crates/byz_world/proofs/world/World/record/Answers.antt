@@ -11,7 +11,7 @@ recorded c =
     let a = c.self.inside in
     is_recorded_in a.config a.liars a.members.items a.order.items a.sent.items c.args.self.now c.args.name
     c.args.event c.in-Ok.reply
-    c.apply_at.new.members.items c.note_name.new.order.items c.note_sent-count.new.sent.items c.self.invariant
+    c.apply_at.new.members.items c.note_name.new.order.items c.note_sent-count.new.sent.items c.self.invariant.world
     c.self.view_is
     c.requires.may c.requires.counts (λ node here. c.in-Ok.ensures.due node here)
     (λ node here. c.in-Ok.ensures.ok node here)
@@ -20,7 +20,7 @@ recorded c =
     ∙ (λ i. c.try_reserve-2.ensures.items i ++ listed (option_map (λ m. (c.args.name, m)) (c.sent_by.ensures i))))
 
 pub invariant_of-self-2 : goal.invariant_of-self-2
-invariant_of-self-2 c = (recorded c).grown.is
+invariant_of-self-2 c = record { world = (recorded c).grown.is; keys = c.self.invariant.keys }
 
 pub returns-clause-ok : goal.returns-clause-ok
 returns-clause-ok c =

@@ -10,7 +10,7 @@ pub returns-in-Some : goal.returns-in-Some
 returns-in-Some c =
     let w = c.args.self.now in
     let P : WorldValue → Type 0 = λ v. c.self.inside.sent.items ≡ messages v.config v.run in
-    let kept : P w = subst P c.self.view_is c.self.invariant.messages in
+    let kept : P w = subst P c.self.view_is c.self.invariant.world.messages in
     let nodes : c.from-nodes.result ≡ w.config.roles.sizes.nodes =
     c.from-nodes.ensures ∙ c.n.ensures.value ∙ ap (λ s. s.nodes) c.sizes.ensures.value in
     let to : c.unwrap-to.result ≡ c.args.number % c.from-nodes.result = grind (arith, common_steps) in
@@ -25,7 +25,7 @@ pub returns-in-None : goal.returns-in-None
 returns-in-None c =
     let w = c.args.self.now in
     let P : WorldValue → Type 0 = λ v. c.self.inside.sent.items ≡ messages v.config v.run in
-    let kept : P w = subst P c.self.view_is c.self.invariant.messages in
+    let kept : P w = subst P c.self.view_is c.self.invariant.world.messages in
     let nodes : c.from-nodes.result ≡ w.config.roles.sizes.nodes =
     c.from-nodes.ensures ∙ c.n.ensures.value ∙ ap (λ s. s.nodes) c.sizes.ensures.value in
     let at : slice_get c.self.inside.sent.items (c.args.number / c.from-nodes.result)
