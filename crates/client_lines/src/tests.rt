@@ -6,7 +6,7 @@ use crate::member::Member;
 use crate::request::{Request, read_request};
 use quorum_sizes::Sizes;
 use role_commands::{Command, Items};
-use role_node::{ClientEvent, NodeFault, Question, Rule, Verdict};
+use role_node::{ClientEvent, Question, Rule, Verdict};
 use std::alloc::Global;
 use std::test::Fail;
 
@@ -18,27 +18,36 @@ fn read(alloc: Global, line: &[u8]) -> Result<Request, LineFault> {
 }
 
 #[test]
-fn requests(rt: HostRuntime) -> Result<(), Fail> {
-    let alloc = rt.alloc();
+fn requests(rt: HostRuntime) {
     let revoke = Command::Revoke {
         role: 65_535,
         operation: 5,
         object: 9,
     };
-    let line = b"{\"op\":\"revoke\",\"role\":65535,\"operation\":5,\"object\":9}";
-    assert_eq!(rt; read(alloc, line)?, Request::Issue(revoke));
     let activate = ClientEvent::Activate {
         session: 18_446_744_073_709_551_615,
         user: 7,
         role: 2,
     };
-    let line = b"{\"role\":2,\"user\":7,\"session\":18446744073709551615,\"op\":\"activate\"}";
-    assert_eq!(rt; read(alloc, line)?, Request::Client(activate));
     let operations = Question::UserOperations { user: 7, object: 9 };
-    let line = b" {\"op\":\"user_operations\", \"user\":7, \"object\":9, \"more\":[{}]} ";
-    assert_eq!(rt; read(alloc, line)?, Request::Ask(operations));
-    assert_eq!(rt; read(alloc, b"{\"op\":\"stop\"}")?, Request::Stop);
-    Ok(())
+    let cases: [(&[u8], Request); 4] = [
+        (
+            b"{\"op\":\"revoke\",\"role\":65535,\"operation\":5,\"object\":9}",
+            Request::Issue(revoke),
+        ),
+        (
+            b"{\"role\":2,\"user\":7,\"session\":18446744073709551615,\"op\":\"activate\"}",
+            Request::Client(activate),
+        ),
+        (
+            b" {\"op\":\"user_operations\", \"user\":7, \"object\":9, \"more\":[{}]} ",
+            Request::Ask(operations),
+        ),
+        (b"{\"op\":\"stop\"}", Request::Stop),
+    ];
+    for (line, request) in cases {
+        assert_eq!(rt; read(rt.alloc(), line), Ok(request));
+    }
 }
 
 #[test]
@@ -108,9 +117,6 @@ fn answers(rt: HostRuntime) -> Result<(), Fail> {
     let verdict = Verdict::Deny(Rule::NoActiveRole);
     let text = answer_text(alloc, &ClientAnswer::Verdict { at: 9, verdict })?;
     assert_eq!(rt; text.as_str(), "{\"allow\":false,\"at\":9,\"rule\":\"N3\"}");
-    let verdict = Verdict::Allow(2);
-    let text = answer_text(alloc, &ClientAnswer::Verdict { at: 10, verdict })?;
-    assert_eq!(rt; text.as_str(), "{\"allow\":true,\"at\":10,\"role\":2}");
     let permissions = Items::new(vec![in alloc; (5, 9), (6, 0)]?);
     let text = answer_text(
         alloc,
@@ -120,11 +126,6 @@ fn answers(rt: HostRuntime) -> Result<(), Fail> {
         },
     )?;
     assert_eq!(rt; text.as_str(), "{\"at\":10,\"permissions\":[[5,9],[6,0]]}");
-    let text = answer_text(alloc, &ClientAnswer::Issued { place: 0, reach: 1 })?;
-    assert_eq!(rt; text.as_str(), "{\"issued\":0,\"reach\":1}");
-    let fault = NodeFault::Beyond { place: 64, end: 64 };
-    let text = answer_text(alloc, &ClientAnswer::Refused(fault))?;
-    assert_eq!(rt; text.as_str(), "{\"error\":\"S1 Beyond\"}");
     let fault = LineFault::Missing(Member::User);
     let text = answer_text(alloc, &ClientAnswer::BadLine(fault))?;
     assert_eq!(rt;

@@ -5,7 +5,7 @@ use Rattle.std.specs.Int.{w16, from_be_bytes}
 use Rattle.std.proofs.lemmas.Bool.{ltb-true, lt-ltb, eqb-true, eq-eqb}
 use Rattle.link_frames.specs.Frames.{kind_byte}
 use Rattle.link_frames.specs.Kinds.{same_kind}
-use Rattle.link_frames.specs.Opening.{demand, with_some, kind_in, packet_in}
+use Rattle.link_frames.specs.Opening.{need, given, kind_in, packet_in}
 use Rattle.link_frames.specs.Packets.{PacketValue, SentByOwner, packet_of, message_of, packet_due}
 use Rattle.link_frames.specs.declared.kind.Kind.{Kind}
 use Rattle.link_frames.specs.declared.kind.Kind.TheVariants.{Send, Echo, Ready}
@@ -15,26 +15,26 @@ use Rattle.link_frames.specs.declared.packet.Message.{Message}
 -- ---- steps
 
 pub demand_ok : {X : Type 0} (test : Bool) (fault : LinkFault) (rest : Result X LinkFault) (x : X)
-    → demand test fault rest ≡ Ok x → (test ≡ true) × (rest ≡ Ok x)
-unfolding demand
+    → need test fault rest ≡ Ok x → (test ≡ true) × (rest ≡ Ok x)
+unfolding need
 demand_ok true fault rest x e = (refl, e)
 demand_ok false fault rest x e = absurd cc
 
 pub demand_again : {X : Type 0} (test : Bool) (fault : LinkFault) (rest y : Result X LinkFault) → test ≡ true → rest ≡ y
-    → demand test fault rest ≡ y
-unfolding demand
+    → need test fault rest ≡ y
+unfolding need
 demand_again true fault rest y holds e = e
 demand_again false fault rest y holds e = absurd cc
 
 pub some_ok : {X Y : Type 0} (o : Option X) (fault : LinkFault) (rest : X → Result Y LinkFault) (y : Y)
-    → with_some o fault rest ≡ Ok y → (x : X) × (o ≡ Some x) × (rest x ≡ Ok y)
-unfolding with_some
+    → given o fault rest ≡ Ok y → (x : X) × (o ≡ Some x) × (rest x ≡ Ok y)
+unfolding given
 some_ok None fault rest y e = absurd cc
 some_ok (Some x) fault rest y e = (x, refl, e)
 
 pub some_again : {X Y : Type 0} (o : Option X) (fault : LinkFault) (rest : X → Result Y LinkFault) (x : X)
-    (y : Result Y LinkFault) → o ≡ Some x → rest x ≡ y → with_some o fault rest ≡ y
-unfolding with_some
+    (y : Result Y LinkFault) → o ≡ Some x → rest x ≡ y → given o fault rest ≡ y
+unfolding given
 some_again o fault rest x y is e = rw is e
 
 chosen : {X : Type 0} (b : Bool) (x y z : X) → cond b x y ≡ z → ((b ≡ true) × (x ≡ z)) ⊎ ((b ≡ false) × (y ≡ z))

@@ -14,13 +14,13 @@ use Rattle.link_frames.specs.declared.opening.LinkFault.{LinkFault}
 use Rattle.link_frames.specs.declared.opening.LinkFault.TheVariants as faults
 
 -- what follows, where the test holds
-unfoldable pub demand : {X : Type 0} → Bool → LinkFault → Result X LinkFault → Result X LinkFault
-demand test fault rest = if test then rest else Err fault
+unfoldable pub need : {X : Type 0} → Bool → LinkFault → Result X LinkFault → Result X LinkFault
+need test fault rest = if test then rest else Err fault
 
 -- what follows of a value, where there is one
-unfoldable pub with_some : {X Y : Type 0} → Option X → LinkFault → (X → Result Y LinkFault) → Result Y LinkFault
-with_some None fault rest = Err fault
-with_some (Some x) fault rest = rest x
+unfoldable pub given : {X Y : Type 0} → Option X → LinkFault → (X → Result Y LinkFault) → Result Y LinkFault
+given None fault rest = Err fault
+given (Some x) fault rest = rest x
 
 abbrev pub kind_in : ℕ → Option Kind
 kind_in b = if b == 1 then Some Send else (if b == 2 then Some Echo else (if b == 3 then Some Ready else None))
@@ -28,22 +28,22 @@ kind_in b = if b == 1 then Some Send else (if b == 2 then Some Echo else (if b =
 -- the packet that the fields say, from and to these nodes, in a cluster of so many
 unfoldable pub packet_in : ℕ → ℕ → ℕ → List ℕ → Result PacketValue LinkFault
 packet_in nodes from to bytes =
-    with_some (kind_in (slice_index bytes kind_at)) faults.BadKind (λ kind.
-    demand (nat_lt (slice_index bytes owner_at) nodes) faults.BadOwner (
-    with_some (command_in (part command_at command_length bytes)) faults.BadCommand (λ command.
+    given (kind_in (slice_index bytes kind_at)) faults.BadKind (λ kind.
+    need (nat_lt (slice_index bytes owner_at) nodes) faults.BadOwner (
+    given (command_in (part command_at command_length bytes)) faults.BadCommand (λ command.
     let place = from_be_bytes w16 (part place_at 2 bytes) in
     let owner = slice_index bytes owner_at in
     let message : Message = record { kind = kind; owner = owner; place = place; command = command } in
-    with_some (packet_due from to message) faults.SendNotByOwner Ok)))
+    given (packet_due from to message) faults.SendNotByOwner Ok)))
 
 -- the first fault of these bytes at the ring's node, or the packet whose frame they are
 unfoldable pub open_due : KeyRing → ℕ → List ℕ → Result PacketValue LinkFault
 open_due ring cluster bytes =
     let from = slice_index bytes from_at in
-    demand (length bytes == frame_len) faults.Length (
-    demand (slice_index bytes version_at == version) faults.Version (
-    demand (from_be_bytes w32 (part cluster_at 4 bytes) == cluster) faults.Cluster (
-    demand (slice_index bytes to_at == ring.me) faults.NotForMe (
-    demand (nat_lt from ring.sizes.nodes) faults.NoSuchNode (
-    demand (bytes_eq (part tag_at tag_len bytes) (hmac (key_with ring from) (part 0 tag_at bytes))) faults.BadTag (
+    need (length bytes == frame_len) faults.Length (
+    need (slice_index bytes version_at == version) faults.Version (
+    need (from_be_bytes w32 (part cluster_at 4 bytes) == cluster) faults.Cluster (
+    need (slice_index bytes to_at == ring.me) faults.NotForMe (
+    need (nat_lt from ring.sizes.nodes) faults.NoSuchNode (
+    need (bytes_eq (part tag_at tag_len bytes) (hmac (key_with ring from) (part 0 tag_at bytes))) faults.BadTag (
     packet_in ring.sizes.nodes from ring.me bytes))))))

@@ -90,7 +90,7 @@ pub fn open_frame(
     open_bytes(keys, sizes, cluster, bytes)
 }
 
-#[tactic(auto, unfolding(crate::specs::Opening::open_due, crate::specs::Opening::demand))]
+#[tactic(auto, unfolding(crate::specs::Opening::open_due, crate::specs::Opening::need))]
 fn open_bytes(
     keys: &PairKeys,
     sizes: &Sizes,
@@ -136,7 +136,7 @@ fn is_same_tag(a: &[u8; TAG_LEN], b: &[u8; TAG_LEN]) -> bool
 }
 
 /// The packet that the fields of a frame say.
-#[tactic(auto, unfolding(crate::specs::Opening::packet_in, crate::specs::Opening::demand, crate::specs::Opening::with_some))]
+#[tactic(auto, unfolding(crate::specs::Opening::packet_in, crate::specs::Opening::need, crate::specs::Opening::given))]
 fn read_packet(
     sizes: &Sizes,
     from: NodeName,

@@ -104,34 +104,29 @@ impl Four {
 fn a_gap_is_waited_for(rt: HostRuntime) -> Result<(), Fail> {
     let mut four = Four::new(rt.alloc())?;
     let [first, second, third] = four.three_readies(1, SECOND)?;
-    assert_eq!(rt; first, counted(0, 0));
-    assert_eq!(rt; second.broadcast, Some((Kind::Ready, SECOND)));
-    assert_eq!(rt; third.delivered, Some(SECOND));
-    assert_eq!(rt; (third.from, third.to), (0, 0));
-    assert_eq!(rt; (four.reach(), four.command(1)), (0, None));
+    assert!(rt; first == counted(0, 0) && second.broadcast == Some((Kind::Ready, SECOND)));
+    assert!(rt; third.delivered == Some(SECOND) && third.from == 0 && third.to == 0);
+    assert!(rt; four.reach() == 0 && four.command(1).is_none());
 
     let [_, _, third] = four.three_readies(0, FIRST)?;
-    assert_eq!(rt; third.delivered, Some(FIRST));
-    assert_eq!(rt; (third.from, third.to), (0, 2));
-    assert_eq!(rt; four.reach(), 2);
-    assert_eq!(rt; four.command(0), Some(FIRST));
-    assert_eq!(rt; four.command(1), Some(SECOND));
-    assert_eq!(rt; four.command(2), None);
+    assert!(rt; third.delivered == Some(FIRST) && third.from == 0 && third.to == 2);
+    assert!(rt; four.reach() == 2 && four.command(2).is_none());
+    assert!(rt; four.command(0) == Some(FIRST) && four.command(1) == Some(SECOND));
     Ok(())
 }
 
 #[test]
 fn the_window_is_64_places(rt: HostRuntime) -> Result<(), Fail> {
     let mut four = Four::new(rt.alloc())?;
-    let beyond = four.take(Kind::Ready, 3, 64, FIRST)?;
-    assert_eq!(rt; beyond, Err(StreamFault::Beyond { place: 64, end: 64 }));
-    assert_eq!(rt;
-        four.look(Kind::Ready, 3, 64)?,
-        Err(StreamFault::Beyond { place: 64, end: 64 })
-    );
-    assert_eq!(rt; four.look(Kind::Ready, 3, 63)?, Ok(Effect::Counted));
-    assert_eq!(rt; four.take(Kind::Ready, 3, 63, FIRST)?, Ok(counted(0, 0)));
-    assert_eq!(rt; four.look(Kind::Ready, 3, 63)?, Ok(Effect::Idle));
+    let beyond = StreamFault::Beyond { place: 64, end: 64 };
+    for (place, seen, due) in [
+        (64, Err(beyond), Err(beyond)),
+        (63, Ok(Effect::Counted), Ok(counted(0, 0))),
+    ] {
+        assert_eq!(rt; four.look(Kind::Ready, 3, place)?, seen);
+        assert_eq!(rt; four.take(Kind::Ready, 3, place, FIRST)?, due);
+    }
+    assert!(rt; four.look(Kind::Ready, 3, 63)? == Ok(Effect::Idle));
     Ok(())
 }
 
@@ -143,30 +138,22 @@ fn late_messages_count(rt: HostRuntime) -> Result<(), Fail> {
         echo: None,
         ready: Some(FIRST),
     };
-    assert_eq!(rt; four.again(0), ready);
-
-    assert_eq!(rt; four.take(Kind::Ready, 1, 0, SECOND)?, Ok(counted(1, 1)));
-    let repeat = four.take(Kind::Ready, 1, 0, SECOND)??;
-    assert_eq!(rt; repeat.effect, Effect::Idle);
-    let send = four.take(Kind::Send, 0, 0, FIRST)??;
-    assert_eq!(rt; send.broadcast, Some((Kind::Echo, FIRST)));
-    assert_eq!(rt; (send.delivered, send.from, send.to), (None, 1, 1));
-    assert_eq!(rt; four.again(0).echo, Some(FIRST));
-    assert_eq!(rt; four.command(0), Some(FIRST));
-    Ok(())
-}
-
-#[test]
-fn faults_are_written(rt: HostRuntime) -> Result<(), Fail> {
-    let beyond = StreamFault::Beyond { place: 64, end: 64 };
-    assert_eq!(rt;
-        format!(in rt.alloc(); "{beyond}")?.as_str(),
-        "S1 Beyond 64 64"
-    );
-    let memory = StreamFault::Memory;
-    assert_eq!(rt;
-        format!(in rt.alloc(); "{memory}")?.as_str(),
-        "out of memory"
-    );
+    assert!(rt; four.again(0) == ready);
+    for (kind, from, command, effect, broadcast) in [
+        (Kind::Ready, 1, SECOND, Effect::Counted, None),
+        (Kind::Ready, 1, SECOND, Effect::Idle, None),
+        (
+            Kind::Send,
+            0,
+            FIRST,
+            Effect::Counted,
+            Some((Kind::Echo, FIRST)),
+        ),
+    ] {
+        let step = four.take(kind, from, 0, command)??;
+        assert!(rt; step.effect == effect && step.broadcast == broadcast);
+        assert!(rt; step.delivered.is_none() && step.from == 1 && step.to == 1);
+    }
+    assert!(rt; four.again(0).echo == Some(FIRST) && four.command(0) == Some(FIRST));
     Ok(())
 }

@@ -70,9 +70,6 @@ names_in-with_bit word name small =
         ap (λ b. nat_lt k most_nodes && (b || has_bit word k)) other
         ∙ ap (λ b. b || (nat_lt k most_nodes && has_bit word k)) (sym other)
 
-pub with_bit-lt : (word name : ℕ) → word < 2 ^ most_nodes → with_bit word name < 2 ^ most_nodes
-with_bit-lt word name small = or_lt most_nodes word _ small (mod-lt (1 * 2 ^ name) (pow_pos most_nodes))
-
 -- The names of both.
 
 has_bit-and : (a b k : ℕ) → has_bit (bit_and a b) k ≡ (has_bit a k && has_bit b k)

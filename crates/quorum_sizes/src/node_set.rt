@@ -2,6 +2,7 @@ ghost use Rattle.std.specs.Prelude.{◌≡◌, ◌<◌, ◌≤◌, ◌==◌, not
 ghost use Rattle.std.specs.FinSet as sets;
 ghost use Rattle.quorum_sizes.specs.Sizes.{most_nodes, echo_quorum_of};
 ghost use Rattle.quorum_sizes.specs.NodeSets.{AreNodes, nodes_among};
+ghost use Rattle.quorum_sizes.specs.NodeWords.{names_in};
 
 use crate::name::NodeName;
 use crate::sizes::{MOST_NODES, Sizes};
@@ -52,7 +53,7 @@ impl NodeSet {
         ensures most { sets.len self.new ≤ most_nodes }
     {
         let fresh = !self.contains(name);
-        self.word |= 1 << name.index();
+        self.word = with_name(self.word, name);
         fresh
     }
 
@@ -84,6 +85,13 @@ impl NodeSet {
     {
         self.len() == 0
     }
+}
+
+/// The word with the bit of this name set.
+fn with_name(word: Word, name: NodeName) -> Word
+    ensures { names_in result ≡ sets.insert (names_in word) name }
+{
+    word | 1 << name.index()
 }
 
 /// The names that are in both sets. Two quorums of echoes share more nodes than may lie.
