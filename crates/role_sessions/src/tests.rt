@@ -3,245 +3,249 @@ use quorum_sizes::{NodeName, Sizes};
 use rbac_state::Policy;
 use role_commands::{Command, RoleTable};
 use std::alloc::Global;
+use std::marker::Model;
+use std::process::Abort;
 use std::test::Fail;
 
-/// A policy over four nodes, with node 0 as the owner of these roles.
-fn policy_of(alloc: Global, roles: u16) -> Result<(Policy, NodeName), Fail> {
-    let sizes = Sizes::new(4, 1)?;
-    let mut table = RoleTable::new(alloc, sizes);
-    for role in 0..roles {
-        table.add(role, 0)?;
+const ASSIGN: Command = Command::Assign { user: 7, role: 2 };
+
+const DEASSIGN: Command = Command::Deassign { user: 7, role: 2 };
+
+const GRANT: Command = Command::Grant {
+    role: 2,
+    operation: 5,
+    object: 9,
+};
+
+/// What a policy and its sessions are put through, with what is due.
+#[derive(Clone, Copy)]
+enum Step {
+    /// The owner of all roles says this.
+    Apply(Command),
+    Open(u32, Result<u64, SessionFault>),
+    /// In a session, by a user, a role.
+    Activate(u64, u32, u16, Result<(), SessionFault>),
+    DropRole(u64, u32, u16, Result<(), EndFault>),
+    Close(u64, u32, Result<(), EndFault>),
+    /// In a session, by a user, operation 5 on object 9.
+    Check(u64, u32, Verdict),
+    /// Role 2, which may do operation 5 on object 9, is all that user 7's session 1 has active.
+    Listed,
+}
+
+/// A policy with its sessions, whose kept answers are right.
+#[derive(Drop)]
+struct Bench {
+    owner: NodeName,
+    policy: Policy,
+    sessions: Sessions,
+}
+
+impl Model for Bench {
+    ghost use Rattle.std.specs.Prelude.{ℕ};
+    ghost use Rattle.role_sessions.specs.Decisions.{relations_of};
+    ghost use Rattle.role_sessions.specs.Kept.{KeptAreRight};
+
+    ghost Value = { ℕ };
+
+    ghost view = { λ a. a.owner };
+
+    ghost invariant = { λ a. KeptAreRight (relations_of a.policy) a.sessions };
+}
+
+impl Bench {
+    /// A policy of these roles, all node 0's, and no session.
+    fn new(alloc: Global, roles: u16) -> Result<Bench, Fail> {
+        let sizes = Sizes::new(4, 1)?;
+        let owner = sizes.name(0).ok_or("no name")?;
+        let mut table = RoleTable::new(alloc, sizes);
+        for role in 0..roles {
+            table.add(role, 0)?;
+        }
+        Ok(Bench {
+            owner,
+            policy: Policy::new(alloc, table),
+            sessions: Sessions::new(alloc),
+        })
     }
-    let owner = sizes.name(0).ok_or("no name")?;
-    Ok((Policy::new(alloc, table), owner))
-}
 
-fn apply(policy: &mut Policy, owner: NodeName, command: Command) -> Result<(), Fail> {
-    policy.make_room()?;
-    policy.apply(owner, command);
-    Ok(())
-}
+    fn apply(&mut self, command: Command) -> Result<(), Fail> {
+        self.sessions.forget();
+        self.policy.make_room()?;
+        self.policy.apply(self.owner, command);
+        Ok(())
+    }
 
-fn assign(user: u32, role: u16) -> Command {
-    Command::Assign { user, role }
-}
+    fn open(&mut self, user: u32) -> Result<u64, SessionFault> {
+        if self.sessions.opened() == u64::MAX {
+            return Err(SessionFault::Memory);
+        }
+        self.sessions.open(user)
+    }
 
-fn grant(role: u16, operation: u16, object: u32) -> Command {
-    Command::Grant {
-        role,
-        operation,
-        object,
+    /// Whether the answer is the one that is due.
+    fn is_due(&mut self, step: &Step) -> Result<bool, Fail> {
+        match step {
+            Step::Apply(command) => {
+                self.apply(*command)?;
+                Ok(true)
+            }
+            Step::Open(user, due) => Ok(self.open(*user) == *due),
+            Step::Activate(session, user, role, due) => {
+                Ok(self.sessions.activate(&self.policy, *session, *user, *role) == *due)
+            }
+            Step::DropRole(session, user, role, due) => {
+                Ok(self.sessions.drop_role(*session, *user, *role) == *due)
+            }
+            Step::Close(session, user, due) => Ok(self.sessions.close(*session, *user) == *due),
+            Step::Check(session, user, due) => {
+                Ok(self.sessions.check(&self.policy, *session, *user, 5, 9) == *due)
+            }
+            Step::Listed => Ok(self.is_listed()? && self.may()),
+        }
+    }
+
+    fn is_listed(&self) -> Result<bool, Fail> {
+        let roles = self.sessions.session_roles(&self.policy, 1)?;
+        let permissions = self.sessions.session_permissions(&self.policy, 1)?;
+        Ok(roles.as_slice() == [2].as_slice() && permissions.as_slice() == [(5, 9)].as_slice())
+    }
+
+    /// The refusals that are due there.
+    fn may(&self) -> bool {
+        self.sessions.may_open() == Ok(())
+            && self.sessions.may_activate(&self.policy, 1, 7, 2) == Err(SessionFault::AlreadyActive)
+            && self.sessions.may_drop(1, 7, 2) == Ok(())
+            && self.sessions.may_close(1, 7) == Ok(())
+    }
+
+    fn run(&mut self, rt: &impl Abort, steps: &[Step]) -> Result<(), Fail> {
+        for step in steps {
+            let is_due = self.is_due(step)?;
+            assert!(rt; is_due);
+        }
+        Ok(())
     }
 }
 
-fn open(sessions: &mut Sessions, user: u32) -> Result<u64, SessionFault> {
-    if sessions.opened() == u64::MAX {
-        return Err(SessionFault::Memory);
-    }
-    sessions.open(user)
+/// From no session on, over a policy of 4 roles.
+fn play(rt: &impl Abort, alloc: Global, steps: &[Step]) -> Result<(), Fail> {
+    Bench::new(alloc, 4)?.run(rt, steps)
 }
 
-/// Node 0's policy, in which user 7 has role 2, which may do operation 5 on object 9.
-fn small_policy(alloc: Global) -> Result<(Policy, NodeName), Fail> {
-    let (mut policy, owner) = policy_of(alloc, 4)?;
-    apply(&mut policy, owner, assign(7, 2))?;
-    apply(&mut policy, owner, grant(2, 5, 9))?;
-    Ok((policy, owner))
-}
-
-/// User 7's session 1, with role 2 active.
-fn active_session(alloc: Global, policy: &Policy) -> Result<Sessions, Fail> {
-    let mut sessions = Sessions::new(alloc);
-    open(&mut sessions, 7)?;
-    sessions.activate(policy, 1, 7, 2)?;
-    Ok(sessions)
-}
-
-fn check(sessions: &mut Sessions, policy: &Policy, session: u64, operation: u16) -> Verdict {
-    sessions.forget();
-    sessions.check(policy, session, 7, operation, 9)
-}
+static LIFE: [Step; 14] = [
+    Step::Apply(ASSIGN),
+    Step::Apply(GRANT),
+    Step::Open(7, Ok(1)),
+    Step::Activate(1, 7, 2, Ok(())),
+    Step::Listed,
+    Step::DropRole(1, 7, 2, Ok(())),
+    Step::DropRole(1, 7, 2, Err(EndFault::NotActive)),
+    Step::Close(1, 8, Err(EndFault::NotYours)),
+    Step::Close(1, 7, Ok(())),
+    Step::Open(7, Ok(2)),
+    Step::Activate(1, 7, 2, Err(SessionFault::NoSession)),
+    Step::Activate(2, 8, 2, Err(SessionFault::NotYours)),
+    Step::Activate(2, 7, 9, Err(SessionFault::NoSuchRole)),
+    Step::Activate(2, 7, 3, Err(SessionFault::NotAssigned)),
+];
 
 #[test]
-fn an_active_role(rt: HostRuntime) -> Result<(), Fail> {
-    let (policy, _) = small_policy(rt.alloc())?;
-    let mut sessions = active_session(rt.alloc(), &policy)?;
-    assert_eq!(rt;
-        sessions.session_roles(&policy, 1)?.as_slice(),
-        [2].as_slice()
-    );
-    assert_eq!(rt;
-        sessions.session_permissions(&policy, 1)?.as_slice(),
-        [(5, 9)].as_slice()
-    );
-    assert_eq!(rt; check(&mut sessions, &policy, 1, 5), Verdict::Allow(2));
-    assert_eq!(rt;
-        sessions.activate(&policy, 1, 7, 9),
-        Err(SessionFault::NoSuchRole)
-    );
-    assert_eq!(rt;
-        sessions.activate(&policy, 1, 7, 2),
-        Err(SessionFault::AlreadyActive)
-    );
-    Ok(())
+fn a_session_from_its_opening_on(rt: HostRuntime) -> Result<(), Fail> {
+    play(&rt, rt.alloc(), &LIFE)
 }
 
-#[test]
-fn a_dropped_role(rt: HostRuntime) -> Result<(), Fail> {
-    let (policy, _) = small_policy(rt.alloc())?;
-    let mut sessions = active_session(rt.alloc(), &policy)?;
-    assert_eq!(rt; sessions.may_drop(1, 7, 2), Ok(()));
-    assert_eq!(rt; sessions.drop_role(1, 7, 2), Ok(()));
-    assert_eq!(rt; sessions.drop_role(1, 7, 2), Err(EndFault::NotActive));
-    assert_eq!(rt; sessions.may_activate(&policy, 1, 7, 2), Ok(()));
-    Ok(())
-}
+static DENIALS: [Step; 18] = [
+    Step::Apply(ASSIGN),
+    Step::Open(7, Ok(1)),
+    Step::Check(9, 7, Verdict::Deny(Rule::NoSession)),
+    Step::Check(1, 8, Verdict::Deny(Rule::NotYours)),
+    Step::Check(1, 7, Verdict::Deny(Rule::NoActiveRole)),
+    Step::Activate(1, 7, 2, Ok(())),
+    Step::Check(1, 7, Verdict::Deny(Rule::NotPermitted)),
+    Step::Apply(DEASSIGN),
+    Step::Check(1, 7, Verdict::Deny(Rule::NoneAssigned)),
+    Step::Apply(GRANT),
+    Step::Apply(ASSIGN),
+    Step::Check(1, 7, Verdict::Allow(2)),
+    Step::Check(1, 7, Verdict::Allow(2)),
+    Step::Check(1, 8, Verdict::Deny(Rule::NotYours)),
+    Step::Activate(1, 7, 2, Err(SessionFault::AlreadyActive)),
+    Step::Apply(DEASSIGN),
+    Step::DropRole(1, 7, 2, Ok(())),
+    Step::Check(1, 7, Verdict::Deny(Rule::NoActiveRole)),
+];
 
 #[test]
-fn a_closed_session(rt: HostRuntime) -> Result<(), Fail> {
-    let (policy, _) = small_policy(rt.alloc())?;
-    let mut sessions = active_session(rt.alloc(), &policy)?;
-    assert_eq!(rt; sessions.close(1, 8), Err(EndFault::NotYours));
-    assert_eq!(rt; sessions.may_close(1, 7), Ok(()));
-    assert_eq!(rt; sessions.close(1, 7), Ok(()));
-    assert_eq!(rt; sessions.may_open(), Ok(()));
-    assert_eq!(rt; open(&mut sessions, 7), Ok(2));
-    let gone = sessions.session_roles(&policy, 1);
-    assert!(rt; matches!(&gone, Err(SessionFault::NoSession)));
-    Ok(())
+fn denials_in_order(rt: HostRuntime) -> Result<(), Fail> {
+    play(&rt, rt.alloc(), &DENIALS)
 }
 
-#[test]
-fn refused_activations(rt: HostRuntime) -> Result<(), Fail> {
-    let (policy, _) = small_policy(rt.alloc())?;
-    let mut sessions = active_session(rt.alloc(), &policy)?;
-    assert_eq!(rt; open(&mut sessions, 8), Ok(2));
-    assert_eq!(rt;
-        sessions.activate(&policy, 2, 8, 2),
-        Err(SessionFault::NotAssigned)
-    );
-    assert_eq!(rt;
-        sessions.activate(&policy, 1, 8, 2),
-        Err(SessionFault::NotYours)
-    );
-    assert_eq!(rt;
-        sessions.activate(&policy, 3, 8, 2),
-        Err(SessionFault::NoSession)
-    );
-    Ok(())
-}
-
-#[test]
-fn denials(rt: HostRuntime) -> Result<(), Fail> {
-    let (policy, _) = small_policy(rt.alloc())?;
-    let mut sessions = active_session(rt.alloc(), &policy)?;
-    open(&mut sessions, 8)?;
-    assert_eq!(rt;
-        check(&mut sessions, &policy, 1, 6),
-        Verdict::Deny(Rule::NotPermitted)
-    );
-    assert_eq!(rt;
-        check(&mut sessions, &policy, 2, 5),
-        Verdict::Deny(Rule::NotYours)
-    );
-    assert_eq!(rt;
-        check(&mut sessions, &policy, 3, 5),
-        Verdict::Deny(Rule::NoSession)
-    );
-    sessions.drop_role(1, 7, 2)?;
-    assert_eq!(rt;
-        check(&mut sessions, &policy, 1, 5),
-        Verdict::Deny(Rule::NoActiveRole)
-    );
-    Ok(())
-}
-
-#[test]
-fn a_role_counts_while_it_is_assigned(rt: HostRuntime) -> Result<(), Fail> {
-    let (mut policy, owner) = small_policy(rt.alloc())?;
-    let mut sessions = active_session(rt.alloc(), &policy)?;
-    let deassign = Command::Deassign { user: 7, role: 2 };
-    apply(&mut policy, owner, deassign)?;
-    assert_eq!(rt;
-        check(&mut sessions, &policy, 1, 5),
-        Verdict::Deny(Rule::NoneAssigned)
-    );
-    assert!(rt; sessions.session_roles(&policy, 1)?.is_empty());
-    apply(&mut policy, owner, assign(7, 2))?;
-    assert_eq!(rt; check(&mut sessions, &policy, 1, 5), Verdict::Allow(2));
-    apply(&mut policy, owner, deassign)?;
-    assert_eq!(rt; sessions.drop_role(1, 7, 2), Ok(()));
-    Ok(())
-}
+static TWO_ROLES: [Step; 14] = [
+    Step::Apply(ASSIGN),
+    Step::Apply(GRANT),
+    Step::Apply(Command::Assign { user: 7, role: 3 }),
+    Step::Apply(Command::Grant {
+        role: 3,
+        operation: 5,
+        object: 9,
+    }),
+    Step::Open(7, Ok(1)),
+    Step::Activate(1, 7, 3, Ok(())),
+    Step::Activate(1, 7, 2, Ok(())),
+    Step::Check(1, 7, Verdict::Allow(3)),
+    Step::Apply(Command::Deassign { user: 7, role: 3 }),
+    Step::Check(1, 7, Verdict::Allow(2)),
+    Step::Apply(Command::Assign { user: 7, role: 3 }),
+    Step::Check(1, 7, Verdict::Allow(3)),
+    Step::DropRole(1, 7, 3, Ok(())),
+    Step::Check(1, 7, Verdict::Allow(2)),
+];
 
 #[test]
 fn the_first_granting_role_is_named(rt: HostRuntime) -> Result<(), Fail> {
-    let (mut policy, owner) = policy_of(rt.alloc(), 4)?;
-    for role in 1..4 {
-        apply(&mut policy, owner, assign(7, role))?;
-    }
-    for role in 2..4 {
-        apply(&mut policy, owner, grant(role, 5, 9))?;
-    }
-    let mut sessions = Sessions::new(rt.alloc());
-    open(&mut sessions, 7)?;
-    for role in [1, 3, 2] {
-        sessions.activate(&policy, 1, 7, role)?;
-    }
-    assert_eq!(rt; check(&mut sessions, &policy, 1, 5), Verdict::Allow(3));
-    assert_eq!(rt;
-        sessions.session_roles(&policy, 1)?.as_slice(),
-        [1, 3, 2].as_slice()
-    );
-    sessions.drop_role(1, 7, 3)?;
-    assert_eq!(rt; check(&mut sessions, &policy, 1, 5), Verdict::Allow(2));
-    Ok(())
+    play(&rt, rt.alloc(), &TWO_ROLES)
 }
+
+static FULL: [Step; 3] = [
+    Step::Open(7, Err(SessionFault::TooManySessions)),
+    Step::Close(1, 0, Ok(())),
+    Step::Open(7, Ok(4097)),
+];
 
 #[test]
 fn most_sessions(rt: HostRuntime) -> Result<(), Fail> {
-    let mut sessions = Sessions::new(rt.alloc());
+    let mut bench = Bench::new(rt.alloc(), 0)?;
     for user in 0..4096 {
-        open(&mut sessions, user)?;
+        bench.open(user)?;
     }
-    assert_eq!(rt; sessions.may_open(), Err(SessionFault::TooManySessions));
-    assert_eq!(rt; open(&mut sessions, 7), Err(SessionFault::TooManySessions));
-    sessions.close(1, 0)?;
-    assert_eq!(rt; open(&mut sessions, 7), Ok(4097));
-    Ok(())
+    bench.run(&rt, &FULL)
 }
 
 #[test]
 fn most_active_roles(rt: HostRuntime) -> Result<(), Fail> {
-    let (mut policy, owner) = policy_of(rt.alloc(), 65)?;
-    let mut sessions = Sessions::new(rt.alloc());
-    open(&mut sessions, 7)?;
+    let mut bench = Bench::new(rt.alloc(), 65)?;
+    bench.open(7)?;
     for role in 0..65 {
-        apply(&mut policy, owner, assign(7, role))?;
+        bench.apply(Command::Assign { user: 7, role })?;
+        let due = if role < 64 {
+            Ok(())
+        } else {
+            Err(SessionFault::TooManyRoles)
+        };
+        bench.run(&rt, &[Step::Activate(1, 7, role, due)])?;
     }
-    for role in 0..64 {
-        sessions.activate(&policy, 1, 7, role)?;
-    }
-    assert_eq!(rt;
-        sessions.activate(&policy, 1, 7, 64),
-        Err(SessionFault::TooManyRoles)
-    );
-    assert_eq!(rt; sessions.session_roles(&policy, 1)?.len(), 64);
     Ok(())
 }
 
 #[test]
 fn texts(rt: HostRuntime) -> Result<(), Fail> {
-    for (rule, code) in [(Rule::NoSession, "N1"), (Rule::NotPermitted, "N5")] {
-        assert_eq!(rt; rule.code(), code);
-        assert_eq!(rt; format!(in rt.alloc(); "{rule}")?.as_str(), code);
-    }
-    let fault = SessionFault::NotAssigned;
-    assert_eq!(rt;
-        format!(in rt.alloc(); "{fault}")?.as_str(),
-        "A3 NotAssigned"
+    let (rule, fault, end) = (
+        Rule::NotPermitted,
+        SessionFault::NotAssigned,
+        EndFault::NotActive,
     );
-    let fault = EndFault::NotActive;
-    assert_eq!(rt; format!(in rt.alloc(); "{fault}")?.as_str(), "A6 NotActive");
+    let text = format!(in rt.alloc(); "{rule}, {fault}, {end}")?;
+    assert_eq!(rt; text.as_str(), "N5, A3 NotAssigned, A6 NotActive");
     Ok(())
 }
