@@ -1,6 +1,7 @@
 pub mod Receipts
 pub mod Seats
 pub mod Holds
+pub mod Views
 pub mod Texts
 pub mod Closes
 pub mod Audits

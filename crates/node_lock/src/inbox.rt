@@ -11,6 +11,8 @@ use crossbeam_queue::protocol::{Join, Lesson, Outcome, Protocol, Split};
 use crossbeam_queue::{Pass, RuledArrayQueue};
 use std::alloc::{AllocError, Global};
 use std::collections::LinkedList;
+use std::error::Error;
+use std::fmt;
 use std::marker::Model;
 use std::sync::Wait;
 
@@ -166,6 +168,31 @@ pub enum InboxFault {
         passes: Vec<InboxPass>,
     },
 }
+
+impl fmt::Display for InboxFault {
+    ghost use Rattle.std.specs.Prelude.{Some};
+    ghost use Rattle.node_lock.specs.Texts.{inbox_fault_text};
+
+    ghost output = { λ fault. Some (inbox_fault_text fault) };
+
+    fn fmt<W: fmt::Write>(&self, f: &mut fmt::Formatter<W>) -> fmt::Result {
+        match self {
+            InboxFault::PassMissing { .. } => write!(f, "Z6 PassMissing"),
+            InboxFault::Memory { .. } => write!(f, "out of memory"),
+        }
+    }
+}
+
+impl fmt::Debug for InboxFault {
+    fn fmt<W: fmt::Write>(&self, f: &mut fmt::Formatter<W>) -> fmt::Result {
+        match self {
+            InboxFault::PassMissing { .. } => write!(f, "PassMissing"),
+            InboxFault::Memory { .. } => write!(f, "Memory"),
+        }
+    }
+}
+
+impl Error for InboxFault {}
 
 impl Inbox {
     /// An empty inbox, with so many passes, 1 to [`MOST_PASSES`].

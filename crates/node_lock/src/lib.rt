@@ -1,7 +1,8 @@
 //! A node that threads share: each call under its lock gives a receipt, and the receipts can be audited afterwards.
 //!
 //! `specs/Receipts.antt` says which outcome is due to a call, `specs/Seats.antt` what a caller's seat has seen and
-//! recorded, `specs/Holds.antt` what a call under the lock does, and `specs/Audits.antt` which receipts are true.
+//! recorded, `specs/Holds.antt` what a call under the lock does, `specs/Views.antt` what may be read after it, and
+//! `specs/Audits.antt` which receipts are true.
 #![tactic(auto)]
 
 mod asked;
@@ -15,6 +16,7 @@ mod receipt;
 mod report;
 mod seat;
 mod shared;
+mod view;
 mod worker;
 
 pub use audits::{AuditFault, audit};
@@ -27,6 +29,7 @@ pub use receipt::{Call, Outcome, Receipt};
 pub use report::{Cause, PoolFault, PoolReport};
 pub use seat::{MOST_SEATS, Seat};
 pub use shared::{CloseFault, SharedNode, close};
+pub use view::View;
 
 #[cfg(test)]
 mod tests;

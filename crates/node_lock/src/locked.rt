@@ -1,15 +1,19 @@
-ghost use Rattle.std.specs.Prelude.{◌≡◌, ◌<◌, ◌≤◌, [], length, IsTrue, IfOk, IfErr, OnOk, OnErr, MatchResult};
+ghost use Rattle.std.specs.Prelude.{◌≡◌, ◌<◌, ◌≤◌, ◌↔◌, [], length, IsTrue, option_map, IfOk, IfErr, OnOk, OnErr, MatchResult};
 ghost use Rattle.role_node.specs.Configs.{most_events};
 ghost use Rattle.role_node.specs.Answers.{is_recorded};
 ghost use Rattle.role_node.specs.Nodes.{IsLegalNode, due_at};
 ghost use Rattle.node_lock.specs.Receipts.{outcome_due};
 ghost use Rattle.node_lock.specs.Holds.{end_of, Fits, receipt_of, held_after, seat_after, seat_after_question, IsStepFault, IsMisfit};
+ghost use Rattle.node_lock.specs.Views.{node_count, view_of, held_after_hold, seat_after_hold, IsHoldFault};
 ghost use Rattle.node_lock.specs.declared.receipt.Call.TheVariants.{Step, Ask};
 ghost use Rattle.node_lock.specs.declared.locked.StepFault.TheVariants.{Memory};
 
 use crate::asked::asked;
 use crate::receipt::{Call, Outcome, Receipt};
 use crate::seat::{MOST_SEATS, Seat};
+use crate::view::View;
+use link_frames::Place;
+use quorum_sizes::NodeName;
 use role_node::{Event, Node, Question};
 use std::alloc::{AllocError, Global};
 use std::error::Error;
@@ -243,5 +247,62 @@ impl<L: Ledger> Locked<L> {
             call: Call::Ask(question),
             outcome,
         })
+    }
+    /// Whether the name is a node's of the sizes of the node behind the lock.
+    pub fn has(&self, name: NodeName) -> bool
+        ensures { IsTrue result ↔ (name < node_count self.now) }
+    {
+        self.node.config().roles().sizes().has(name)
+    }
+
+    /// Makes the call, where there is one, as [`step`](Self::step) or [`ask`](Self::ask) does, and then reads the view
+    /// of the owner's stream and of the place in it. The owner must be a node of the sizes ([`has`](Self::has)).
+    ///
+    /// # Errors
+    ///
+    /// The history is shorter than the seat has seen; then it has not as many events of the seat as it recorded; last,
+    /// where there is a call, memory is wanting for it. Node and seat stay as they were.
+    pub fn hold(
+        &mut self,
+        seat: &mut Seat<L>,
+        call: Option<Call>,
+        owner: NodeName,
+        place: Place,
+    ) -> Result<(Option<Receipt>, View), StepFault>
+        requires { owner < node_count self.old }
+        ensures fits { OnOk result (Fits self.old seat.old) }
+        ensures receipt { IfOk result (λ given. given.0 ≡ option_map (receipt_of self.old seat.old) call) }
+        ensures view { IfOk result (λ given. given.1 ≡ view_of self.new owner place) }
+        ensures held { OnOk result (self.new ≡ held_after_hold self.old seat.old call) }
+        ensures seat { OnOk result (seat.new ≡ seat_after_hold self.old seat.old call) }
+        ensures err { IfErr result (IsHoldFault self.old seat.old call) }
+        ensures same { OnErr result (self.new ≡ self.old) }
+        ensures same_seat { OnErr result (seat.new ≡ seat.old) }
+        ensures legal { IsLegalNode self.new.node }
+        ensures beside { length self.new.seats ≡ end_of self.new }
+    {
+        let receipt = match call {
+            Some(Call::Step(event)) => Some(self.step(seat, event)?),
+            Some(Call::Ask(question)) => Some(self.ask(seat, question)?),
+            None => {
+                let end = self.end();
+                self.admit(seat)?;
+                seat.see(end);
+                None
+            }
+        };
+        Ok((receipt, self.look(owner, place)))
+    }
+
+    /// The view of a place of the owner's stream.
+    fn look(&self, owner: NodeName, place: Place) -> View
+        requires { owner < node_count self.now }
+        ensures { result ≡ view_of self.now owner place }
+    {
+        View {
+            at: self.end(),
+            reach: self.node.reach(owner),
+            again: self.node.again(owner, place),
+        }
     }
 }

@@ -6,6 +6,8 @@ use crate::locked::Locked;
 use crate::seat::Seat;
 use role_node::Node;
 use std::alloc::{AllocError, Global};
+use std::error::Error;
+use std::fmt;
 use std::sync::Mutex;
 use std::sync::ledger::{Blank, Ledger, Share};
 
@@ -24,6 +26,29 @@ pub enum CloseFault<L: Ledger> {
         seats: Vec<Seat<L>>,
     },
 }
+
+impl<L: Ledger> fmt::Display for CloseFault<L> {
+    ghost use Rattle.std.specs.Prelude.{Some};
+    ghost use Rattle.node_lock.specs.Texts.{close_fault_text};
+
+    ghost output = { λ fault. Some (close_fault_text fault) };
+
+    fn fmt<W: fmt::Write>(&self, f: &mut fmt::Formatter<W>) -> fmt::Result {
+        match self {
+            CloseFault::SeatMissing { .. } => write!(f, "Z1 SeatMissing"),
+        }
+    }
+}
+
+impl<L: Ledger> fmt::Debug for CloseFault<L> {
+    fn fmt<W: fmt::Write>(&self, f: &mut fmt::Formatter<W>) -> fmt::Result {
+        match self {
+            CloseFault::SeatMissing { .. } => write!(f, "SeatMissing"),
+        }
+    }
+}
+
+impl<L: Ledger> Error for CloseFault<L> {}
 
 impl<L: Ledger> SharedNode<L> {
     /// A shared node over one that has recorded nothing, with so many seats, numbered from 0. The ledger must have a

@@ -3,7 +3,7 @@ ghost use Rattle.node_lock.specs.Inboxes.{IsPassTo};
 
 use super::*;
 use quorum_sizes::{NodeName, Sizes};
-use role_commands::RoleTable;
+use role_commands::{Command, RoleTable};
 use role_node::{Answer, ClientEvent, Config, Event, Node, Question, Reply, Rule, Verdict};
 use std::alloc::Global;
 use std::marker::Brand;
@@ -16,6 +16,8 @@ use std::test::Fail;
 const OPEN: Event = Event::Client(ClientEvent::Open { user: 7 });
 
 const OPEN_OTHER: Event = Event::Client(ClientEvent::Open { user: 8 });
+
+const ASSIGN: Command = Command::Assign { user: 7, role: 2 };
 
 const CHECK: Question = Question::Check {
     session: 1,
@@ -140,6 +142,36 @@ fn audit_three(
 #[test]
 fn a_seats_receipts_are_audited(rt: HostRuntime) -> Result<(), Fail> {
     use_a_seat::<Brand, HostRuntime>(&rt, rt.alloc(), Blank::new(2))
+}
+
+/// The only seat of a new node issues a command in a hold, which reads what the node sends for it.
+fn issue_in_a_hold<L: Ledger, R: Wait + Abort>(
+    rt: &R,
+    alloc: Global,
+    blank: Blank,
+) -> Result<(), Fail>
+    requires name { blank.name ≡ L.name }
+    requires parts { (blank.parts ≡ L.parts) × (1 ≡ L.parts) }
+{
+    let owner = Sizes::new(1, 0)?.name(0).ok_or("no node")?;
+    let (shared, mut seats) = SharedNode::<L>::new(alloc, blank, new_node(alloc)?, 1)?;
+    let Some(mut seat) = seats.pop() else {
+        return Err("no seat".into());
+    };
+    let mut node = shared.node.lock(rt);
+    if !node.has(owner) {
+        return Err("no node".into());
+    }
+    let issue = Some(Call::Step(Event::Issue(ASSIGN)));
+    let (receipt, view) = node.hold(&mut seat, issue, owner, 0)?;
+    assert_eq!(rt; receipt.map(|receipt| receipt.place), Some(0));
+    assert_eq!(rt; (view.at, view.reach, view.again.send), (1, 0, Some(ASSIGN)));
+    Ok(())
+}
+
+#[test]
+fn a_hold_reads_the_view_after_its_call(rt: HostRuntime) -> Result<(), Fail> {
+    issue_in_a_hold::<Brand, HostRuntime>(&rt, rt.alloc(), Blank::new(1))
 }
 
 /// A job of this number.
