@@ -17,7 +17,7 @@ use Rattle.byz_world.specs.Steps.{Arrival, arrives, given, unless_pool_full, is_
 use Rattle.byz_world.specs.Worlds.{WorldValue, is_correct_in, node_in}
 use Rattle.byz_world.specs.declared.step.Step.TheVariants.{Give}
 use Rattle.byz_world.proofs.Exported.{messages-push}
-use Rattle.byz_world.proofs.Numbering.{pool-length}
+use Rattle.byz_world.proofs.Exported.{pool-length}
 use Rattle.role_lab.specs.Labs.{Lab, pool_length, with_number, given_after, after_doing, next_number, flush_within, flush}
 use Rattle.role_lab.specs.Laws.{IsWithinLimit, FlushLeavesNone}
 use Rattle.role_lab.proofs.Flagging.{find-range-none}

@@ -7,7 +7,7 @@ use Rattle.role_node.specs.Listed.{IsWithin, answer_after}
 use Rattle.role_node.specs.Questions.{IsAnswerTo}
 use Rattle.role_node.specs.declared.question.Answer.{Answer}
 use Rattle.role_node.specs.declared.question.Question.{Question}
-use Rattle.role_node.proofs.ListedLemmas.{one_answer}
+use Rattle.role_node.proofs.Exported.{one_answer}
 use Rattle.byz_world.specs.Asking.{question_due, IsQuestionAnswer}
 use Rattle.byz_world.specs.Faults.{world_fault_text}
 use Rattle.byz_world.specs.Runs.{history_of}
@@ -80,6 +80,7 @@ asked_err bytes w node q f (Ok t) is other told =
     refused fault.NoSuchPacket is other = absurd is
     refused fault.NotSent is other = absurd is
     refused fault.PoolFull is other = absurd is
+    refused (fault.Link g) is other = absurd is
     refused (fault.Node g) is other = absurd is
     refused fault.NoSession is other = is
     refused fault.Memory is other = absurd (other refl)
