@@ -1,5 +1,5 @@
 -- A line that is not bad is text.
-use Rattle.std.proofs.Common.{◌≡◌, ℕ, true, refl, ◌<◌, ◌≤◌, ◌^◌, nat_lt, List, ◌++◌, codes, Some, arith, subst, sym, append_assoc}
+use Rattle.std.proofs.Common.{◌≡◌, ℕ, true, refl, ◌<◌, ◌≤◌, ◌^◌, nat_lt, List, ◌++◌, codes, Some, arith, subst, sym}
 use Rattle.std.proofs.lemmas.Str.{IsUtf8-from_ascii}
 use Rattle.std.specs.List.{list_all}
 use Rattle.std.specs.Str.{IsUtf8}

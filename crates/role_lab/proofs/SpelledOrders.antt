@@ -1,6 +1,6 @@
 -- A later line of a cluster has one spelling.
-use Rattle.std.proofs.Common.{◌≡◌, ℕ, Bool, true, false, not, ◌&&◌, ◌==◌, cond, if◌then◌else◌, ◌<◌, ◌^◌, List, ◌∷◌, ◌++◌, length, codes, Option, Some, None, option_map, option_and_then, sym, refl, ap, arith, ◌∙◌, append_assoc, subst, eqb-true}
-use Rattle.std.proofs.lemmas.Bool.{eq-eqb, ne_eqb}
+use Rattle.std.proofs.Common.{◌≡◌, ℕ, Bool, true, false, not, ◌&&◌, ◌==◌, cond, if◌then◌else◌, ◌<◌, List, ◌∷◌, ◌++◌, length, codes, Option, Some, None, sym, refl, ap, arith, ◌∙◌, append_assoc, subst, eqb-true}
+use Rattle.std.proofs.lemmas.Bool.{eq-eqb}
 use Rattle.std.proofs.lemmas.Option.{option_and_then_some, same_Some, none-some}
 use Rattle.std.proofs.lemmas.Slice.Eq.{bytes_eq-Decides}
 use Rattle.std.specs.Fmt.{decimal}
@@ -14,7 +14,7 @@ use Rattle.role_commands.specs.Words.{spelling, IsCommand}
 use Rattle.role_commands.specs.declared.command.Command.{Command}
 use Rattle.role_commands.proofs.Exported.{split_word-word, split_word-joined, wide_read, long_read, narrow_read, wide_spelled, narrow_spelled, long_spelled, if_else, mapped, by_name, by_name_made, command_of-spelling, command_of_spelled}
 use Rattle.link_frames.specs.Kinds.{same_kind}
-use Rattle.link_frames.specs.Packets.{PacketValue, IsPacket, SentByOwner, packet_of, packet_due}
+use Rattle.link_frames.specs.Packets.{PacketValue, SentByOwner, packet_of, packet_due}
 use Rattle.link_frames.specs.declared.kind.Kind.{Kind}
 use Rattle.link_frames.specs.declared.kind.Kind.TheVariants.{Send, Echo, Ready}
 use Rattle.link_frames.specs.declared.packet.Message.{Message}
@@ -24,7 +24,7 @@ use Rattle.role_node.specs.declared.question.Question.{Question}
 use Rattle.role_node.specs.declared.question.Question.TheVariants.{Check, AssignedUsers, AssignedRoles, RolePermissions, UserPermissions, RoleOperations, UserOperations, SessionRoles, SessionPermissions}
 use Rattle.byz_world.specs.declared.step.Step.{Step}
 use Rattle.byz_world.specs.declared.step.Step.TheVariants.{Issue, Give, Lie, Bytes, Client}
-use Rattle.role_lab.specs.Orders.{node_number, kind_of, then_rest, session_and_user, session_user_and_role, access_of, role_operations_of, user_operations_of, named_listing, listing_of, lie_of, agreement_of, order_at_node, order_of_node, named_order, bytes_of, bytes_order, order_of_line}
+use Rattle.role_lab.specs.Orders.{node_number, kind_of, session_and_user, session_user_and_role, access_of, role_operations_of, user_operations_of, named_listing, listing_of, lie_of, agreement_of, order_at_node, order_of_node, named_order, bytes_order, order_of_line}
 use Rattle.role_lab.specs.OrderSpellings.{at_node, two_numbers, three_numbers, packet_spelling, act_spelling, question_spelling, step_spelling, order_spelling, IsAct, IsQuestion, IsLie, IsStep, IsOrder, bytes_spelling, SpellsBytes, SpellsOrder, OrdersAreRead, OrdersAreSpelled}
 use Rattle.role_lab.specs.Texts.{kind_word}
 use Rattle.role_lab.specs.declared.orders.Order.{Order}
@@ -163,7 +163,8 @@ module _ (s : Counts) (are : AreSizes s) (node : ℕ) (within : node < s.nodes) 
       (node_read s node are within)) refl
 
   order_of_line-named : (name text : List ℕ) → position_or_len is_space name ≡ length name
-      → bytes_eq name (codes "bytes") ≡ false → bytes_eq name (codes "give") ≡ false → bytes_eq name (codes "lie") ≡ false
+      → bytes_eq name (codes "bytes") ≡ false → bytes_eq name (codes "give") ≡ false
+      → bytes_eq name (codes "lie") ≡ false
       → order_of_line s (at_node name node text) ≡ order_at_node s name node text
   unfolding order_of_line named_order
   order_of_line-named name text plain no_bytes no_give no_lie =
@@ -242,7 +243,8 @@ module _ (s : Counts) (are : AreSizes s) (node : ℕ) (within : node < s.nodes) 
   issue_read : (c : Command) → IsCommand c → order_of_line s (at_node (codes "issue") node (spelling c))
       ≡ Some (Do (Issue node c))
   unfolding order_at_node
-  issue_read c is = order_of_line-named (codes "issue") (spelling c) refl refl refl refl ∙ rw (command_of-spelling c is) refl
+  issue_read c is =
+      order_of_line-named (codes "issue") (spelling c) refl refl refl refl ∙ rw (command_of-spelling c is) refl
 
 -- a line of two words
 named_line : (s : Counts) (name text : List ℕ) → position_or_len is_space name ≡ length name
