@@ -1,9 +1,9 @@
 -- A flush, packet by packet.
-use Rattle.std.proofs.Common.{◌≡◌, ℕ, zero, suc, ◌+◌, ◌-◌, ◌<◌, ◌≤◌, Bool, not, find, Option, Some, None, refl, sym, ap, ◌∙◌, arith, subst}
+use Rattle.std.proofs.Common.{◌≡◌, ℕ, zero, suc, ◌+◌, ◌-◌, ◌<◌, ◌≤◌, Bool, not, find, Option, Some, None, refl, sym, ap, ◌∙◌, arith}
 use Rattle.std.specs.Option.{option_map_or}
 use Rattle.std.specs.List.{range_with_len}
 use Rattle.byz_world.specs.declared.step.Step.TheVariants.{Give}
-use Rattle.role_lab.specs.Labs.{Lab, Flushed, pool_length, next_number, after_doing, flush_within, flush}
+use Rattle.role_lab.specs.Labs.{Lab, pool_length, next_number, after_doing, flush_within, flush}
 
 pub flush_within-over : (count : ℕ) (lab : Lab) → flush_within 0 count lab ≡ record { count = count; lab = lab }
 unfolding flush_within

@@ -1,5 +1,5 @@
 -- The sizes of a cluster stay, whatever a line asks; and no liar is too many.
-use Rattle.std.proofs.Common.{◌≡◌, ℕ, zero, suc, ◌+◌, ◌≤◌, ◌&&◌, false, nat_lt, Option, Some, None, refl, sym, ap, ◌∙◌, arith}
+use Rattle.std.proofs.Common.{◌≡◌, ℕ, zero, suc, ◌+◌, ◌&&◌, false, nat_lt, Option, Some, None, refl, sym, ap, ◌∙◌, arith}
 use Rattle.std.proofs.lemmas.Bool.{le-ltb}
 use Rattle.std.specs.Option.{option_map_or}
 use Rattle.std.specs.Ordering.{nat_cmp}
@@ -11,7 +11,7 @@ use Rattle.byz_world.specs.Steps.{after_step}
 use Rattle.byz_world.specs.Worlds.{WorldValue, too_many_lie}
 use Rattle.byz_world.specs.declared.step.Step.{Step}
 use Rattle.byz_world.specs.declared.step.Step.TheVariants.{Give}
-use Rattle.role_lab.specs.Labs.{Lab, Flushed, lab_sizes, next_number, after_doing, flush_within, after_order}
+use Rattle.role_lab.specs.Labs.{Lab, lab_sizes, next_number, after_doing, flush_within, after_order}
 use Rattle.role_lab.specs.declared.orders.Order.{Order}
 use Rattle.role_lab.specs.declared.orders.Order.TheVariants.{Do, Flush, Rest, Ask, Reach, Agree}
 

@@ -1,5 +1,5 @@
 -- No packet waits once a flush is over: each packet that is given is one more below the limit.
-use Rattle.std.proofs.Common.{◌≡◌, ℕ, zero, suc, ◌+◌, ◌*◌, ◌<◌, ◌≤◌, ◌==◌, Bool, true, false, cond, not, ◌||◌, nat_lt, List, [], ◌∷◌, ◌++◌, length, find, slice_get, Option, Some, None, option_map, Result, Ok, Err, refl, sym, ap, ◌∙◌, subst, arith, append-nil, length-append}
+use Rattle.std.proofs.Common.{◌≡◌, ℕ, zero, suc, ◌+◌, ◌*◌, ◌<◌, ◌≤◌, ◌==◌, Bool, true, false, cond, not, ◌||◌, [], ◌∷◌, ◌++◌, length, find, slice_get, Option, Some, None, Ok, Err, refl, sym, ap, ◌∙◌, subst, arith, append-nil, length-append}
 use Rattle.std.proofs.lemmas.Bool.{ltb-false, eqb-true, eqb-false, not-true}
 use Rattle.std.proofs.lemmas.Bool.Decides.{nat_tests}
 use Rattle.std.proofs.lemmas.Option.{same_Some, none-some}
@@ -13,12 +13,12 @@ use Rattle.role_node.specs.declared.event.Event.TheVariants as event
 use Rattle.byz_world.specs.declared.faults.WorldFault.TheVariants as fault
 use Rattle.byz_world.specs.Pools.{Sent, listed, messages, sends_next, pool}
 use Rattle.byz_world.specs.Runs.{Run}
-use Rattle.byz_world.specs.Steps.{Arrival, arrives, given, unless_pool_full, is_pool_full, recorded_pair, with_run, after_step}
+use Rattle.byz_world.specs.Steps.{Arrival, given, unless_pool_full, is_pool_full, recorded_pair, with_run, after_step}
 use Rattle.byz_world.specs.Worlds.{WorldValue, is_correct_in, node_in}
 use Rattle.byz_world.specs.declared.step.Step.TheVariants.{Give}
 use Rattle.byz_world.proofs.Exported.{messages-push}
-use Rattle.byz_world.proofs.Numbering.{pool-length}
-use Rattle.role_lab.specs.Labs.{Lab, pool_length, with_number, given_after, after_doing, next_number, flush_within, flush}
+use Rattle.byz_world.proofs.Exported.{pool-length}
+use Rattle.role_lab.specs.Labs.{Lab, pool_length, with_number, given_after, after_doing, next_number, flush_within}
 use Rattle.role_lab.specs.Laws.{IsWithinLimit, FlushLeavesNone}
 use Rattle.role_lab.proofs.Flagging.{find-range-none}
 use Rattle.role_lab.proofs.Stepping.{given-found}

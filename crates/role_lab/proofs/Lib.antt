@@ -2,6 +2,7 @@ pub mod LineNames
 pub mod LineNumbers
 pub mod Spelled
 pub mod SpelledSetups
+pub mod SpelledBytes
 pub mod SpelledOrders
 pub mod PlainLines
 pub mod Wording

@@ -1,5 +1,5 @@
 -- A line that is not bad is text.
-use Rattle.std.proofs.Common.{◌≡◌, ℕ, true, refl, ◌<◌, ◌≤◌, ◌^◌, nat_lt, List, ◌++◌, codes, Some, arith, subst, sym, append_assoc}
+use Rattle.std.proofs.Common.{◌≡◌, ℕ, true, refl, ◌<◌, ◌≤◌, ◌^◌, nat_lt, List, ◌++◌, codes, Some, arith, subst, sym}
 use Rattle.std.proofs.lemmas.Str.{IsUtf8-from_ascii}
 use Rattle.std.specs.List.{list_all}
 use Rattle.std.specs.Str.{IsUtf8}
@@ -16,11 +16,11 @@ use Rattle.role_sessions.specs.declared.event.ClientEvent.TheVariants.{Open, Act
 use Rattle.role_node.specs.declared.question.Question.{Question}
 use Rattle.role_node.specs.declared.question.Question.TheVariants.{Check, AssignedUsers, AssignedRoles, RolePermissions, UserPermissions, RoleOperations, UserOperations, SessionRoles, SessionPermissions}
 use Rattle.byz_world.specs.declared.step.Step.{Step}
-use Rattle.byz_world.specs.declared.step.Step.TheVariants.{Issue, Give, Lie, Client}
+use Rattle.byz_world.specs.declared.step.Step.TheVariants.{Issue, Give, Lie, Bytes, Client}
 use Rattle.role_lab.specs.Grammar.{sizes_of_line, take_of_line}
 use Rattle.role_lab.specs.Orders.{cluster_of_line, setup_of_line, order_of_line}
 use Rattle.role_lab.specs.Spellings.{sizes_spelling, said_spelling}
-use Rattle.role_lab.specs.OrderSpellings.{cluster_spelling, setup_spelling, at_node, packet_spelling, act_spelling, question_spelling, step_spelling, order_spelling, IsSetup, IsAct, IsQuestion, IsLie, IsStep, IsOrder}
+use Rattle.role_lab.specs.OrderSpellings.{cluster_spelling, setup_spelling, at_node, packet_spelling, act_spelling, question_spelling, bytes_spelling, step_spelling, order_spelling, IsSetup, IsAct, IsQuestion, IsLie, IsStep, IsOrder, SpellsOrder}
 use Rattle.role_lab.specs.Texts.{kind_word}
 use Rattle.role_lab.specs.declared.orders.Setup.{Setup}
 use Rattle.role_lab.specs.declared.orders.Setup.TheVariants.{Owned, Liar}
@@ -28,6 +28,7 @@ use Rattle.role_lab.specs.declared.orders.Order.{Order}
 use Rattle.role_lab.specs.declared.orders.Order.TheVariants.{Do, Flush, Rest, Ask, Reach, Agree}
 use Rattle.role_lab.proofs.LineNumbers.{two_text, three_text}
 use Rattle.role_lab.proofs.Spelled.{sizes_of_line_spelled, take_of_line_spelled}
+use Rattle.role_lab.proofs.SpelledBytes.{bytes_text, spelling_spells}
 use Rattle.role_lab.proofs.SpelledOrders.{order_of_line_spelled}
 use Rattle.role_lab.proofs.SpelledSetups.{cluster_of_line_spelled, setup_of_line_spelled}
 
@@ -102,6 +103,9 @@ step_text : (s : Counts) (step : Step) → s.nodes ≤ 64 → IsStep s step → 
 step_text s (Issue node c) few is = at_node_text node (omega (arith, is.0)) (codes "issue") _ refl (command_text c is.1)
 step_text s (Give k) few is = word_text (codes "give ") refl then number k (omega arith)
 step_text s (Lie p) few is = word_text (codes "lie ") refl then packet_text s p few is
+step_text s (Bytes to bytes) few is =
+    at_node_text to (omega (arith, is.0)) (codes "bytes") (bytes_spelling bytes) refl
+    (bytes_text (bytes_spelling bytes) bytes (spelling_spells bytes is.1))
 step_text s (Client node act) few is = act_text node (omega (arith, is.0)) act is.1
 
 order_text : (s : Counts) (order : Order) → s.nodes ≤ 64 → IsOrder s order → Ascii (order_spelling order)
@@ -114,6 +118,13 @@ order_text s (Reach node owner) few is =
 order_text s (Agree one other owner) few is =
     at_node_text one (omega (arith, is.0)) (codes "agree") _ refl
     (two_text other owner (omega (arith, is.1)) (omega (arith, is.2)))
+
+order_line_text : (s : Counts) (line : List ℕ) (order : Order) → s.nodes ≤ 64 → IsOrder s order → SpellsOrder order line
+    → Ascii line
+order_line_text s line (Do (Bytes to bytes)) few is spells =
+    subst Ascii (sym spells.1)
+    (at_node_text to (omega (arith, is.0)) (codes "bytes") spells.0 refl (bytes_text spells.0 bytes spells.2))
+order_line_text s line order few is spells = subst Ascii (sym spells) (order_text s order few is)
 
 setup_text : (s : Counts) (setup : Setup) → s.nodes ≤ 64 → IsSetup s setup → Ascii (setup_spelling setup)
 setup_text s (Owned role owner) few is =
@@ -137,5 +148,5 @@ setup_line-text s line setup are e =
 pub order_line-text : (s : Counts) (line : List ℕ) (order : Order) → AreSizes s → order_of_line s line ≡ Some order
     → IsUtf8 line
 order_line-text s line order are e =
-    let (line_is, is) = order_of_line_spelled s line order e in
-    subst IsUtf8 (sym line_is) (IsUtf8-from_ascii _ (order_text s order are.0 is).is)
+    let (spells, is) = order_of_line_spelled s line order e in
+    IsUtf8-from_ascii line (order_line_text s line order are.0 is spells).is

@@ -1,5 +1,5 @@
 -- A script that was run so far, and how it ends.
-use Rattle.std.proofs.Common.{◌≡◌, ℕ, ◌+◌, ◌-◌, ◌^◌, ◌<◌, ◌≤◌, Bool, true, false, List, [], ◌++◌, length, Option, Some, None, Result, Ok, Err, sym, refl, ap, ◌∙◌, subst, arith}
+use Rattle.std.proofs.Common.{◌≡◌, ℕ, ◌+◌, ◌-◌, ◌^◌, ◌≤◌, Bool, true, false, List, [], ◌++◌, Option, Some, None, Ok, Err, sym, refl, subst, arith}
 use Rattle.std.proofs.KnownBytes.{Appends-trans}
 use Rattle.std.specs.Io.KnownBytes.{Appends, IsAtEnd, prepend_known}
 use Rattle.link_frames.specs.Blocks.{ReadAhead}
@@ -9,13 +9,12 @@ use Rattle.link_frames.specs.Lines.{ended}
 use Rattle.link_frames.specs.Watching.{Tally}
 use Rattle.link_frames.specs.declared.blocks.AheadFault.{AheadFault}
 use Rattle.link_frames.specs.declared.blocks.AheadFault.TheVariants as ahead
-use Rattle.link_frames.proofs.Exported.{Ran, Ran-start, Ran-moved, Ran-front, Ran-good, Ran-text, Ran-number, Ended, Ended-whole, Ended-front, WentOn-nothing, WentOn-trans, AppendsFront-nothing}
+use Rattle.link_frames.proofs.Exported.{Ran, Ran-start, Ran-moved, Ran-front, Ran-good, Ran-text, Ran-number, Ended, Ended-whole, WentOn-nothing, WentOn-trans, AppendsFront-nothing}
 use Rattle.role_lab.specs.Runs.{ScriptRan, IsEndless}
 use Rattle.role_lab.specs.Scripts.{Script, Unread, next, script_text}
 use Rattle.role_lab.specs.Stages.{Follows}
 use Rattle.role_lab.specs.Statuses.{of_ahead_fault}
 use Rattle.role_lab.specs.Steps.{Holds}
-use Rattle.role_lab.specs.declared.fault.ScriptFault.{ScriptFault}
 use Rattle.role_lab.specs.declared.fault.ScriptFault.TheVariants.{BadScript, Device, Memory}
 use Rattle.role_lab.specs.declared.run.Took.{Took}
 use Rattle.role_lab.specs.declared.stage.Stage.{Stage}

@@ -1,6 +1,6 @@
 -- A later line of a cluster has one spelling.
-use Rattle.std.proofs.Common.{◌≡◌, ℕ, Bool, true, false, not, ◌&&◌, ◌==◌, cond, if◌then◌else◌, ◌<◌, ◌^◌, List, ◌∷◌, ◌++◌, length, codes, Option, Some, None, option_map, option_and_then, sym, refl, ap, arith, ◌∙◌, append_assoc, subst, eqb-true}
-use Rattle.std.proofs.lemmas.Bool.{eq-eqb, ne_eqb}
+use Rattle.std.proofs.Common.{◌≡◌, ℕ, Bool, true, false, not, ◌&&◌, ◌==◌, cond, if◌then◌else◌, ◌<◌, List, ◌∷◌, ◌++◌, length, codes, Option, Some, None, sym, refl, ap, arith, ◌∙◌, append_assoc, subst, eqb-true}
+use Rattle.std.proofs.lemmas.Bool.{eq-eqb}
 use Rattle.std.proofs.lemmas.Option.{option_and_then_some, same_Some, none-some}
 use Rattle.std.proofs.lemmas.Slice.Eq.{bytes_eq-Decides}
 use Rattle.std.specs.Fmt.{decimal}
@@ -8,12 +8,13 @@ use Rattle.std.specs.List.{position_or_len}
 use Rattle.std.specs.Str.{bytes_eq}
 use Rattle.quorum_sizes.specs.Sizes.{Counts, AreSizes}
 use Rattle.role_commands.specs.Numbers.{is_space, split_word, narrow_number, wide_number}
+use Rattle.role_commands.specs.Bytes.{IsBytes}
 use Rattle.role_commands.specs.Reading.{command_of}
 use Rattle.role_commands.specs.Words.{spelling, IsCommand}
 use Rattle.role_commands.specs.declared.command.Command.{Command}
 use Rattle.role_commands.proofs.Exported.{split_word-word, split_word-joined, wide_read, long_read, narrow_read, wide_spelled, narrow_spelled, long_spelled, if_else, mapped, by_name, by_name_made, command_of-spelling, command_of_spelled}
 use Rattle.link_frames.specs.Kinds.{same_kind}
-use Rattle.link_frames.specs.Packets.{PacketValue, IsPacket, SentByOwner, packet_of, packet_due}
+use Rattle.link_frames.specs.Packets.{PacketValue, SentByOwner, packet_of, packet_due}
 use Rattle.link_frames.specs.declared.kind.Kind.{Kind}
 use Rattle.link_frames.specs.declared.kind.Kind.TheVariants.{Send, Echo, Ready}
 use Rattle.link_frames.specs.declared.packet.Message.{Message}
@@ -22,12 +23,13 @@ use Rattle.role_sessions.specs.declared.event.ClientEvent.TheVariants.{Open, Act
 use Rattle.role_node.specs.declared.question.Question.{Question}
 use Rattle.role_node.specs.declared.question.Question.TheVariants.{Check, AssignedUsers, AssignedRoles, RolePermissions, UserPermissions, RoleOperations, UserOperations, SessionRoles, SessionPermissions}
 use Rattle.byz_world.specs.declared.step.Step.{Step}
-use Rattle.byz_world.specs.declared.step.Step.TheVariants.{Issue, Give, Lie, Client}
-use Rattle.role_lab.specs.Orders.{node_number, kind_of, then_rest, session_and_user, session_user_and_role, access_of, role_operations_of, user_operations_of, named_listing, listing_of, lie_of, agreement_of, order_at_node, order_of_node, named_order, order_of_line}
-use Rattle.role_lab.specs.OrderSpellings.{at_node, two_numbers, three_numbers, packet_spelling, act_spelling, question_spelling, step_spelling, order_spelling, IsAct, IsQuestion, IsLie, IsStep, IsOrder, OrdersAreRead, OrdersAreSpelled}
+use Rattle.byz_world.specs.declared.step.Step.TheVariants.{Issue, Give, Lie, Bytes, Client}
+use Rattle.role_lab.specs.Orders.{node_number, kind_of, session_and_user, session_user_and_role, access_of, role_operations_of, user_operations_of, named_listing, listing_of, lie_of, agreement_of, order_at_node, order_of_node, named_order, bytes_order, order_of_line}
+use Rattle.role_lab.specs.OrderSpellings.{at_node, two_numbers, three_numbers, packet_spelling, act_spelling, question_spelling, step_spelling, order_spelling, IsAct, IsQuestion, IsLie, IsStep, IsOrder, bytes_spelling, SpellsBytes, SpellsOrder, OrdersAreRead, OrdersAreSpelled}
 use Rattle.role_lab.specs.Texts.{kind_word}
 use Rattle.role_lab.specs.declared.orders.Order.{Order}
 use Rattle.role_lab.specs.declared.orders.Order.TheVariants.{Do, Flush, Rest, Ask, Reach, Agree}
+use Rattle.role_lab.proofs.SpelledBytes.{bytes_read, bytes_spelled, spelling_spells}
 use Rattle.role_lab.proofs.LineNames.{node_read, node_spelled, node_rest_spelled, kind_read, plain_kind, kind_spelled, then_rest-word, then_rest-decimal, then_rest_is}
 use Rattle.role_lab.proofs.LineNumbers.{at_node-grouped, two_numbers-grouped, narrow_rest_spelled, joined, session_and_user-numbers, session_user_and_role-numbers, access_of-numbers, role_operations_of-numbers, user_operations_of-numbers, session_and_user_spelled, session_user_and_role_spelled, access_of_spelled, role_operations_of_spelled, user_operations_of_spelled}
 
@@ -161,29 +163,30 @@ module _ (s : Counts) (are : AreSizes s) (node : ℕ) (within : node < s.nodes) 
       (node_read s node are within)) refl
 
   order_of_line-named : (name text : List ℕ) → position_or_len is_space name ≡ length name
-      → bytes_eq name (codes "give") ≡ false → bytes_eq name (codes "lie") ≡ false
+      → bytes_eq name (codes "bytes") ≡ false → bytes_eq name (codes "give") ≡ false
+      → bytes_eq name (codes "lie") ≡ false
       → order_of_line s (at_node name node text) ≡ order_at_node s name node text
   unfolding order_of_line named_order
-  order_of_line-named name text plain no_give no_lie =
+  order_of_line-named name text plain no_bytes no_give no_lie =
       let line = name ++ (32 ∷ (decimal node ++ (32 ∷ text))) in
       let words = split_word-word name (decimal node ++ (32 ∷ text)) plain in
       let no_flush = one_word line (codes "flush") (name, decimal node ++ (32 ∷ text)) no_space_flush words in
       let no_rest = one_word line (codes "rest") (name, decimal node ++ (32 ∷ text)) no_space_rest words in
       ap (order_of_line s) (at_node-grouped name node text)
-      ∙ rw (no_flush, no_rest) (rw words (rw (no_give, no_lie) (order_of_node-read name text)))
+      ∙ rw (no_flush, no_rest) (rw words (rw (no_bytes, no_give, no_lie) (order_of_node-read name text)))
 
   act_read : (act : ClientEvent) → IsAct act → order_of_line s (act_spelling node act) ≡ Some (Do (Client node act))
   unfolding order_at_node
-  act_read (Open user) is = order_of_line-named (codes "open") (decimal user) refl refl refl
+  act_read (Open user) is = order_of_line-named (codes "open") (decimal user) refl refl refl refl
       ∙ rw (wide_read user is) refl
   act_read (Activate session user role) is =
-      order_of_line-named (codes "activate") (three_numbers session user role) refl refl refl
+      order_of_line-named (codes "activate") (three_numbers session user role) refl refl refl refl
       ∙ rw (session_user_and_role-numbers session user role is.0 is.1 is.2) refl
   act_read (DropRole session user role) is =
-      order_of_line-named (codes "drop") (three_numbers session user role) refl refl refl
+      order_of_line-named (codes "drop") (three_numbers session user role) refl refl refl refl
       ∙ rw (session_user_and_role-numbers session user role is.0 is.1 is.2) refl
   act_read (Close session user) is =
-      order_of_line-named (codes "close") (two_numbers session user) refl refl refl
+      order_of_line-named (codes "close") (two_numbers session user) refl refl refl refl
       ∙ rw (session_and_user-numbers session user is.0 is.1) refl
 
   listing_read : (name text : List ℕ) (q : Question) → position_or_len is_space name ≡ length name
@@ -191,14 +194,14 @@ module _ (s : Counts) (are : AreSizes s) (node : ℕ) (within : node < s.nodes) 
       ≡ Some (Ask node q)
   unfolding order_at_node listing_of
   listing_read name text q plain is =
-      order_of_line-named (codes "list") (name ++ (32 ∷ text)) refl refl refl
+      order_of_line-named (codes "list") (name ++ (32 ∷ text)) refl refl refl refl
       ∙ rw (split_word-word name text plain) (rw is refl)
 
   question_read : (q : Question) → IsQuestion q → order_of_line s (question_spelling node q) ≡ Some (Ask node q)
   unfolding order_at_node named_listing
   question_read (Check session user operation object) is =
       order_of_line-named (codes "check") (decimal session ++ codes " " ++ three_numbers user operation object) refl
-      refl refl
+      refl refl refl
       ∙ rw (access_of-numbers session user operation object is.0 is.1 is.2 is.3) refl
   question_read (AssignedUsers role) is =
       listing_read (codes "users") (decimal role) (AssignedUsers role) refl (rw (narrow_read role is) refl)
@@ -225,13 +228,13 @@ module _ (s : Counts) (are : AreSizes s) (node : ℕ) (within : node < s.nodes) 
       ≡ Some (Reach node owner)
   unfolding order_at_node
   reach_read owner inside =
-      order_of_line-named (codes "reach") (decimal owner) refl refl refl ∙ rw (node_read s owner are inside) refl
+      order_of_line-named (codes "reach") (decimal owner) refl refl refl refl ∙ rw (node_read s owner are inside) refl
 
   agree_read : (other owner : ℕ) → other < s.nodes → owner < s.nodes
       → order_of_line s (at_node (codes "agree") node (two_numbers other owner)) ≡ Some (Agree node other owner)
   unfolding order_at_node agreement_of
   agree_read other owner other_in owner_in =
-      order_of_line-named (codes "agree") (two_numbers other owner) refl refl refl
+      order_of_line-named (codes "agree") (two_numbers other owner) refl refl refl refl
       ∙ ap (agreement_of s node) (two_numbers-grouped other owner)
       ∙ rw (then_rest-decimal (node_number s) other other (decimal owner) (omega (arith, are.0, other_in))
       (node_read s other are other_in))
@@ -240,34 +243,58 @@ module _ (s : Counts) (are : AreSizes s) (node : ℕ) (within : node < s.nodes) 
   issue_read : (c : Command) → IsCommand c → order_of_line s (at_node (codes "issue") node (spelling c))
       ≡ Some (Do (Issue node c))
   unfolding order_at_node
-  issue_read c is = order_of_line-named (codes "issue") (spelling c) refl refl refl ∙ rw (command_of-spelling c is) refl
+  issue_read c is =
+      order_of_line-named (codes "issue") (spelling c) refl refl refl refl ∙ rw (command_of-spelling c is) refl
 
 -- a line of two words
 named_line : (s : Counts) (name text : List ℕ) → position_or_len is_space name ≡ length name
-    → order_of_line s (name ++ (32 ∷ text)) ≡ named_order s name text
+    → bytes_eq name (codes "bytes") ≡ false → order_of_line s (name ++ (32 ∷ text)) ≡ named_order s name text
 unfolding order_of_line
-named_line s name text plain =
+named_line s name text plain no_bytes =
     let words = split_word-word name text plain in
     let no_flush = one_word (name ++ (32 ∷ text)) (codes "flush") (name, text) no_space_flush words in
     let no_rest = one_word (name ++ (32 ∷ text)) (codes "rest") (name, text) no_space_rest words in
-    rw (no_flush, no_rest) (rw words refl)
+    rw (no_flush, no_rest) (rw words (rw no_bytes refl))
+
+-- bytes, in any of their spellings
+bytes_line : (s : Counts) (to : ℕ) (bytes word : List ℕ) → AreSizes s → to < s.nodes → IsBytes bytes
+    → SpellsBytes bytes word → order_of_line s (at_node (codes "bytes") to word) ≡ Some (Do (Bytes to bytes))
+unfolding order_of_line bytes_order
+bytes_line s to bytes word are within fits spells =
+    let text = decimal to ++ (32 ∷ word) in
+    let line = codes "bytes" ++ (32 ∷ text) in
+    let words = split_word-word (codes "bytes") text refl in
+    let no_flush = one_word line (codes "flush") (codes "bytes", text) no_space_flush words in
+    let no_rest = one_word line (codes "rest") (codes "bytes", text) no_space_rest words in
+    ap (order_of_line s) (at_node-grouped (codes "bytes") to word)
+    ∙ rw (no_flush, no_rest) (rw words (rw (then_rest-decimal (node_number s) to to word (omega (arith, are.0, within))
+    (node_read s to are within)) (rw (bytes_read word bytes fits spells) refl)))
 
 step_read : (s : Counts) (step : Step) → AreSizes s → IsStep s step → order_of_line s (step_spelling step)
     ≡ Some (Do step)
 unfolding named_order
 step_read s (Issue node c) are is = issue_read s are node is.0 c is.1
-step_read s (Give number) are is = named_line s (codes "give") (decimal number) refl ∙ rw (wide_read number is) refl
-step_read s (Lie p) are is = named_line s (codes "lie") (packet_spelling p) refl ∙ rw (lie_read s p are is) refl
+step_read s (Give number) are is =
+    named_line s (codes "give") (decimal number) refl refl ∙ rw (wide_read number is) refl
+step_read s (Lie p) are is = named_line s (codes "lie") (packet_spelling p) refl refl ∙ rw (lie_read s p are is) refl
+step_read s (Bytes to bytes) are is =
+    bytes_line s to bytes (bytes_spelling bytes) are is.0 is.1 (spelling_spells bytes is.1)
 step_read s (Client node act) are is = act_read s are node is.0 act is.1
 
-pub order_of_line-spelling : OrdersAreRead
+order_read : (s : Counts) (order : Order) → AreSizes s → IsOrder s order → order_of_line s (order_spelling order)
+    ≡ Some order
 unfolding order_of_line
-order_of_line-spelling s (Do step) are is = step_read s step are is
-order_of_line-spelling s Flush are is = refl
-order_of_line-spelling s Rest are is = refl
-order_of_line-spelling s (Ask node q) are is = question_read s are node is.0 q is.1
-order_of_line-spelling s (Reach node owner) are is = reach_read s are node is.0 owner is.1
-order_of_line-spelling s (Agree one other owner) are is = agree_read s are one is.0 other owner is.1 is.2
+order_read s (Do step) are is = step_read s step are is
+order_read s Flush are is = refl
+order_read s Rest are is = refl
+order_read s (Ask node q) are is = question_read s are node is.0 q is.1
+order_read s (Reach node owner) are is = reach_read s are node is.0 owner is.1
+order_read s (Agree one other owner) are is = agree_read s are one is.0 other owner is.1 is.2
+
+pub order_of_line-spelling : OrdersAreRead
+order_of_line-spelling s line (Do (Bytes to bytes)) are is spells =
+    ap (order_of_line s) spells.1 ∙ bytes_line s to bytes spells.0 are is.0 is.1 spells.2
+order_of_line-spelling s line order are is spells = ap (order_of_line s) spells ∙ order_read s order are is
 
 -- ---- writing what was read
 
@@ -446,18 +473,41 @@ module _ (s : Counts) (text : List ℕ) where
       by_name_made P _ _ _ _ _ order e give_ordered
       (λ e1. by_name_made P _ _ _ _ _ order e1 lie_ordered (node_ordered name order))
 
+bytes_said : (s : Counts) (text : List ℕ) (order : Order) → bytes_order s text ≡ Some order
+    → SpellsOrder order (codes "bytes" ++ (32 ∷ text)) × IsOrder s order
+unfolding bytes_order
+bytes_said s text order e =
+    option_and_then_some _ _ _ e
+    (λ to is_to read.
+    let (cut, within) = node_rest_spelled s text to is_to in
+    let (bytes, is_bytes, made) = mapped _ _ _ read in
+    let (spells, are) = bytes_spelled to.1 bytes is_bytes in
+    let line_is : codes "bytes" ++ (32 ∷ text) ≡ at_node (codes "bytes") to.0 to.1 =
+    ap (λ (w : List ℕ). codes "bytes" ++ (32 ∷ w)) cut ∙ sym (at_node-grouped (codes "bytes") to.0 to.1) in
+    subst (λ (o : Order). SpellsOrder o (codes "bytes" ++ (32 ∷ text)) × IsOrder s o) made
+    ((to.1, line_is, spells), (within, are)))
+
+-- an order's own spelling spells it
+own_spelling : (s : Counts) (line : List ℕ) (order : Order) → IsOrder s order → line ≡ order_spelling order
+    → SpellsOrder order line
+own_spelling s line (Do (Bytes to bytes)) is e = (bytes_spelling bytes, e, spelling_spells bytes is.1)
+own_spelling s line order is e = e
+
 pub order_of_line_spelled : OrdersAreSpelled
 unfolding order_of_line
 order_of_line_spelled s line order e =
-    if_else _ _ _ order e (alone (codes "flush") Flush refl tt)
-    (λ e1. if_else _ _ _ order e1 (alone (codes "rest") Rest refl tt)
+    if_else _ _ _ order e (alone (codes "flush") Flush (λ h. h) tt)
+    (λ e1. if_else _ _ _ order e1 (alone (codes "rest") Rest (λ h. h) tt)
     (λ at. option_and_then_some _ _ _ at
     (λ words cut read.
-    let ordered = named_ordered s words.1 words.0 order read in
-    (split_word-joined line words cut ∙ ordered.line_is, ordered.is))))
+    subst (λ (w : List ℕ). SpellsOrder order w × IsOrder s order) (sym (split_word-joined line words cut))
+    (by_name (λ (name : List ℕ) (o : Order). SpellsOrder o (name ++ (32 ∷ words.1)) × IsOrder s o)
+    words.0 (codes "bytes") _ _ order read (bytes_said s words.1 order)
+    (λ others. let ordered = named_ordered s words.1 words.0 order others in
+    (own_spelling s _ order ordered.is ordered.line_is, ordered.is))))))
   where
-    alone : (word : List ℕ) (o : Order) → word ≡ order_spelling o → IsOrder s o → bytes_eq line word ≡ true
-        → ◌≡◌ {A = Option Order} (Some o) (Some order) → (line ≡ order_spelling order) × IsOrder s order
-    alone word o named is same some =
-        let made : o ≡ order = same_Some o order some in
-        ((bytes_eq-Decides line word).0 same ∙ named ∙ ap order_spelling made, subst (IsOrder s) made is)
+    alone : (word : List ℕ) (o : Order) → (line ≡ word → SpellsOrder o line) → IsOrder s o → bytes_eq line word ≡ true
+        → ◌≡◌ {A = Option Order} (Some o) (Some order) → SpellsOrder order line × IsOrder s order
+    alone word o spells is same some =
+        subst (λ (p : Order). SpellsOrder p line × IsOrder s p) (same_Some o order some)
+        (spells ((bytes_eq-Decides line word).0 same), is)

@@ -1,5 +1,5 @@
 -- The first line of a cluster, and the lines of its roles and liars, have one spelling.
-use Rattle.std.proofs.Common.{◌≡◌, ℕ, ◌<◌, ◌^◌, List, ◌∷◌, ◌++◌, drop, codes, Option, Some, option_and_then, sym, refl, ap, arith, ◌∙◌, append_assoc, subst}
+use Rattle.std.proofs.Common.{◌≡◌, ℕ, ◌<◌, ◌^◌, List, ◌∷◌, ◌++◌, drop, codes, Some, sym, refl, ap, ◌∙◌, append_assoc, subst}
 use Rattle.std.proofs.lemmas.Option.{option_and_then_some, none-some}
 use Rattle.std.specs.Fmt.{decimal}
 use Rattle.quorum_sizes.specs.Sizes.{Counts, AreSizes}

@@ -1,5 +1,5 @@
 -- The steps of a world, as a script takes them.
-use Rattle.std.proofs.Common.{◌≡◌, ℕ, ◌<◌, Bool, true, false, cond, nat_lt, List, [], ◌∷◌, ◌++◌, Option, Some, None, Result, Ok, Err, refl, sym, ap, ◌∙◌}
+use Rattle.std.proofs.Common.{◌≡◌, ℕ, ◌<◌, false, cond, List, Some, None, Result, Ok, Err, refl, sym, ap, ◌∙◌}
 use Rattle.std.specs.Prelude.{IfOk, OnOk}
 use Rattle.std.specs.Option.{option_map_or}
 use Rattle.std.proofs.lemmas.Bool.{lt-ltb, true≢false}
@@ -7,19 +7,18 @@ use Rattle.role_node.specs.Listed.{IsWithin, answer_after}
 use Rattle.role_node.specs.Questions.{IsAnswerTo}
 use Rattle.role_node.specs.declared.question.Answer.{Answer}
 use Rattle.role_node.specs.declared.question.Question.{Question}
-use Rattle.role_node.proofs.ListedLemmas.{one_answer}
+use Rattle.role_node.proofs.Exported.{one_answer}
 use Rattle.byz_world.specs.Asking.{question_due, IsQuestionAnswer}
 use Rattle.byz_world.specs.Faults.{world_fault_text}
 use Rattle.byz_world.specs.Runs.{history_of}
-use Rattle.byz_world.specs.Steps.{step_due, after_step, IsStepAnswer}
+use Rattle.byz_world.specs.Steps.{after_step, IsStepAnswer}
 use Rattle.byz_world.specs.Worlds.{WorldValue}
 use Rattle.byz_world.specs.declared.faults.WorldFault.{WorldFault}
 use Rattle.byz_world.specs.declared.faults.WorldFault.TheVariants as fault
 use Rattle.byz_world.specs.declared.step.Step.{Step}
 use Rattle.byz_world.specs.declared.step.Step.TheVariants.{Give}
-use Rattle.byz_world.specs.declared.step.StepReply.{StepReply}
 use Rattle.role_lab.specs.Labs.{Lab, pool_length, with_number, given_after}
-use Rattle.role_lab.specs.OrderTexts.{step_text, answer_text, asked_text}
+use Rattle.role_lab.specs.OrderTexts.{answer_text, asked_text}
 use Rattle.role_lab.specs.Inside.{is_want_of_memory}
 use Rattle.byz_world.proofs.Exported.{refused_after}
 
@@ -80,6 +79,7 @@ asked_err bytes w node q f (Ok t) is other told =
     refused fault.NoSuchPacket is other = absurd is
     refused fault.NotSent is other = absurd is
     refused fault.PoolFull is other = absurd is
+    refused (fault.Link g) is other = absurd is
     refused (fault.Node g) is other = absurd is
     refused fault.NoSession is other = is
     refused fault.Memory is other = absurd (other refl)

@@ -5,7 +5,7 @@ use Rattle.bracha_instance.specs.Broadcast.{Take}
 use Rattle.byz_world.specs.declared.faults.WorldFault.{WorldFault}
 use Rattle.byz_world.specs.declared.faults.WorldFault.TheVariants as fault
 use Rattle.byz_world.specs.declared.step.Step.{Step}
-use Rattle.byz_world.specs.declared.step.Step.TheVariants.{Issue, Give, Lie, Client}
+use Rattle.byz_world.specs.declared.step.Step.TheVariants.{Issue, Give, Lie, Bytes, Client}
 use Rattle.role_lab.specs.Flags.{flagged}
 use Rattle.role_lab.specs.Labs as labs
 use Rattle.role_lab.specs.declared.given.Given.{Given}
@@ -26,6 +26,7 @@ abbrev pub packet_given : Step → Option ℕ
 packet_given (Give number) = Some number
 packet_given (Issue node command) = None
 packet_given (Lie packet) = None
+packet_given (Bytes to bytes) = None
 packet_given (Client node act) = None
 
 -- the owner whose reach is asked for is a node of these sizes
@@ -47,6 +48,7 @@ is_want_of_memory fault.NotCorrect = false
 is_want_of_memory fault.NoSuchPacket = false
 is_want_of_memory fault.NotSent = false
 is_want_of_memory fault.PoolFull = false
+is_want_of_memory (fault.Link f) = false
 is_want_of_memory (fault.Node f) = false
 is_want_of_memory fault.NoSession = false
 is_want_of_memory fault.Memory = true

@@ -1,5 +1,5 @@
 -- A cluster as a script runs it: the world, and which packets of its pool were given.
-use Rattle.std.specs.Prelude.{ℕ, zero, suc, ◌+◌, ◌==◌, Bool, false, not, ◌||◌, nat_lt, if◌then◌else◌, length, find, Option, Some, None}
+use Rattle.std.specs.Prelude.{ℕ, zero, suc, ◌+◌, ◌==◌, Bool, false, not, ◌||◌, nat_lt, if◌then◌else◌, length, find, Option}
 use Rattle.std.specs.List.{range_with_len}
 use Rattle.std.specs.Option.{option_map_or}
 use Rattle.quorum_sizes.specs.Sizes.{Counts}
@@ -10,7 +10,7 @@ use Rattle.byz_world.specs.Pools.{pool}
 use Rattle.byz_world.specs.Steps.{after_step}
 use Rattle.byz_world.specs.Worlds.{WorldValue, new_world}
 use Rattle.byz_world.specs.declared.step.Step.{Step}
-use Rattle.byz_world.specs.declared.step.Step.TheVariants.{Issue, Give, Lie, Client}
+use Rattle.byz_world.specs.declared.step.Step.TheVariants.{Issue, Give, Lie, Bytes, Client}
 use Rattle.role_lab.specs.declared.orders.Order.{Order}
 use Rattle.role_lab.specs.declared.orders.Order.TheVariants.{Do, Flush, Rest, Ask, Reach, Agree}
 
@@ -47,6 +47,7 @@ given_after lab (Give number) = if nat_lt number (pool_length lab.world) then wi
     else lab.given
 given_after lab (Issue node command) = lab.given
 given_after lab (Lie packet) = lab.given
+given_after lab (Bytes to bytes) = lab.given
 given_after lab (Client node act) = lab.given
 
 -- after a step

@@ -1,7 +1,10 @@
 -- How the lines of a script of a cluster are written, and what reading and writing them are to each other.
-use Rattle.std.specs.Prelude.{◌≡◌, ℕ, ◌<◌, ◌^◌, ⊤, List, ◌++◌, codes, Some}
+use Rattle.std.specs.Prelude.{◌≡◌, ℕ, ◌<◌, ◌^◌, ⊤, List, [], ◌∷◌, ◌++◌, codes, Some}
 use Rattle.std.specs.Fmt.{decimal}
+use Rattle.std.specs.Str.{str_to_ascii_lowercase}
+use Rattle.hex.specs.Hex.{encode_lower}
 use Rattle.quorum_sizes.specs.Sizes.{Counts, AreSizes}
+use Rattle.role_commands.specs.Bytes.{IsBytes}
 use Rattle.role_commands.specs.Words.{spelling, IsCommand}
 use Rattle.link_frames.specs.Packets.{PacketValue, IsPacket}
 use Rattle.role_sessions.specs.declared.event.ClientEvent.{ClientEvent}
@@ -9,7 +12,7 @@ use Rattle.role_sessions.specs.declared.event.ClientEvent.TheVariants.{Open, Act
 use Rattle.role_node.specs.declared.question.Question.{Question}
 use Rattle.role_node.specs.declared.question.Question.TheVariants.{Check, AssignedUsers, AssignedRoles, RolePermissions, UserPermissions, RoleOperations, UserOperations, SessionRoles, SessionPermissions}
 use Rattle.byz_world.specs.declared.step.Step.{Step}
-use Rattle.byz_world.specs.declared.step.Step.TheVariants.{Issue, Give, Lie, Client}
+use Rattle.byz_world.specs.declared.step.Step.TheVariants.{Issue, Give, Lie, Bytes, Client}
 use Rattle.role_lab.specs.Texts.{kind_word}
 use Rattle.role_lab.specs.Orders.{cluster_of_line, setup_of_line, order_of_line}
 use Rattle.role_lab.specs.declared.orders.Setup.{Setup}
@@ -65,11 +68,17 @@ question_spelling node (SessionRoles session) = at_node (codes "list") node (cod
 question_spelling node (SessionPermissions session) =
     at_node (codes "list") node (codes "session-permissions " ++ decimal session)
 
+-- `-` for no bytes, else two digits for each, the letters among them in lower case
+abbrev pub bytes_spelling : List ℕ → List ℕ
+bytes_spelling [] = codes "-"
+bytes_spelling (b ∷ rest) = encode_lower (b ∷ rest)
+
 -- what happens to the cluster
 abbrev pub step_spelling : Step → List ℕ
 step_spelling (Issue node command) = at_node (codes "issue") node (spelling command)
 step_spelling (Give number) = codes "give " ++ decimal number
 step_spelling (Lie p) = codes "lie " ++ packet_spelling p
+step_spelling (Bytes to bytes) = at_node (codes "bytes") to (bytes_spelling bytes)
 step_spelling (Client node act) = act_spelling node act
 
 -- a later line of a cluster
@@ -80,6 +89,19 @@ order_spelling Rest = codes "rest"
 order_spelling (Ask node question) = question_spelling node question
 order_spelling (Reach node owner) = at_node (codes "reach") node (decimal owner)
 order_spelling (Agree one other owner) = at_node (codes "agree") one (two_numbers other owner)
+
+-- the word spells these bytes: its letters may be of either case
+abbrev pub SpellsBytes : List ℕ → List ℕ → Type 0
+SpellsBytes bytes word = str_to_ascii_lowercase word ≡ bytes_spelling bytes
+
+-- the line spells this order: each order has one line, but for the case of the letters among hexadecimal digits
+abbrev pub SpellsStep : Step → List ℕ → Type 0
+SpellsStep (Bytes to bytes) line = (word : List ℕ) × (line ≡ at_node (codes "bytes") to word) × SpellsBytes bytes word
+SpellsStep step line = line ≡ step_spelling step
+
+abbrev pub SpellsOrder : Order → List ℕ → Type 0
+SpellsOrder (Do step) line = SpellsStep step line
+SpellsOrder order line = line ≡ order_spelling order
 
 -- roles have 16 bits, and the owner that is named with one has 8
 abbrev pub IsSetup : Counts → Setup → Type 0
@@ -116,6 +138,7 @@ abbrev pub IsStep : Counts → Step → Type 0
 IsStep s (Issue node command) = (node < s.nodes) × IsCommand command
 IsStep s (Give number) = number < 2 ^ 32
 IsStep s (Lie p) = IsLie s p
+IsStep s (Bytes to bytes) = (to < s.nodes) × IsBytes bytes
 IsStep s (Client node act) = (node < s.nodes) × IsAct act
 
 -- what has a line in a script of these sizes
@@ -145,12 +168,13 @@ SetupsAreSpelled =
     (s : Counts) (line : List ℕ) (setup : Setup) → setup_of_line s line ≡ Some setup →
     (line ≡ setup_spelling setup) × IsSetup s setup
 
--- the same of what a later line asks
+-- the same of what a later line asks: each line that spells an order is read as it, and no other line
 abbrev pub OrdersAreRead : Type 0
 OrdersAreRead =
-    (s : Counts) (order : Order) → AreSizes s → IsOrder s order → order_of_line s (order_spelling order) ≡ Some order
+    (s : Counts) (line : List ℕ) (order : Order) → AreSizes s → IsOrder s order → SpellsOrder order line →
+    order_of_line s line ≡ Some order
 
 abbrev pub OrdersAreSpelled : Type 0
 OrdersAreSpelled =
     (s : Counts) (line : List ℕ) (order : Order) → order_of_line s line ≡ Some order →
-    (line ≡ order_spelling order) × IsOrder s order
+    SpellsOrder order line × IsOrder s order

@@ -1,7 +1,10 @@
 -- The lines of a script of a cluster: `cluster N F` first, then `role R OWNER` and `liar I`, and then what is done to
--- the cluster and what is asked of it. The laws of `one_spelling_of_orders` say that a line has one spelling.
-use Rattle.std.specs.Prelude.{ℕ, if◌then◌else◌, List, codes, Option, Some, None, option_and_then, option_map}
+-- the cluster and what is asked of it. The laws of `one_spelling_of_orders` say that a line has one spelling, but for
+-- the case of the letters among hexadecimal digits.
+use Rattle.std.specs.Prelude.{ℕ, ◌==◌, if◌then◌else◌, List, [], length, codes, Option, Some, None, option_and_then, option_map}
+use Rattle.std.specs.Result.{result_ok}
 use Rattle.std.specs.Str.{bytes_eq}
+use Rattle.hex.specs.Hex.{decode_of}
 use Rattle.quorum_sizes.specs.Sizes.{Counts, name_due}
 use Rattle.role_commands.specs.Numbers.{split_word, byte_number, narrow_number, wide_number, long_number}
 use Rattle.role_commands.specs.Reading.{command_of}
@@ -11,7 +14,7 @@ use Rattle.link_frames.specs.declared.kind.Kind.TheVariants.{Send, Echo, Ready}
 use Rattle.role_sessions.specs.declared.event.ClientEvent.TheVariants.{Open, Activate, DropRole, Close}
 use Rattle.role_node.specs.declared.question.Question.{Question}
 use Rattle.role_node.specs.declared.question.Question.TheVariants.{Check, AssignedUsers, AssignedRoles, RolePermissions, UserPermissions, RoleOperations, UserOperations, SessionRoles, SessionPermissions}
-use Rattle.byz_world.specs.declared.step.Step.TheVariants.{Issue, Give, Lie, Client}
+use Rattle.byz_world.specs.declared.step.Step.TheVariants.{Issue, Give, Lie, Bytes, Client}
 use Rattle.role_lab.specs.Grammar.{sizes_of_numbers}
 use Rattle.role_lab.specs.declared.orders.Setup.{Setup}
 use Rattle.role_lab.specs.declared.orders.Setup.TheVariants.{Owned, Liar}
@@ -153,7 +156,19 @@ unfoldable pub order_of_node : Counts → List ℕ → List ℕ → Option Order
 order_of_node s name text =
     option_and_then (λ node. order_at_node s name node.0 node.1) (then_rest (node_number s) text)
 
--- the order of a name and the words behind it
+-- `HEX`: two hexadecimal digits for each byte, their letters of either case, or `-` for no bytes
+unfoldable pub bytes_of : List ℕ → Option (List ℕ)
+bytes_of word =
+    if bytes_eq word (codes "-") then Some []
+    else (if length word == 0 then None else result_ok (decode_of word))
+
+-- `TO HEX`, where TO is one of the nodes
+unfoldable pub bytes_order : Counts → List ℕ → Option Order
+bytes_order s text =
+    option_and_then (λ to. option_map (λ bytes. Do (Bytes to.0 bytes)) (bytes_of to.1))
+    (then_rest (node_number s) text)
+
+-- the order of a name and the words behind it, where they are no bytes
 unfoldable pub named_order : Counts → List ℕ → List ℕ → Option Order
 named_order s name text =
     if bytes_eq name (codes "give") then option_map (λ number. Do (Give number)) (wide_number text)
@@ -165,4 +180,5 @@ unfoldable pub order_of_line : Counts → List ℕ → Option Order
 order_of_line s line =
     if bytes_eq line (codes "flush") then Some Flush
     else (if bytes_eq line (codes "rest") then Some Rest
-    else option_and_then (λ words. named_order s words.0 words.1) (split_word line))
+    else option_and_then (λ words. if bytes_eq words.0 (codes "bytes") then bytes_order s words.1
+    else named_order s words.0 words.1) (split_word line))

@@ -1,5 +1,5 @@
 -- Whether a cluster is at rest, as a test. `rests_is_rest` says that the test is true where the cluster is at rest.
-use Rattle.std.specs.Prelude.{◌≡◌, ℕ, ◌==◌, Bool, true, not, ◌&&◌, ◌||◌, ◌↔◌, IsTrue}
+use Rattle.std.specs.Prelude.{◌==◌, Bool, not, ◌&&◌, ◌||◌, ◌↔◌, IsTrue}
 use Rattle.std.specs.List.{list_all, list_any}
 use Rattle.link_frames.specs.Kinds.{same_kind}
 use Rattle.link_frames.specs.Packets.{PacketValue}

@@ -1,7 +1,6 @@
 -- What the program keeps of the lines so far.
 use Rattle.std.specs.Prelude.{◌≡◌, ℕ, false, List, Option, Some, None, ⊤}
 use Rattle.quorum_sizes.specs.Sizes.{AreSizes}
-use Rattle.bracha_instance.specs.Broadcast.{Take}
 use Rattle.bracha_instance.specs.States.{state}
 use Rattle.bracha_instance.specs.Taking.{SendsAreFrom}
 use Rattle.byz_world.specs.Worlds.{too_many_lie}

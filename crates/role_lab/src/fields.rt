@@ -1,12 +1,15 @@
-//! The numbers and names of a line, one by one.
+//! The numbers, names and bytes of a line, one by one.
 
-ghost use Rattle.std.specs.Prelude.{◌≡◌, option_map};
+ghost use Rattle.std.specs.Prelude.{◌≡◌, IfOk, option_map};
 ghost use Rattle.role_lab.specs.Orders as reading;
 ghost use Rattle.role_commands.specs.Numbers as numbers;
 
+use hex::FromHexError;
 use link_frames::Kind;
 use quorum_sizes::{NodeName, Sizes};
+use role_commands::Items;
 use role_commands::numbers::{byte_number, long_number, narrow_number, split_word, wide_number};
+use std::alloc::{AllocError, Global};
 
 /// A session, and what stands behind its space.
 #[tactic(auto, unfolding(crate::specs::Orders::then_rest))]
@@ -69,4 +72,26 @@ pub fn node_number(sizes: &Sizes, word: &str) -> Option<NodeName>
     ensures { result ≡ reading.node_number sizes.now word.now }
 {
     sizes.name(byte_number(word)?)
+}
+
+/// The bytes of a word: two hexadecimal digits of either case for each, or `-` for none.
+///
+/// # Errors
+///
+/// Only for want of memory.
+#[tactic(auto, unfolding(crate::specs::Orders::bytes_of))]
+pub fn bytes_of(alloc: Global, word: &str) -> Result<Option<Items<u8>>, AllocError>
+    ensures { IfOk result (λ bytes. bytes ≡ reading.bytes_of word.now) }
+{
+    if word == "-" {
+        return Ok(Some(Items::new(Vec::new(alloc))));
+    }
+    if word.is_empty() {
+        return Ok(None);
+    }
+    match hex::decode(alloc, word) {
+        Ok(bytes) => Ok(Some(Items::new(bytes))),
+        Err(FromHexError::OutOfMemory) => Err(AllocError),
+        Err(_) => Ok(None),
+    }
 }

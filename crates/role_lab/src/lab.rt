@@ -180,6 +180,7 @@ fn unless_memory(fault: WorldFault) -> Result<(), AllocError>
         | WorldFault::NoSuchPacket
         | WorldFault::NotSent
         | WorldFault::PoolFull
+        | WorldFault::Link(_)
         | WorldFault::Node(_)
         | WorldFault::NoSession => Ok(()),
     }

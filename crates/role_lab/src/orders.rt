@@ -1,11 +1,13 @@
 //! The lines of a script of a cluster.
 
-ghost use Rattle.std.specs.Prelude.{◌≡◌, ◌<◌, IfSome};
+ghost use Rattle.std.specs.Prelude.{◌≡◌, ◌<◌, IfOk, IfSome};
 ghost use Rattle.byz_world.specs.declared.step.Step.TheVariants.{Client};
 ghost use Rattle.role_lab.specs.Orders as reading;
 ghost use Rattle.role_lab.specs.Inside.{IsWithinSizes, packet_given};
 
-use crate::fields::{kind_then, narrow_then, node_number, node_then, session_then, wide_then};
+use crate::fields::{
+    bytes_of, kind_then, narrow_then, node_number, node_then, session_then, wide_then,
+};
 use crate::grammar::sizes_of_numbers;
 use crate::questions::{access_of, listing_of};
 use byz_world::Step;
@@ -14,6 +16,7 @@ use quorum_sizes::{NodeName, Sizes};
 use role_commands::numbers::{byte_number, narrow_number, split_word, wide_number};
 use role_commands::parse_command;
 use role_node::{ClientEvent, Question};
+use std::alloc::{AllocError, Global};
 
 /// What a line says of a cluster before anything happens in it.
 #[derive(Clone, Copy)]
@@ -25,7 +28,7 @@ pub enum Setup {
 }
 
 /// What a later line asks.
-#[derive(Clone, Copy)]
+#[derive(Drop)]
 pub enum Order {
     /// That this happens to the cluster.
     Do(Step),
@@ -57,7 +60,7 @@ pub fn packet_of(step: &Step) -> Option<u32>
 {
     match step {
         Step::Give { packet } => Some(*packet),
-        Step::Issue { .. } | Step::Lie { .. } | Step::Client { .. } => None,
+        Step::Issue { .. } | Step::Lie { .. } | Step::Bytes { .. } | Step::Client { .. } => None,
     }
 }
 
@@ -104,19 +107,43 @@ fn role_and_owner(text: &str) -> Option<Setup>
 }
 
 /// What a later line asks.
+///
+/// # Errors
+///
+/// Only for want of memory, at a line with bytes.
 #[tactic(auto, unfolding(crate::specs::Orders::order_of_line))]
-pub fn order_of_line(sizes: &Sizes, line: &str) -> Option<Order>
-    ensures value { result ≡ reading.order_of_line sizes.now line.now }
-    ensures within { IfSome result (IsWithinSizes sizes.now) }
+pub fn order_of_line(alloc: Global, sizes: &Sizes, line: &str) -> Result<Option<Order>, AllocError>
+    ensures value { IfOk result (λ order. order ≡ reading.order_of_line sizes.now line.now) }
+    ensures within { IfOk result (λ order. IfSome order (IsWithinSizes sizes.now)) }
 {
     if line == "flush" {
-        return Some(Order::Flush);
+        return Ok(Some(Order::Flush));
     }
     if line == "rest" {
-        return Some(Order::Rest);
+        return Ok(Some(Order::Rest));
     }
-    let (name, text) = split_word(line)?;
-    named_order(sizes, name, text)
+    let Some((name, text)) = split_word(line) else {
+        return Ok(None);
+    };
+    if name == "bytes" {
+        bytes_order(alloc, sizes, text)
+    } else {
+        Ok(named_order(sizes, name, text))
+    }
+}
+
+#[tactic(auto, unfolding(crate::specs::Orders::bytes_order))]
+fn bytes_order(alloc: Global, sizes: &Sizes, text: &str) -> Result<Option<Order>, AllocError>
+    ensures value { IfOk result (λ order. order ≡ reading.bytes_order sizes.now text.now) }
+    ensures within { IfOk result (λ order. IfSome order (IsWithinSizes sizes.now)) }
+{
+    let Some((to, word)) = node_then(sizes, text) else {
+        return Ok(None);
+    };
+    let Some(bytes) = bytes_of(alloc, word)? else {
+        return Ok(None);
+    };
+    Ok(Some(Order::Do(Step::Bytes { to, bytes })))
 }
 
 #[tactic(auto, unfolding(crate::specs::Orders::named_order))]

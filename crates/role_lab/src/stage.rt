@@ -169,7 +169,7 @@ fn cluster_line(alloc: Global, lab: &mut Lab, line: &str) -> Result<Option<Strin
     ensures { IfOk result (λ text. AreSizes (lab_sizes (lab_in lab.old)) →
         Answers (after_cluster_line (lab_in lab.old) line.now) (Stage.Living lab.new) (option_map string_bytes text)) }
 {
-    let Some(order) = order_of_line(&lab.sizes(), line) else {
+    let Some(order) = order_of_line(alloc, &lab.sizes(), line)? else {
         return Ok(None);
     };
     let text = lab.answer(alloc, order)?;

@@ -1,4 +1,4 @@
-use Rattle.std.proofs.Common.{◌≡◌, ◌<◌, ◌∙◌, ap, sym, arith, length, true}
+use Rattle.std.proofs.Common.{◌<◌, ◌∙◌, ap, arith, length}
 use Rattle.role_lab.specs.Flags.{flagged}
 use Rattle.role_lab.specs.Labs.{with_number}
 use Rattle.role_lab.proofs.Flagging.{flagged-set, with_number-kept}

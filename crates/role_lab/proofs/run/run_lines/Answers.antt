@@ -1,4 +1,4 @@
-use Rattle.std.proofs.Common.{arith, inl, inr, ◌∙◌, sym, ap, None}
+use Rattle.std.proofs.Common.{arith, inl, inr, None}
 use Rattle.std.proofs.lemmas.Result.{err_from_is_err_and}
 use Rattle.link_frames.proofs.Exported.{Ended-front, WentOn-trans, CallFailed-later, ReaderFailed-later, AppendsFront-whole}
 use Rattle.role_lab.proofs.ScriptRunning.{run_starts, run_moves, run_goes_on, run_breaks, run_stops, run_is_endless, ends_bad, ends_good, ends_ahead, ahead_device}

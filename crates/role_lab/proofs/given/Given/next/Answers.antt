@@ -1,4 +1,4 @@
-use Rattle.std.proofs.Common.{◌≡◌, ◌<◌, ◌≤◌, ◌∙◌, ℕ, ap, sym, arith, not, Bool, true, false, List, Some}
+use Rattle.std.proofs.Common.{◌∙◌, ℕ, ap, sym, arith, not}
 use Rattle.role_lab.specs.Inside.{given_in}
 use Rattle.role_lab.specs.Flags.{flagged}
 use Rattle.role_lab.proofs.Flagging.{find-range, find-range-none}
