@@ -9,8 +9,11 @@ use Rattle.bracha_instance.proofs.Exported.{delivery_stays}
 use Rattle.bracha_instance.specs.Broadcast.{Take, delivered}
 use Rattle.bracha_instance.specs.States.{State, state}
 use Rattle.bracha_instance.specs.Next.{after}
+use Rattle.bracha_instance.specs.Taking.{newly}
+use Rattle.bracha_instance.specs.declared.instance.Taken.{Taken}
+use Rattle.role_commands.specs.declared.command.Command.{Command}
 use Rattle.owner_streams.specs.Places.{place_count, take_of, takes_at}
-use Rattle.owner_streams.specs.Slots.{state_in, delivered_in}
+use Rattle.owner_streams.specs.Slots.{state_in, delivered_in, IsTaken}
 use Rattle.owner_streams.specs.Kept.{reach_in, held, IsOwnerStream, SamePlaces}
 use Rattle.owner_streams.specs.declared.owner_stream.OwnerStream.{OwnerStream}
 use Rattle.owner_streams.proofs.Taken.{takes_at-own, takes_at-other}
@@ -66,6 +69,33 @@ still_run s before after p n others one states run place h =
     subst (λ k. IsSome (delivered_in (after k))) (sym e) (some_of _ c.0 now))
     (λ (apart : place ≢ p.place). subst (λ slot. IsSome (delivered_in slot)) (sym (others place apart)) (run place h))
     (cases_eq place p.place)
+
+newly_nothing : (was now : Option Command) → was ≡ None → is_some (newly was now) ≡ false → now ≡ None
+newly_nothing None None e h = refl
+newly_nothing None (Some c) e h = absurd cc
+newly_nothing (Some d) now e h = absurd cc
+
+-- where the packet delivers nothing, the front of the window is not delivered
+pub still_ends : (s : Counts) (before after : ℕ → Option State) (p : PacketValue) (taken : Taken) (n : ℕ) →
+    ((place : ℕ) → place ≢ p.place → after place ≡ before place) →
+    ((takes : List Take) → state_in s (before p.place) ≡ state s takes
+    → state_in s (after p.place) ≡ state s (takes ++ take_of p ∷ [])) →
+    ((takes : List Take) → state_in s (before p.place) ≡ state s takes → IsTaken s takes (take_of p) taken) →
+    ((place : ℕ) → (takes : List Take) × (state_in s (before place) ≡ state s takes)) →
+    delivered_in (before n) ≡ None → is_some taken.delivered ≡ false → delivered_in (after n) ≡ None
+still_ends s before after p taken n others one answer states ends nothing =
+    ⊎_elim
+    (λ (e : n ≡ p.place).
+    let known = states p.place in
+    let first : delivered s known.0 ≡ None =
+    sym (delivered_is s (before p.place) known.0 known.1) ∙ subst (λ k. delivered_in (before k) ≡ None) e ends in
+    let now : delivered_in (after p.place) ≡ None =
+    delivered_is s (after p.place) (known.0 ++ take_of p ∷ []) (one known.0 known.1)
+    ∙ newly_nothing (delivered s known.0) (delivered s (known.0 ++ take_of p ∷ [])) first
+    (ap is_some (sym (answer known.0 known.1).delivered) ∙ nothing) in
+    subst (λ k. delivered_in (after k) ≡ None) (sym e) now)
+    (λ (apart : n ≢ p.place). ap delivered_in (others n apart) ∙ ends)
+    (cases_eq n p.place)
 
 pub still_states : (s : Counts) (before after : ℕ → Option State) (p : PacketValue) →
     ((place : ℕ) → place ≢ p.place → after place ≡ before place) →

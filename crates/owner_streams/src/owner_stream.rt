@@ -1,4 +1,4 @@
-ghost use Rattle.std.specs.Prelude.{◌≡◌, ◌≢◌, ℕ, ◌+◌, ◌<◌, ◌≤◌, List, [], ◌∷◌, ◌++◌, length, max, IsSome, IfOk, OnOk, OnErr, is_some, slice_get, slice_set, vec_len, vec_capacity, Some, None, IfSome};
+ghost use Rattle.std.specs.Prelude.{◌≡◌, ◌≢◌, ℕ, ◌+◌, ◌<◌, ◌≤◌, false, List, [], ◌∷◌, ◌++◌, length, max, IsSome, IfOk, OnOk, OnErr, is_some, slice_get, slice_set, vec_len, vec_capacity, Some, None, IfSome};
 ghost use Rattle.std.specs.Option.{option_copied};
 ghost use Rattle.quorum_sizes.specs.Sizes.{Counts};
 ghost use Rattle.link_frames.specs.Packets.{PacketValue};
@@ -77,7 +77,7 @@ impl OwnerStream {
             });
         }
         let taken = self.take_at(sizes, packet)?;
-        self.advance();
+        self.advance_if(taken.delivered.is_some());
         Ok(StreamStep {
             effect: Effect::Counted,
             broadcast: taken.broadcast,
@@ -107,6 +107,23 @@ impl OwnerStream {
             return Ok(take_record(&mut self.below, place, packet));
         }
         take_slot(&mut self.ring, place % WINDOW as usize, sizes, packet)
+    }
+
+    /// Moves what is delivered at the front of the window to the records, where something was delivered. Only then
+    /// can there be any.
+    fn advance_if(&mut self, is_delivered: bool)
+        requires room { reach_in self.old + window ≤ vec_capacity self.old.below }
+        requires run { (place : ℕ) → place < reach_in self.old → IsSome (delivered_in (held self.old place)) }
+        requires run_ends { is_delivered ≡ false → delivered_in (held self.old (reach_in self.old)) ≡ None }
+        ensures run { (place : ℕ) → place < reach_in self.new → IsSome (delivered_in (held self.new place)) }
+        ensures same { SamePlaces self.old self.new }
+        ensures run_ends { delivered_in (held self.new (reach_in self.new)) ≡ None }
+        ensures onward { reach_in self.old ≤ reach_in self.new }
+        ensures few { reach_in self.new ≤ reach_in self.old + window }
+    {
+        if is_delivered {
+            self.advance();
+        }
     }
 
     /// Moves what is delivered at the front of the window to the records, until something is not delivered there.

@@ -1,7 +1,7 @@
 -- What is done to a machine word, and what that does to the names that it holds.
-use Rattle.std.proofs.Common.{◌≡◌, ℕ, zero, suc, ◌+◌, ◌-◌, ◌*◌, ◌/◌, ◌%◌, ◌^◌, ◌==◌, ◌<◌, ◌≤◌, Bool, true, false, cond, not, ◌&&◌, ◌||◌, refl, sym, ◌∙◌, ap, arith, nat_lt, bit_and, bit_or, min, w64, Bor}
+use Rattle.std.proofs.Common.{◌≡◌, ℕ, zero, suc, ◌+◌, ◌-◌, ◌*◌, ◌/◌, ◌%◌, ◌^◌, ◌==◌, ◌<◌, ◌≤◌, Bool, true, false, cond, ◌&&◌, ◌||◌, refl, sym, ◌∙◌, ap, arith, nat_lt, bit_and, bit_or, min, w64}
 use Rattle.std.proofs.lemmas.Bool.{ltb-true, and_parts, lt-ltb, le-ltb, eqb-true, eqb-false, eq-eqb, ltb-true}
-use Rattle.std.proofs.lemmas.Nat.{and_mask, ones_cat, or_lt, pow_pos}
+use Rattle.std.proofs.lemmas.Nat.{and_mask, ones_cat, pow_pos}
 use Rattle.std.proofs.lemmas.Nat.Bits.{bit_at-lt, bit_at_and, bit_at_set_same, bit_at_set_other, bit_at-zero, ones_shr}
 use Rattle.std.proofs.Math.Nat.{mod-eq_of_lt, mod-lt}
 use Rattle.std.specs.Int.{bit_at}
@@ -10,7 +10,7 @@ use Rattle.std.specs.Ordering.{nat_cmp}
 use Rattle.std.specs.Cmp.{nat_cmp_total}
 use Rattle.std.specs.FinSet as sets
 use Rattle.quorum_sizes.specs.Sizes.{Counts, most_nodes}
-use Rattle.quorum_sizes.specs.NodeSets.{Nodes, nodes_among}
+use Rattle.quorum_sizes.specs.NodeSets.{nodes_among}
 use Rattle.quorum_sizes.specs.NodeWords.{has_bit, names_below, names_in, contains-names_below, bits_more}
 use Rattle.quorum_sizes.proofs.NodeCounts.{len_below, same_names, contains-insert, contains-nodes_among}
 

@@ -1,6 +1,5 @@
 -- The laws of the sizes.
 use Rattle.std.proofs.Common.{◌*◌, ◌<◌, arith}
-use Rattle.quorum_sizes.specs.Sizes.{Counts, AreSizes}
 use Rattle.quorum_sizes.specs.Laws.{CorrectAreEnough}
 
 pub correct_are_enough : CorrectAreEnough

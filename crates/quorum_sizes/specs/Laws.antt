@@ -1,5 +1,5 @@
 -- Laws of the sizes.
-use Rattle.std.specs.Prelude.{ℕ, ◌-◌, ◌≤◌}
+use Rattle.std.specs.Prelude.{◌-◌, ◌≤◌}
 use Rattle.quorum_sizes.specs.Sizes.{Counts, AreSizes, echo_quorum_of, deliver_of}
 
 -- The nodes of which none lies are a quorum of echoes, and enough to deliver: no quorum needs a liar.

@@ -1,4 +1,4 @@
-use Rattle.std.proofs.Common.{◌∙◌, ap, subst, sym, ◌<◌, ◌≡◌, bit_and}
+use Rattle.std.proofs.Common.{◌∙◌, subst, sym, ◌<◌, ◌≡◌, bit_and}
 use Rattle.std.specs.FinSet as sets
 use Rattle.quorum_sizes.specs.NodeSets.{Nodes}
 use Rattle.quorum_sizes.specs.NodeWords.{names_in}

@@ -5,7 +5,7 @@ use Rattle.owner_streams.specs.Kept.{reach_in, held, look_in}
 use Rattle.owner_streams.specs.Places.{window, take_of, takes_at}
 use Rattle.owner_streams.specs.Slots.{state_in, delivered_in}
 use Rattle.owner_streams.proofs.Reaching.{reach_of_run, reach_within}
-use Rattle.owner_streams.proofs.Keeping.{states_push, still_run, same_states, at_each, still_kept}
+use Rattle.owner_streams.proofs.Keeping.{states_push, still_run, still_ends, same_states, at_each, still_kept}
 use Rattle.owner_streams.proofs.Stepping.{due_within, step_is, idle_step_is, look_within, look_idle, voted_changes_nothing, effect_is, counts}
 use Rattle.owner_streams.proofs.owner_stream.OwnerStream.take.Goals as goal
 
@@ -72,31 +72,38 @@ returns-in_err-taken-clause-kept c =
 
 -- A packet that counts.
 
-pub advance-requires-clause-run : goal.advance-requires-clause-run
-advance-requires-clause-run c place h =
+pub advance_if-requires-clause-run : goal.advance_if-requires-clause-run
+advance_if-requires-clause-run c place h =
     still_run c.args.sizes.now (held c.args.self.now) (held c.take_at.new.self) c.args.packet.now
     (reach_in c.args.self.now) c.take_at.ensures.others c.in_ok-taken.ensures.state c.requires.kept.states
     c.requires.kept.run place (omega (arith, c.take_at.ensures.reach))
 
+pub advance_if-requires-clause-run_ends : goal.advance_if-requires-clause-run_ends
+advance_if-requires-clause-run_ends c nothing =
+    ap (λ n. delivered_in (held c.take_at.new.self n)) c.take_at.ensures.reach
+    ∙ still_ends c.args.sizes.now (held c.args.self.now) (held c.take_at.new.self) c.args.packet.now
+    c.in_ok-taken.taken (reach_in c.args.self.now) c.take_at.ensures.others c.in_ok-taken.ensures.state
+    c.in_ok-taken.ensures.taken c.requires.kept.states c.requires.kept.run_ends (sym c.is_some.ensures ∙ nothing)
+
 pub returns-clause-kept : goal.returns-clause-kept
 returns-clause-kept c =
-    still_kept c.args.sizes.now c.args.self.now c.take_at.new.self c.advance.new.self c.args.packet.now c.requires.kept
-    c.take_at.ensures.in_range c.take_at.ensures.others c.in_ok-taken.ensures.state c.advance.ensures.same
-    c.advance.ensures.run c.advance.ensures.run_ends
+    still_kept c.args.sizes.now c.args.self.now c.take_at.new.self c.advance_if.new.self c.args.packet.now
+    c.requires.kept c.take_at.ensures.in_range c.take_at.ensures.others c.in_ok-taken.ensures.state
+    c.advance_if.ensures.same c.advance_if.ensures.run c.advance_if.ensures.run_ends
 
 pub reach-requires : goal.reach-requires
 reach-requires c =
-    reach_within c.args.sizes.now c.advance.new.self
-    (still_kept c.args.sizes.now c.args.self.now c.take_at.new.self c.advance.new.self c.args.packet.now c.requires.kept
-    c.take_at.ensures.in_range c.take_at.ensures.others c.in_ok-taken.ensures.state c.advance.ensures.same
-    c.advance.ensures.run c.advance.ensures.run_ends)
+    reach_within c.args.sizes.now c.advance_if.new.self
+    (still_kept c.args.sizes.now c.args.self.now c.take_at.new.self c.advance_if.new.self c.args.packet.now
+    c.requires.kept c.take_at.ensures.in_range c.take_at.ensures.others c.in_ok-taken.ensures.state
+    c.advance_if.ensures.same c.advance_if.ensures.run c.advance_if.ensures.run_ends)
 
 pub returns-clause-state : goal.returns-clause-state
 returns-clause-state c packets is =
     let mid = held c.take_at.new.self in
     record {
       at_each_place = λ place.
-          ap (state_in c.args.sizes.now) (c.advance.ensures.same.at_each_place place)
+          ap (state_in c.args.sizes.now) (c.advance_if.ensures.same.at_each_place place)
           ∙ states_push c.args.sizes.now (held c.args.self.now) mid packets c.args.packet.now c.take_at.ensures.others
           c.in_ok-taken.ensures.state is.at_each_place place;
     }
@@ -113,8 +120,8 @@ returns-clause-due c packets is sent =
     ∙ sym c.reach-from.ensures in
     let states = returns-clause-state c packets is in
     let after =
-    reach_of_run s p.owner (held c.advance.new.self) (packets ++ p ∷ []) (reach_in c.advance.new.self)
-    states.at_each_place c.advance.ensures.run c.advance.ensures.run_ends
+    reach_of_run s p.owner (held c.advance_if.new.self) (packets ++ p ∷ []) (reach_in c.advance_if.new.self)
+    states.at_each_place c.advance_if.ensures.run c.advance_if.ensures.run_ends
     ∙ sym c.reach.ensures in
     let due = due_within s packets p c.reach-from.result before (omega arith) in
     let is_counted = counts c.in_ok-look.field-0 c.in_default.not-Idle in

@@ -1,7 +1,6 @@
 use Rattle.std.proofs.Common.{◌∙◌, ap, ◌==◌}
 use Rattle.std.proofs.lemmas.Nat.Bits.{shr_and_one}
 use Rattle.std.specs.FinSet as sets
-use Rattle.quorum_sizes.specs.NodeWords.{names_in}
 use Rattle.quorum_sizes.proofs.NodeMasks.{has_bit-names_in}
 use Rattle.quorum_sizes.proofs.node_set.NodeSet.contains.Goals as goal
 
