@@ -1,6 +1,10 @@
 pub mod Members
 pub mod OneListing
 pub mod PairLemmas
+pub mod SortedLemmas
+pub mod RangeLemmas
+pub mod RelationLemmas
+pub mod FirstLemmas
 pub mod StreamLemmas
 pub mod PolicyLaws
 pub mod ApplyLemmas

@@ -1,16 +1,23 @@
 -- The members of the listings that the review functions make.
-use Rattle.std.proofs.Common.{◌≡◌, ℕ, Bool, true, ◌&&◌, ◌==◌, inl, inr, List, [], ◌∷◌, refl, sym, ap, ◌∙◌, subst, filter, map}
+use Rattle.std.proofs.Common.{◌≡◌, ℕ, Bool, ◌==◌, ◌<◌, ◌+◌, inl, inr, List, [], ◌∷◌, ◌++◌, length, get_or, take, refl, sym, ap, ◌∙◌, subst, filter, map}
 use Rattle.std.specs.Prelude.{IsTrue, ◌↔◌, Contains}
 use Rattle.std.specs.declared.cmp.Ordering.{Ordering}
-use Rattle.std.specs.List.{list_any}
-use Rattle.std.specs.Ordering.{nat_cmp}
-use Rattle.std.specs.Cmp.{nat_eq_equiv, first_so, second_so}
+use Rattle.std.specs.List.{flat_map}
+use Rattle.std.specs.Ordering.{eq_by_cmp, nat_cmp}
+use Rattle.std.specs.Cmp.{nat_eq_equiv}
 use Rattle.std.specs.FinSet as set
-use Rattle.std.proofs.lemmas.Map.Views.{exact_unsigned_eq, Contains-from_any, list_any-from_Contains}
+use Rattle.std.proofs.lemmas.Cmp.{nat_cmp_total}
+use Rattle.std.proofs.lemmas.List.{take_more, flat_map_more}
+use Rattle.std.proofs.lemmas.List.Elements.{Contains-append_left, Contains-append_right, Contains-append_cases}
+use Rattle.std.proofs.lemmas.Map.Lookups.{exact_unsigned}
+use Rattle.std.proofs.lemmas.Map.Views.{exact_unsigned_eq}
+use Rattle.rbac_state.specs.declared.relation.Relation.{Relation}
 use Rattle.rbac_state.specs.Listings.{IsListing}
-use Rattle.rbac_state.specs.Policies.{PolicyValue, assignment_cmp, grant_cmp, assigned_in, granted_in, UserMay}
-use Rattle.rbac_state.proofs.Members.{contains_head, contains_cases, contains_none, picked_from, picked_into}
-use Rattle.rbac_state.proofs.PairLemmas.{members, assignments_total, assignments_exact, grants_total, grants_exact}
+use Rattle.rbac_state.specs.Policies.{PolicyValue, assignment_cmp, permission_cmp, grant_cmp, assigned_in, granted_in, RoleMay}
+use Rattle.rbac_state.specs.Relations.{pair_cmp, is_among, IsKeptBothWays}
+use Rattle.rbac_state.proofs.Members.{contains_head, contains_more, contains_cases, contains_none, picked_from, picked_into}
+use Rattle.rbac_state.proofs.PairLemmas.{assignments_total, grants_total, permissions_total, permissions_exact}
+use Rattle.rbac_state.proofs.RelationLemmas.{seconds_ascend, seconds_members}
 
 -- a listing of a set is one of the same set said in other words
 pub listing_of : {X : Type 0} {cmp : X → X → Ordering} {P Q : X → Type 0} {xs : List X} → IsListing cmp P xs →
@@ -20,111 +27,162 @@ listing_of listing same = record {
   exact = λ x. (λ h. (same x).0 ((listing.exact x).0 h), λ h. (listing.exact x).1 ((same x).1 h));
 }
 
-number_is : (a b : ℕ) → a ≡ b → (a == b) ≡ true
-number_is a b e = ap (λ x. x == b) e ∙ nat_eq_equiv.refl b
-
-pub users_members : (ks : List (ℕ × ℕ)) (role user : ℕ) →
-    Contains (map (λ a. a.0) (filter (λ a. a.1 == role) ks)) user
-    ↔ IsTrue (set.contains (set.from_list {R = assignment_cmp} ks) (user, role))
-users_members ks role user = (
-  λ h.
-      let a = picked_from (λ (a : ℕ × ℕ). a.1 == role) (λ a. a.0) ks user h in
-      let is : a.0 ≡ (user, role) = λ i. (a.3 i, exact_unsigned_eq a.0.1 role a.2 i) in
-      (members assignments_total assignments_exact ks (user, role)).1 (subst (Contains ks) is a.1),
-  λ h. picked_into (λ (a : ℕ × ℕ). a.1 == role) (λ a. a.0) ks (
-    user,
-    role,
-  ) ((members assignments_total assignments_exact ks (user, role)).0 h) (number_is role role refl),
-)
-
-pub roles_members : (ks : List (ℕ × ℕ)) (user role : ℕ) →
-    Contains (map (λ a. a.1) (filter (λ a. a.0 == user) ks)) role
-    ↔ IsTrue (set.contains (set.from_list {R = assignment_cmp} ks) (user, role))
-roles_members ks user role = (
-  λ h.
-      let a = picked_from (λ (a : ℕ × ℕ). a.0 == user) (λ a. a.1) ks role h in
-      let is : a.0 ≡ (user, role) = λ i. (exact_unsigned_eq a.0.0 user a.2 i, a.3 i) in
-      (members assignments_total assignments_exact ks (user, role)).1 (subst (Contains ks) is a.1),
-  λ h. picked_into (λ (a : ℕ × ℕ). a.0 == user) (λ a. a.1) ks (
-    user,
-    role,
-  ) ((members assignments_total assignments_exact ks (user, role)).0 h) (number_is user user refl),
-)
-
--- a slice's `contains`
-among : (roles : List ℕ) (r : ℕ) → list_any (λ y. y == r) roles ≡ true ↔ Contains roles r
-among roles r =
-    let flipped : list_any (λ y. y == r) roles ≡ list_any (λ y. r == y) roles =
-    λ i. list_any (λ y. nat_eq_equiv.symm y r i) roles in (
-      λ t. Contains-from_any exact_unsigned_eq r roles (sym flipped ∙ t),
-      λ h. flipped
-          ∙ list_any-from_Contains nat_eq_equiv r roles h,
-    )
-
--- one of the roles has the grant
-abbrev pub SomeGrants : List ℕ → List ((ℕ × ℕ) × ℕ) → ℕ × ℕ → Type 0
-SomeGrants roles gs p = (role : ℕ) × Contains roles role
-    × IsTrue (set.contains (set.from_list {R = grant_cmp} gs) (p, role))
-
-pub permissions_members : (roles : List ℕ) (gs : List ((ℕ × ℕ) × ℕ)) (p : ℕ × ℕ) →
-    Contains (map (λ g. g.0) (filter (λ g. list_any (λ y. y == g.1) roles) gs)) p ↔ SomeGrants roles gs p
-permissions_members roles gs p = (
-  λ h.
-      let g = picked_from (λ (g : (ℕ × ℕ) × ℕ). list_any (λ y. y == g.1) roles) (λ g. g.0) gs p h in
-      let is : g.0 ≡ (p, g.0.1) = λ i. (g.3 i, g.0.1) in (
-        g.0.1,
-        (among roles g.0.1).0 g.2,
-        (members grants_total grants_exact gs (p, g.0.1)).1 (subst (Contains gs) is g.1),
-      ),
-  λ (role, within, granted).
-      picked_into (λ (g : (ℕ × ℕ) × ℕ). list_any (λ y. y == g.1) roles) (λ g. g.0) gs (p, role)
-      ((members grants_total grants_exact gs (p, role)).0 granted) ((among roles role).1 within),
-)
-
-both : (a b : Bool) → a ≡ true → b ≡ true → (a && b) ≡ true
-both a b p q = λ i. p i && q i
-
-pub operations_members : (roles : List ℕ) (object : ℕ) (gs : List ((ℕ × ℕ) × ℕ)) (operation : ℕ) →
-    Contains (map (λ g. g.0.0) (filter (λ g. (g.0.1 == object) && list_any (λ y. y == g.1) roles) gs)) operation
-    ↔ SomeGrants roles gs (operation, object)
-operations_members roles object gs operation = (
-  λ h.
-      let g = picked_from (λ (g : (ℕ × ℕ) × ℕ). (g.0.1 == object) && list_any (λ y. y == g.1) roles) (λ g.
-      g.0.0) gs operation h in
-      let is : g.0 ≡ ((operation, object), g.0.1) =
-      λ i. ((g.3 i, exact_unsigned_eq g.0.0.1 object (first_so _ _ g.2) i), g.0.1) in (
-        g.0.1,
-        (among roles g.0.1).0 (second_so _ _ g.2),
-        (members grants_total grants_exact gs ((operation, object), g.0.1)).1 (subst (Contains gs) is g.1),
-      ),
-  λ (role, within, granted).
-      picked_into (λ (g : (ℕ × ℕ) × ℕ). (g.0.1 == object) && list_any (λ y. y == g.1) roles) (λ g.
-      g.0.0) gs ((operation, object), role)
-      ((members grants_total grants_exact gs ((operation, object), role)).0 granted)
-      (both _ _ (number_is object object refl) ((among roles role).1 within)),
-)
-
--- of a lone role
-pub lone_grants : (role : ℕ) (gs : List ((ℕ × ℕ) × ℕ)) (p : ℕ × ℕ) →
-    SomeGrants (role ∷ []) gs p ↔ IsTrue (set.contains (set.from_list {R = grant_cmp} gs) (p, role))
-lone_grants role gs p = (
-  λ (r, within, granted). elim (contains_cases role [] r within) [
-    | inl is ↦ ap (λ r. set.contains (set.from_list {R = grant_cmp} gs) (p, r)) is ∙ granted
-    | inr none ↦ contains_none r _ none
-  ],
-  λ granted. (role, contains_head role [] role refl, granted),
-)
-
 pub iff_trans : {A B C : Type 0} → A ↔ B → B ↔ C → A ↔ C
 iff_trans ab bc = (λ a. bc.0 (ab.0 a), λ c. ab.1 (bc.1 c))
 
+iff_same : (a b : Bool) → a ≡ b → IsTrue a ↔ IsTrue b
+iff_same a b e = (λ h. sym e ∙ h, λ h. e ∙ h)
+
+-- the members of lists that are joined
+pub contains_flat_map : {X Y : Type 0} (f : X → List Y) (xs : List X) (y : Y) →
+    Contains (flat_map f xs) y ↔ ((x : X) × Contains xs x × Contains (f x) y)
+contains_flat_map f [] y = (λ h. contains_none y _ h, λ (x, within, _). contains_none x _ within)
+contains_flat_map f (x ∷ xs) y = (
+  λ h. elim (Contains-append_cases (f x) (flat_map f xs) y h) [
+    | inl here ↦ (x, contains_head x xs x refl, here)
+    | inr later ↦
+        let z = (contains_flat_map f xs y).0 later in
+        (z.0, contains_more x xs z.0 z.1, z.2)
+  ],
+  λ (z, within, gives). elim (contains_cases x xs z within) [
+    | inl here ↦ Contains-append_left (f x) (flat_map f xs) y (subst (λ w. Contains (f w) y) (sym here) gives)
+    | inr later ↦ Contains-append_right (f x) (flat_map f xs) y ((contains_flat_map f xs y).1 (z, later, gives))
+  ],
+)
+
+-- one more list that is joined, in a loop
+pub joined_more : {X Y : Type 0} (f : X → List Y) (xs : List X) (i : ℕ) (d : X) (old new : List Y) → i < length xs →
+    old ≡ flat_map f (take i xs) → new ≡ old ++ f (get_or xs i d) → new ≡ flat_map f (take (i + 1) xs)
+joined_more f xs i d old new within was is =
+    is ∙ ap (λ l. l ++ f (get_or xs i d)) was
+    ∙ flat_map_more f [] (take i xs) (get_or xs i d)
+    ∙ ap (flat_map f) (sym (take_more xs i d within))
+
+module _ (value : PolicyValue) (users : Relation ℕ ℕ)
+    (is : set.from_list {R = assignment_cmp} users.by_first.items ≡ value.assignments)
+    (kept : IsKeptBothWays nat_cmp nat_cmp users) where
+  pub assigned_is : (user role : ℕ) → is_among assignment_cmp users.by_first.items (user, role) ≡ assigned_in value user role
+  assigned_is user role =
+      sym (set.contains-from_list assignments_total users.by_first.items (user, role))
+      ∙ ap (λ a. set.contains a (user, role)) is
+
+  pub roles_listing : (user : ℕ) → IsListing nat_cmp (λ role. IsTrue (assigned_in value user role))
+      (map (λ p. p.1) (filter (λ p. eq_by_cmp nat_cmp user p.0) users.by_first.items))
+  roles_listing user = record {
+    ascending = seconds_ascend nat_cmp nat_cmp_total user users.by_first.items kept.by_first;
+    exact = λ role.
+        iff_trans
+        (seconds_members nat_cmp_total nat_cmp_total exact_unsigned exact_unsigned users.by_first.items user role)
+        (iff_same _ _ (assigned_is user role));
+  }
+
+  pub users_listing : (role : ℕ) → IsListing nat_cmp (λ user. IsTrue (assigned_in value user role))
+      (map (λ p. p.1) (filter (λ p. eq_by_cmp nat_cmp role p.0) users.by_second.items))
+  users_listing role = record {
+    ascending = seconds_ascend nat_cmp nat_cmp_total role users.by_second.items kept.by_second;
+    exact = λ user.
+        iff_trans
+        (seconds_members nat_cmp_total nat_cmp_total exact_unsigned exact_unsigned users.by_second.items role user)
+        (iff_same _ _ (kept.same user role ∙ assigned_is user role));
+  }
+
+module _ (value : PolicyValue) (grants : Relation (ℕ × ℕ) ℕ)
+    (is : set.from_list {R = grant_cmp} grants.by_first.items ≡ value.grants)
+    (kept : IsKeptBothWays permission_cmp nat_cmp grants) where
+  pub may_is : (p : ℕ × ℕ) (role : ℕ) →
+      is_among grant_cmp grants.by_first.items (p, role) ≡ granted_in value p.0 p.1 role
+  may_is p role =
+      sym (set.contains-from_list grants_total grants.by_first.items (p, role))
+      ∙ ap (λ g. set.contains g (p, role)) is
+
+  pub granted_is : (p : ℕ × ℕ) (role : ℕ) →
+      is_among (pair_cmp nat_cmp permission_cmp) grants.by_second.items (role, p) ≡ granted_in value p.0 p.1 role
+  granted_is p role = kept.same p role ∙ may_is p role
+
+  abbrev of_role : ℕ → List (ℕ × (ℕ × ℕ))
+  of_role role = filter (λ g. eq_by_cmp nat_cmp role g.0) grants.by_second.items
+
+  role_may : (role : ℕ) (p : ℕ × ℕ) → Contains (map (λ g. g.1) (of_role role)) p ↔ IsTrue (granted_in value p.0 p.1 role)
+  role_may role p =
+      iff_trans
+      (seconds_members nat_cmp_total permissions_total exact_unsigned permissions_exact grants.by_second.items role p)
+      (iff_same _ _ (granted_is p role))
+
+  pub permissions_listing : (role : ℕ) → IsListing permission_cmp (λ p. IsTrue (granted_in value p.0 p.1 role))
+      (map (λ g. g.1) (of_role role))
+  permissions_listing role = record {
+    ascending = seconds_ascend permission_cmp nat_cmp_total role grants.by_second.items kept.by_second;
+    exact = role_may role;
+  }
+
+  -- of some role of these
+  pub permissions_members : (roles : List ℕ) (p : ℕ × ℕ) →
+      Contains (flat_map (λ role. map (λ g. g.1) (of_role role)) roles) p
+      ↔ ((role : ℕ) × Contains roles role × RoleMay value role p.0 p.1)
+  permissions_members roles p =
+      iff_trans (contains_flat_map (λ role. map (λ g. g.1) (of_role role)) roles p) (
+        λ (role, within, h). (role, within, (role_may role p).0 h),
+        λ (role, within, h). (role, within, (role_may role p).1 h),
+      )
+
+  operation_may : (object role operation : ℕ) →
+      Contains (map (λ g. g.1.0) (filter (λ g. g.1.1 == object) (of_role role))) operation
+      ↔ IsTrue (granted_in value operation object role)
+  operation_may object role operation = (
+    λ h.
+        let g = picked_from (λ (g : ℕ × (ℕ × ℕ)). g.1.1 == object) (λ g. g.1.0) (of_role role) operation h in
+        let is : g.0.1 ≡ (operation, object) = λ i. (g.3 i, exact_unsigned_eq g.0.1.1 object g.2 i) in
+        (role_may role (operation, object)).0
+        (subst (Contains (map (λ g. g.1) (of_role role))) is (contains_map (of_role role) g.0 g.1)),
+    λ h.
+        let g = contains_from_map (of_role role) (operation, object) ((role_may role (operation, object)).1 h) in
+        subst (Contains (map (λ g. g.1.0) (filter (λ g. g.1.1 == object) (of_role role)))) (ap (λ p. p.0) g.2)
+        (picked_into (λ (g : ℕ × (ℕ × ℕ)). g.1.1 == object) (λ g. g.1.0) (of_role role) g.0 g.1
+        (ap (λ p. p.1 == object) g.2 ∙ nat_eq_equiv.refl object)),
+  )
+    where
+      contains_map : (gs : List (ℕ × (ℕ × ℕ))) (g : ℕ × (ℕ × ℕ)) → Contains gs g → Contains (map (λ g. g.1) gs) g.1
+      contains_map [] g within = contains_none g _ within
+      contains_map (x ∷ gs) g within = elim (contains_cases x gs g within) [
+        | inl here ↦ contains_head x.1 (map (λ g. g.1) gs) g.1 (ap (λ g. g.1) here)
+        | inr later ↦ contains_more x.1 (map (λ g. g.1) gs) g.1 (contains_map gs g later)
+      ]
+
+      contains_from_map : (gs : List (ℕ × (ℕ × ℕ))) (p : ℕ × ℕ) → Contains (map (λ g. g.1) gs) p →
+          ((g : ℕ × (ℕ × ℕ)) × Contains gs g × (g.1 ≡ p))
+      contains_from_map [] p h = contains_none p _ h
+      contains_from_map (x ∷ gs) p h = elim (contains_cases x.1 (map (λ g. g.1) gs) p h) [
+        | inl here ↦ (x, contains_head x gs x refl, here)
+        | inr later ↦
+            let g : (g : ℕ × (ℕ × ℕ)) × Contains gs g × (g.1 ≡ p) = contains_from_map gs p later in
+            (g.0, contains_more x gs g.0 g.1, g.2)
+      ]
+
+  pub operations_members : (object : ℕ) (roles : List ℕ) (operation : ℕ) →
+      Contains (flat_map (λ role. map (λ g. g.1.0) (filter (λ g. g.1.1 == object) (of_role role))) roles) operation
+      ↔ ((role : ℕ) × Contains roles role × RoleMay value role operation object)
+  operations_members object roles operation =
+      iff_trans
+      (contains_flat_map (λ role. map (λ g. g.1.0) (filter (λ g. g.1.1 == object) (of_role role))) roles operation) (
+        λ (role, within, h). (role, within, (operation_may object role operation).0 h),
+        λ (role, within, h). (role, within, (operation_may object role operation).1 h),
+      )
+
+-- of a lone role
+pub lone : (role : ℕ) (P : ℕ → Type 0) → ((r : ℕ) × Contains (role ∷ []) r × P r) ↔ P role
+lone role P = (
+  λ (r, within, h). elim (contains_cases role [] r within) [
+    | inl is ↦ subst P (sym is) h
+    | inr none ↦ contains_none r _ none
+  ],
+  λ h. (role, contains_head role [] role refl, h),
+)
+
 -- of all roles of a user
-pub users_grants : (value : PolicyValue) (user : ℕ) (roles : List ℕ) (gs : List ((ℕ × ℕ) × ℕ)) (p : ℕ × ℕ) →
-    IsListing nat_cmp (λ role. IsTrue (assigned_in value user role)) roles → set.from_list gs ≡ value.grants →
-    SomeGrants roles gs p ↔ UserMay value user p.0 p.1
-users_grants value user roles gs p listing grants =
-    let same : (role : ℕ) → set.contains (set.from_list {R = grant_cmp} gs) (p, role) ≡ granted_in value p.0 p.1 role =
-    λ role. ap (λ g. set.contains g (p, role)) grants in (
-      λ (role, within, granted). (role, (listing.exact role).0 within, sym (same role) ∙ granted),
-      λ (role, assigned, granted). (role, (listing.exact role).1 assigned, same role ∙ granted),
-    )
+pub of_users_roles : (value : PolicyValue) (user : ℕ) (roles : List ℕ) (P : ℕ → Type 0) →
+    IsListing nat_cmp (λ role. IsTrue (assigned_in value user role)) roles →
+    ((role : ℕ) × Contains roles role × P role) ↔ ((role : ℕ) × IsTrue (assigned_in value user role) × P role)
+of_users_roles value user roles P listing = (
+  λ (role, within, h). (role, (listing.exact role).0 within, h),
+  λ (role, assigned, h). (role, (listing.exact role).1 assigned, h),
+)

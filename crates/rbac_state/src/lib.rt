@@ -4,10 +4,11 @@
 
 pub mod laws;
 mod listing;
-mod pairs;
 mod policy;
+mod relation;
 mod room;
 mod select;
+mod sorted;
 
 pub use laws::law_one_more;
 pub use listing::ascending;

@@ -1,11 +1,11 @@
-ghost use Rattle.std.specs.Prelude.{◌≡◌, ℕ, Contains, ◌+◌, ◌<◌, ◌≤◌, IfOk, OnOk, OnErr};
+ghost use Rattle.std.specs.Prelude.{◌≡◌, ℕ, Contains, ◌+◌, ◌<◌, ◌≤◌, ◌&&◌, find, IfOk, OnOk, OnErr};
 ghost use Rattle.std.specs.Ordering.{nat_cmp};
 ghost use Rattle.rbac_state.specs.Policies.{permission_cmp, assigned_in, granted_in, HasRole, RoleMay, UserMay, least_room, IsBlank, SameRelations, IsApplied};
 ghost use Rattle.rbac_state.specs.Listings.{IsListing};
 
 use crate::listing::ascending;
-use crate::room::spare;
-use crate::{pairs, select};
+use crate::relation::Relation;
+use crate::select;
 use quorum_sizes::NodeName;
 use role_commands::{Command, RoleTable};
 use std::alloc::{AllocError, Global};
@@ -23,13 +23,13 @@ const LEAST_ROOM: usize = 64;
 pub struct Policy {
     roles: RoleTable,
     /// Users, each with a role.
-    assigned: Vec<(u32, u16)>,
+    assigned: Relation<u32, u16>,
     /// Permissions, each with a role.
-    granted: Vec<(Permission, u16)>,
+    granted: Relation<Permission, u16>,
 }
 
 impl Model for Policy {
-    ghost use Rattle.std.specs.Prelude.{◌-◌, min, vec_len, vec_capacity};
+    ghost use Rattle.std.specs.Prelude.{min};
     ghost use Rattle.std.specs.FinSet as set;
     ghost use Rattle.rbac_state.specs.Policies.{PolicyValue, policy_code};
 
@@ -37,12 +37,16 @@ impl Model for Policy {
 
     ghost coded = { policy_code };
 
+    ghost use Rattle.rbac_state.specs.Relations.{AreKept, room_of};
+
     ghost view = { λ a. record {
       table = a.roles;
-      assignments = set.from_list a.assigned.items;
-      grants = set.from_list a.granted.items;
-      room = min (vec_capacity a.assigned - vec_len a.assigned) (vec_capacity a.granted - vec_len a.granted);
+      assignments = set.from_list a.assigned.by_first.items;
+      grants = set.from_list a.granted.by_first.items;
+      room = min (room_of a.assigned) (room_of a.granted);
     } };
+
+    ghost invariant = { λ a. AreKept a.assigned a.granted };
 }
 
 impl Policy {
@@ -53,8 +57,8 @@ impl Policy {
     {
         Policy {
             roles,
-            assigned: Vec::new(alloc),
-            granted: Vec::new(alloc),
+            assigned: Relation::new(alloc),
+            granted: Relation::new(alloc),
         }
     }
 
@@ -69,8 +73,8 @@ impl Policy {
         ensures more { self.old.room ≤ self.new.room }
         ensures same { SameRelations self.old self.new }
     {
-        self.assigned.try_reserve(LEAST_ROOM)?;
-        self.granted.try_reserve(LEAST_ROOM)?;
+        self.assigned.make_room(LEAST_ROOM)?;
+        self.granted.make_room(LEAST_ROOM)?;
         Ok(())
     }
 
@@ -78,7 +82,7 @@ impl Policy {
     pub fn room(&self) -> usize
         ensures { result ≡ self.now.room }
     {
-        spare(&self.assigned).min(spare(&self.granted))
+        self.assigned.room().min(self.granted.room())
     }
 
     /// Applies the next command of a node's stream. It changes the one pair that it names, where the
@@ -92,18 +96,18 @@ impl Policy {
             return;
         }
         match command {
-            Command::Assign { user, role } => pairs::put(&mut self.assigned, (user, role)),
-            Command::Deassign { user, role } => pairs::take_away(&mut self.assigned, &(user, role)),
+            Command::Assign { user, role } => self.assigned.put(user, role),
+            Command::Deassign { user, role } => self.assigned.take_away(user, role),
             Command::Grant {
                 role,
                 operation,
                 object,
-            } => { pairs::put(&mut self.granted, ((operation, object), role)) }
+            } => self.granted.put((operation, object), role),
             Command::Revoke {
                 role,
                 operation,
                 object,
-            } => { pairs::take_away(&mut self.granted, &((operation, object), role)) }
+            } => self.granted.take_away((operation, object), role),
         }
     }
 
@@ -118,14 +122,34 @@ impl Policy {
     pub fn is_assigned(&self, user: u32, role: u16) -> bool
         ensures { result ≡ assigned_in self.now user role }
     {
-        self.assigned.contains(&(user, role))
+        self.assigned.has(user, role)
     }
 
     /// Whether the role may do the operation on the object.
     pub fn is_granted(&self, role: u16, operation: u16, object: u32) -> bool
         ensures { result ≡ granted_in self.now operation object role }
     {
-        self.granted.contains(&((operation, object), role))
+        self.granted.has((operation, object), role)
+    }
+
+    /// The first of these roles that the user has and that may do the operation on the object.
+    pub fn first_granting(
+        &self,
+        user: u32,
+        roles: &[u16],
+        operation: u16,
+        object: u32,
+    ) -> Option<u16>
+        ensures { result
+            ≡ find (λ role. assigned_in self.now user role && granted_in self.now operation object role) roles.now }
+    {
+        select::first_granting(
+            &self.assigned,
+            &self.granted,
+            user,
+            roles,
+            (operation, object),
+        )
     }
 
     /// The users that have the role, in ascending order.
@@ -137,8 +161,7 @@ impl Policy {
         ensures { IfOk result (λ users.
             IsListing nat_cmp (λ user. HasRole self.now user role) users.items) }
     {
-        let users = select::users(self.alloc(), &self.assigned, role)?;
-        Ok(ascending(users))
+        select::seconds(self.alloc(), self.assigned.with_second(role))
     }
 
     /// The roles that the user has, in ascending order.
@@ -150,8 +173,7 @@ impl Policy {
         ensures { IfOk result (λ roles.
             IsListing nat_cmp (λ role. HasRole self.now user role) roles.items) }
     {
-        let roles = select::roles(self.alloc(), &self.assigned, user)?;
-        Ok(ascending(roles))
+        select::seconds(self.alloc(), self.assigned.with_first(user))
     }
 
     /// What the role may do, in ascending order of the operation and then of the object.
@@ -163,8 +185,7 @@ impl Policy {
         ensures { IfOk result (λ permissions.
             IsListing permission_cmp (λ p. RoleMay self.now role p.0 p.1) permissions.items) }
     {
-        let permissions = select::permissions(self.alloc(), &self.granted, &[role])?;
-        Ok(ascending(permissions))
+        select::seconds(self.alloc(), self.granted.with_second(role))
     }
 
     /// What some role of the user may do, in ascending order of the operation and then of the object.
@@ -177,8 +198,7 @@ impl Policy {
             IsListing permission_cmp (λ p. UserMay self.now user p.0 p.1) permissions.items) }
     {
         let roles = self.assigned_roles(user)?;
-        let permissions = select::permissions(self.alloc(), &self.granted, &roles)?;
-        Ok(ascending(permissions))
+        self.permissions_of(&roles)
     }
 
     /// What some role of these may do, in ascending order of the operation and then of the object.
@@ -204,8 +224,7 @@ impl Policy {
         ensures { IfOk result (λ operations.
             IsListing nat_cmp (λ operation. RoleMay self.now role operation object) operations.items) }
     {
-        let operations = select::operations(self.alloc(), &self.granted, &[role], object)?;
-        Ok(ascending(operations))
+        self.operations_of(&[role], object)
     }
 
     /// The operations that some role of the user may do on the object, in ascending order.
@@ -218,12 +237,21 @@ impl Policy {
             IsListing nat_cmp (λ operation. UserMay self.now user operation object) operations.items) }
     {
         let roles = self.assigned_roles(user)?;
-        let operations = select::operations(self.alloc(), &self.granted, &roles, object)?;
+        self.operations_of(&roles, object)
+    }
+
+    /// The operations that some role of these may do on the object, in ascending order.
+    fn operations_of(&self, roles: &[u16], object: u32) -> Result<Vec<u16>, AllocError>
+        ensures { IfOk result (λ operations. IsListing nat_cmp
+            (λ operation. (role : ℕ) × Contains roles.now role × RoleMay self.now role operation object)
+            operations.items) }
+    {
+        let operations = select::operations(self.alloc(), &self.granted, roles, object)?;
         Ok(ascending(operations))
     }
 
     /// Where the policy's lists have their memory from.
     fn alloc(&self) -> Global {
-        *self.assigned.allocator()
+        self.assigned.alloc()
     }
 }

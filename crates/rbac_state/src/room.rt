@@ -1,6 +1,6 @@
 //! The room of a `Vec`: what it can take without memory.
 
-ghost use Rattle.std.specs.Prelude.{◌≡◌, ◌<◌, ◌≤◌, ◌-◌, ◌++◌, ◌∷◌, [], vec_len, vec_capacity};
+ghost use Rattle.std.specs.Prelude.{◌≡◌, ◌<◌, ◌≤◌, ◌+◌, ◌-◌, ◌++◌, ◌∷◌, [], insert, vec_len, vec_capacity};
 
 /// How many more items the `Vec` can take without memory.
 pub fn spare<T>(items: &Vec<T>) -> usize
@@ -16,4 +16,15 @@ pub fn push_within_capacity<T: Drop>(items: &mut Vec<T>, item: T)
     ensures capacity { vec_capacity items.old ≤ vec_capacity items.new }
 {
     let _within = items.push(item);
+}
+
+/// Puts the item at this place, where there must be room for it. It takes no memory.
+pub fn insert_within_capacity<T: Drop>(items: &mut Vec<T>, place: usize, item: T)
+    requires place { place ≤ vec_len items.old }
+    requires room { vec_len items.old < vec_capacity items.old }
+    ensures items { items.new.items ≡ insert items.old.items place item }
+    ensures len { vec_len items.new ≡ vec_len items.old + 1 }
+    ensures capacity { vec_capacity items.old ≤ vec_capacity items.new }
+{
+    let _within = items.insert(place, item);
 }

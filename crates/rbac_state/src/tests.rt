@@ -75,6 +75,8 @@ fn pairs_are_found(rt: HostRuntime) -> Result<(), Fail> {
     assert!(rt; policy.is_granted(2, 5, 9));
     assert!(rt; !policy.is_granted(2, 6, 9));
     assert!(rt; policy.roles().owner(9).is_some());
+    assert_eq!(rt; policy.first_granting(7, &[3, 2], 5, 9), Some(2));
+    assert_eq!(rt; policy.first_granting(8, &[3, 2], 5, 9), None);
     Ok(())
 }
 

@@ -10,28 +10,20 @@ returns-in-Assign-clause-applied c =
     let owned : owns c.self.inside.roles c.args.owner c.in-Assign.role ≡ true =
     ap (owns c.self.inside.roles c.args.owner) (sym (c.role.ensures ∙ ap role_of c.in-Assign.is))
     ∙ sym c.is_owned_by.ensures.value ∙ c.if-not-is_owned_by.false in
-    rw (
-      c.in-Assign.is,
-      ← c.self.view_is,
-    ) (applied-Assign c.args.owner c.in-Assign.user c.in-Assign.role _ _ owned refl refl
-    (λ user role. assigned-put c.self.inside.assigned.items _ (c.in-Assign.user, c.in-Assign.role) (
-      user,
-      role,
-    ) c.put.ensures.items))
+    rw (c.in-Assign.is, ← c.self.view_is)
+    (applied-Assign c.args.owner c.in-Assign.user c.in-Assign.role _ _ owned refl refl
+    (λ user role. assigned-put c.self.inside.assigned.by_first.items _ c.in-Assign.user c.in-Assign.role
+    user role (c.put.ensures.members user role)))
 
 pub returns-in-Deassign-clause-applied : goal.returns-in-Deassign-clause-applied
 returns-in-Deassign-clause-applied c =
     let owned : owns c.self.inside.roles c.args.owner c.in-Deassign.role ≡ true =
     ap (owns c.self.inside.roles c.args.owner) (sym (c.role.ensures ∙ ap role_of c.in-Deassign.is))
     ∙ sym c.is_owned_by.ensures.value ∙ c.if-not-is_owned_by.false in
-    rw (
-      c.in-Deassign.is,
-      ← c.self.view_is,
-    ) (applied-Deassign c.args.owner c.in-Deassign.user c.in-Deassign.role _ _ owned refl refl
-    (λ user role. assigned-take_away c.self.inside.assigned.items _ (c.in-Deassign.user, c.in-Deassign.role) (
-      user,
-      role,
-    ) c.take_away.ensures.items))
+    rw (c.in-Deassign.is, ← c.self.view_is)
+    (applied-Deassign c.args.owner c.in-Deassign.user c.in-Deassign.role _ _ owned refl refl
+    (λ user role. assigned-take_away c.self.inside.assigned.by_first.items _ c.in-Deassign.user c.in-Deassign.role
+    user role (c.take_away.ensures.members user role)))
 
 pub returns-in-Grant-clause-applied : goal.returns-in-Grant-clause-applied
 returns-in-Grant-clause-applied c =
@@ -40,10 +32,8 @@ returns-in-Grant-clause-applied c =
     ∙ sym c.is_owned_by.ensures.value ∙ c.if-not-is_owned_by.false in
     rw (c.in-Grant.is, ← c.self.view_is)
     (applied-Grant c.args.owner c.in-Grant.role c.in-Grant.operation c.in-Grant.object _ _ owned refl refl
-    (λ operation object role. granted-put c.self.inside.granted.items _ (
-      (c.in-Grant.operation, c.in-Grant.object),
-      c.in-Grant.role,
-    ) ((operation, object), role) c.put-in-Grant.ensures.items))
+    (λ operation object role. granted-put c.self.inside.granted.by_first.items _ c.in-Grant.operation c.in-Grant.object c.in-Grant.role
+    operation object role (c.put-in-Grant.ensures.members (operation, object) role)))
 
 pub returns-in-Revoke-clause-applied : goal.returns-in-Revoke-clause-applied
 returns-in-Revoke-clause-applied c =
@@ -52,8 +42,5 @@ returns-in-Revoke-clause-applied c =
     ∙ sym c.is_owned_by.ensures.value ∙ c.if-not-is_owned_by.false in
     rw (c.in-Revoke.is, ← c.self.view_is)
     (applied-Revoke c.args.owner c.in-Revoke.role c.in-Revoke.operation c.in-Revoke.object _ _ owned refl refl
-    (λ operation object role.
-    granted-take_away c.self.inside.granted.items _ (
-      (c.in-Revoke.operation, c.in-Revoke.object),
-      c.in-Revoke.role,
-    ) ((operation, object), role) c.take_away-in-Revoke.ensures.items))
+    (λ operation object role. granted-take_away c.self.inside.granted.by_first.items _ c.in-Revoke.operation c.in-Revoke.object c.in-Revoke.role
+    operation object role (c.take_away-in-Revoke.ensures.members (operation, object) role)))

@@ -1,10 +1,15 @@
-use Rattle.rbac_state.proofs.ListingLemmas.{listing_of, roles_members}
+use Rattle.std.proofs.Common.{◌≡◌, map, ap}
+use Rattle.std.specs.Ordering.{nat_cmp}
+use Rattle.std.proofs.lemmas.Result.{IfOk-weaker}
+use Rattle.rbac_state.specs.Listings.{IsListing}
+use Rattle.rbac_state.specs.Policies.{HasRole}
+use Rattle.rbac_state.proofs.ListingLemmas.{roles_listing}
 use Rattle.rbac_state.proofs.policy.Policy.assigned_roles.Goals as goal
 
 pub returns : goal.returns
 returns c =
-    rw (← c.self.view_is) (listing_of c.ascending.ensures
-    (λ role. rw (
-      c.in_ok-roles.ensures,
-      c.deref.ensures.value,
-    ) (roles_members c.self.inside.assigned.items c.args.user role)))
+    IfOk-weaker c.seconds.result (λ xs. xs.items ≡ map (λ p. p.1) c.with_first.result.now)
+    (λ xs. IsListing nat_cmp (λ role. HasRole c.args.self.now c.args.user role) xs.items)
+    (λ xs is. rw (is, c.with_first.ensures)
+    (roles_listing c.args.self.now c.self.inside.assigned (ap (λ v. v.assignments) c.self.view_is) c.self.invariant.users
+    c.args.user)) c.seconds.ensures

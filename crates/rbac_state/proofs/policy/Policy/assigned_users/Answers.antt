@@ -1,10 +1,15 @@
-use Rattle.rbac_state.proofs.ListingLemmas.{listing_of, users_members}
+use Rattle.std.proofs.Common.{◌≡◌, map, ap}
+use Rattle.std.specs.Ordering.{nat_cmp}
+use Rattle.std.proofs.lemmas.Result.{IfOk-weaker}
+use Rattle.rbac_state.specs.Listings.{IsListing}
+use Rattle.rbac_state.specs.Policies.{HasRole}
+use Rattle.rbac_state.proofs.ListingLemmas.{users_listing}
 use Rattle.rbac_state.proofs.policy.Policy.assigned_users.Goals as goal
 
 pub returns : goal.returns
 returns c =
-    rw (← c.self.view_is) (listing_of c.ascending.ensures
-    (λ user. rw (
-      c.in_ok-users.ensures,
-      c.deref.ensures.value,
-    ) (users_members c.self.inside.assigned.items c.args.role user)))
+    IfOk-weaker c.seconds.result (λ xs. xs.items ≡ map (λ p. p.1) c.with_second.result.now)
+    (λ xs. IsListing nat_cmp (λ user. HasRole c.args.self.now user c.args.role) xs.items)
+    (λ xs is. rw (is, c.with_second.ensures)
+    (users_listing c.args.self.now c.self.inside.assigned (ap (λ v. v.assignments) c.self.view_is) c.self.invariant.users
+    c.args.role)) c.seconds.ensures

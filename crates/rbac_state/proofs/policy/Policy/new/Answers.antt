@@ -7,9 +7,9 @@ pub returns : goal.returns
 returns c = record {
   table = refl;
   assigned =
-      λ user role. ap (λ l. set.contains (set.from_list {R = assignment_cmp} l) (user, role)) c.new.ensures.items
+      λ user role. ap (λ l. set.contains (set.from_list {R = assignment_cmp} l) (user, role)) c.new.ensures.blank
       ∙ set.contains-empty assignment_cmp (user, role);
   granted = λ operation object role.
-      ap (λ l. set.contains (set.from_list {R = grant_cmp} l) ((operation, object), role)) c.new-2.ensures.items
+      ap (λ l. set.contains (set.from_list {R = grant_cmp} l) ((operation, object), role)) c.new-2.ensures.blank
       ∙ set.contains-empty grant_cmp ((operation, object), role);
 }

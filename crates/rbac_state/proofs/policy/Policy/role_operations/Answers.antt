@@ -1,11 +1,19 @@
-use Rattle.std.proofs.Common.{[], ◌∷◌}
-use Rattle.rbac_state.proofs.ListingLemmas.{listing_of, iff_trans, operations_members, lone_grants}
+use Rattle.std.proofs.Common.{ℕ, [], ◌∷◌}
+use Rattle.std.specs.Prelude.{Contains}
+use Rattle.std.specs.Ordering.{nat_cmp}
+use Rattle.std.proofs.lemmas.Result.{IfOk-weaker}
+use Rattle.rbac_state.specs.Listings.{IsListing}
+use Rattle.rbac_state.specs.Policies.{RoleMay}
+use Rattle.rbac_state.proofs.ListingLemmas.{listing_of, lone}
 use Rattle.rbac_state.proofs.policy.Policy.role_operations.Goals as goal
 
 pub returns : goal.returns
 returns c =
-    let grants = c.self.inside.granted.items in
-    rw (← c.self.view_is) (listing_of c.ascending.ensures
-    (λ operation. rw (c.in_ok-operations.ensures, c.deref.ensures.value)
-    (iff_trans (operations_members (c.args.role ∷ []) c.args.object grants operation)
-    (lone_grants c.args.role grants (operation, c.args.object)))))
+    let value = c.args.self.now in
+    let object = c.args.object in
+    IfOk-weaker c.operations_of.result
+    (λ xs. IsListing nat_cmp
+    (λ operation. (role : ℕ) × Contains (c.args.role ∷ []) role × RoleMay value role operation object) xs.items)
+    (λ xs. IsListing nat_cmp (λ operation. RoleMay value c.args.role operation object) xs.items)
+    (λ xs listing. listing_of listing (λ operation. lone c.args.role (λ role. RoleMay value role operation object)))
+    c.operations_of.ensures

@@ -1,10 +1,14 @@
-use Rattle.std.proofs.Common.{[], ◌∷◌}
-use Rattle.rbac_state.proofs.ListingLemmas.{listing_of, iff_trans, permissions_members, lone_grants}
+use Rattle.std.proofs.Common.{◌≡◌, map, ap}
+use Rattle.std.proofs.lemmas.Result.{IfOk-weaker}
+use Rattle.rbac_state.specs.Listings.{IsListing}
+use Rattle.rbac_state.specs.Policies.{permission_cmp, RoleMay}
+use Rattle.rbac_state.proofs.ListingLemmas.{permissions_listing}
 use Rattle.rbac_state.proofs.policy.Policy.role_permissions.Goals as goal
 
 pub returns : goal.returns
 returns c =
-    let grants = c.self.inside.granted.items in
-    rw (← c.self.view_is) (listing_of c.ascending.ensures
-    (λ p. rw (c.in_ok-permissions.ensures, c.deref.ensures.value)
-    (iff_trans (permissions_members (c.args.role ∷ []) grants p) (lone_grants c.args.role grants p))))
+    IfOk-weaker c.seconds.result (λ xs. xs.items ≡ map (λ p. p.1) c.with_second.result.now)
+    (λ xs. IsListing permission_cmp (λ p. RoleMay c.args.self.now c.args.role p.0 p.1) xs.items)
+    (λ xs is. rw (is, c.with_second.ensures)
+    (permissions_listing c.args.self.now c.self.inside.granted (ap (λ v. v.grants) c.self.view_is) c.self.invariant.permissions
+    c.args.role)) c.seconds.ensures

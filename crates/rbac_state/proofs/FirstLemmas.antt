@@ -1,0 +1,28 @@
+-- The first of a list that passes, found by going over the list.
+use Rattle.std.proofs.Common.{◌≡◌, ℕ, ◌+◌, ◌<◌, Bool, true, false, ◌&&◌, cond, List, [], ◌∷◌, length, get_or, take, drop, None, Some, refl, sym, ap, ◌∙◌}
+use Rattle.std.specs.List.{find}
+use Rattle.std.specs.Option.{option_or}
+use Rattle.std.proofs.lemmas.List.{take_more, drop_more, take-append-drop}
+use Rattle.std.proofs.lemmas.List.Folds.{find-append}
+
+pub and_false : (b : Bool) → (b && false) ≡ false
+and_false true = refl
+and_false false = refl
+
+module _ {X : Type 0} (p : X → Bool) (xs : List X) (i : ℕ) (d : X) (within : i < length xs)
+    (none : find p (take i xs) ≡ None) where
+  -- one more that does not pass
+  pub find_more : p (get_or xs i d) ≡ false → find p (take (i + 1) xs) ≡ None
+  find_more fails =
+      ap (find p) (take_more xs i d within)
+      ∙ find-append p (take i xs) (get_or xs i d ∷ [])
+      ∙ (λ k. option_or (none k) (cond (fails k) (Some (get_or xs i d)) None))
+
+  -- one that passes
+  pub find_here : p (get_or xs i d) ≡ true → find p xs ≡ Some (get_or xs i d)
+  find_here passes =
+      ap (find p) (sym (take-append-drop i xs))
+      ∙ find-append p (take i xs) (drop i xs)
+      ∙ ap (λ o. option_or o (find p (drop i xs))) none
+      ∙ ap (find p) (drop_more xs i d within)
+      ∙ ap (λ b. cond b (Some (get_or xs i d)) (find p (drop (i + 1) xs))) passes

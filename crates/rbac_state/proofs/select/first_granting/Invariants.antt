@@ -1,0 +1,12 @@
+use Rattle.std.proofs.Common.{◌≡◌, ◌&&◌, None, take}
+use Rattle.std.specs.List.{find}
+use Rattle.std.specs.Ordering.{nat_cmp}
+use Rattle.rbac_state.specs.Policies.{permission_cmp}
+use Rattle.rbac_state.specs.Relations.{relates}
+use Rattle.rbac_state.proofs.select.first_granting.Given as goal
+
+abbrev pub invariant-loop-role : goal.invariant-loop-role
+invariant-loop-role l =
+    find (λ role. relates nat_cmp nat_cmp l.assigned l.user role
+    && relates permission_cmp nat_cmp l.granted l.permission role) (take l.role-index l.roles)
+    ≡ None
