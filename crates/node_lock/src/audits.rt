@@ -14,7 +14,7 @@ use std::error::Error;
 use std::fmt;
 
 /// What an audit found wrong, at the least wrong place of the history.
-#[derive(Clone, Copy, Debug, PartialEq, Eq, Hash)]
+#[derive(Clone, Copy, Debug, PartialEq, Eq)]
 pub enum AuditFault {
     /// No receipt is of the event that was recorded at this place.
     Missing(u32),

@@ -8,7 +8,7 @@ pub trait Gate: Sync {
 }
 
 /// The gate that lets every worker through.
-#[derive(Clone, Copy, Debug, PartialEq, Eq, Hash)]
+#[derive(Clone, Copy, Debug, PartialEq, Eq)]
 pub struct NoGate;
 
 impl Gate for NoGate {

@@ -1,7 +1,7 @@
 use crate::receipt::Call;
 
 /// A call that waits for a worker, with a number by which its giver knows it.
-#[derive(Clone, Copy, Debug, PartialEq, Eq, Hash)]
+#[derive(Clone, Copy, Debug, PartialEq, Eq)]
 pub struct Job {
     pub number: u32,
     pub call: Call,

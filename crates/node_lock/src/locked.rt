@@ -22,7 +22,7 @@ use std::marker::Model;
 use std::sync::ledger::{Book, Ledger, Share};
 
 /// Why a call under the lock has no receipt. The seat stays as it was.
-#[derive(Clone, Copy, Debug, PartialEq, Eq, Hash)]
+#[derive(Clone, Copy, Debug, PartialEq, Eq)]
 pub enum StepFault {
     /// The history has `found` events, and the seat has seen `seen`.
     Behind { seen: u32, found: u32 },

@@ -6,7 +6,7 @@ use role_commands::Items;
 use role_node::{Answer, Event, NodeFault, Question, Reply};
 
 /// What a caller asks of a node under its lock.
-#[derive(Clone, Copy, Debug, PartialEq, Eq, Hash)]
+#[derive(Clone, Copy, Debug, PartialEq, Eq)]
 pub enum Call {
     /// An event is applied.
     Step(Event),

@@ -31,7 +31,7 @@ pub enum Slot {
 }
 
 /// Why a pool's worker failed, or a call has no receipt.
-#[derive(Clone, Copy, Debug, PartialEq, Eq, Hash)]
+#[derive(Clone, Copy, Debug, PartialEq, Eq)]
 pub enum Cause {
     /// A hold found a history that is shorter than the worker's seat had seen.
     Behind { seen: u32, found: u32 },
@@ -73,7 +73,7 @@ impl fmt::Display for Cause {
 }
 
 /// Why a pool has no report.
-#[derive(Clone, Copy, Debug, PartialEq, Eq, Hash)]
+#[derive(Clone, Copy, Debug, PartialEq, Eq)]
 pub enum PoolFault {
     /// No receipt is of the event that was recorded at this place.
     Missing(u32),

@@ -95,16 +95,16 @@ fn use_a_seat<L: Ledger, R: Wait + Abort>(rt: &R, alloc: Global, blank: Blank) -
         return Err("no seat".into());
     };
     let open = shared.node.lock(rt).step(&mut seat, OPEN)?;
-    assert_eq!(rt; (open.seat, open.place), (1, 0));
-    assert_eq!(rt; session_of(&open), Some(1));
+    assert!(rt; (open.seat, open.place) == (1, 0));
+    assert!(rt; session_of(&open) == Some(1));
     let check = shared.node.lock(rt).ask(&mut seat, CHECK)?;
-    assert_eq!(rt; check.place, 1);
+    assert!(rt; check.place == 1);
     assert!(rt; has_no_active_role(&check));
     let roles = shared
         .node
         .lock(rt)
         .ask(&mut seat, Question::AssignedRoles(7))?;
-    assert_eq!(rt; roles.place, 1);
+    assert!(rt; roles.place == 1);
     assert!(rt; has_no_roles(&roles));
     let Err(CloseFault::SeatMissing { node, mut seats }) = close(shared, seats) else {
         return Err("closed without a seat".into());
@@ -128,14 +128,14 @@ fn audit_three(
     let mut receipts = Vec::new(alloc);
     receipts.push(roles)?;
     receipts.push(check)?;
-    assert_eq!(rt; audit(alloc, node, &receipts), Err(AuditFault::Missing(0)));
+    assert!(rt; audit(alloc, node, &receipts) == Err(AuditFault::Missing(0)));
     receipts.push(opened(2))?;
-    assert_eq!(rt; audit(alloc, node, &receipts), Err(AuditFault::Differs(0)));
+    assert!(rt; audit(alloc, node, &receipts) == Err(AuditFault::Differs(0)));
     let _altered = receipts.pop();
     receipts.push(open)?;
-    assert_eq!(rt; audit(alloc, node, &receipts), Ok(()));
+    assert!(rt; audit(alloc, node, &receipts) == Ok(()));
     receipts.push(opened(1))?;
-    assert_eq!(rt; audit(alloc, node, &receipts), Err(AuditFault::Doubled(0)));
+    assert!(rt; audit(alloc, node, &receipts) == Err(AuditFault::Doubled(0)));
     Ok(())
 }
 
@@ -164,8 +164,9 @@ fn issue_in_a_hold<L: Ledger, R: Wait + Abort>(
     }
     let issue = Some(Call::Step(Event::Issue(ASSIGN)));
     let (receipt, view) = node.hold(&mut seat, issue, owner, 0)?;
-    assert_eq!(rt; receipt.map(|receipt| receipt.place), Some(0));
-    assert_eq!(rt; (view.at, view.reach, view.again.send), (1, 0, Some(ASSIGN)));
+    assert!(rt; receipt.map(|receipt| receipt.place) == Some(0));
+    assert!(rt; (view.at, view.reach) == (1, 0));
+    assert!(rt; view.again.send == Some(ASSIGN));
     Ok(())
 }
 
@@ -217,9 +218,9 @@ fn an_inbox_gives_back_what_is_left(rt: HostRuntime) -> Result<(), Fail> {
     };
     assert!(rt; inbox.put(&rt, &mut pass, job(0)).is_ok());
     assert!(rt; inbox.put(&rt, &mut pass, job(1)).is_ok());
-    assert_eq!(rt; inbox.take(&rt, &mut pass), Some(job(0)));
+    assert!(rt; inbox.take(&rt, &mut pass) == Some(job(0)));
     let left = finish_in_two(&rt, alloc, inbox, pass, kept)?;
-    assert_eq!(rt; left.as_slice(), [job(1)].as_slice());
+    assert!(rt; left.as_slice() == [job(1)].as_slice());
     Ok(())
 }
 
@@ -243,7 +244,7 @@ fn a_full_inbox_hands_the_job_back(rt: HostRuntime) -> Result<(), Fail> {
         return Err("no pass".into());
     };
     assert!(rt; fill(&rt, &inbox, &mut pass, 1_024));
-    assert_eq!(rt; inbox.put(&rt, &mut pass, job(1_024)), Err(job(1_024)));
+    assert!(rt; inbox.put(&rt, &mut pass, job(1_024)) == Err(job(1_024)));
     Ok(())
 }
 
@@ -300,13 +301,10 @@ fn two_workers_run_at_once(rt: HostRuntime) -> Result<(), Fail> {
         recorded,
         node,
     } = run_pool(&rt, alloc, config, me, calls, 2, &gate)?;
-    assert_eq!(rt; gate.late.load(Ordering::SeqCst), 0);
-    assert_eq!(rt;
-        (receipts.len(), recorded.len(), node.history().len()),
-        (2, 2, 2)
-    );
-    assert_eq!(rt; (receipts[1].place, session_of(&receipts[1])), (0, Some(1)));
-    assert_eq!(rt; (receipts[0].place, session_of(&receipts[0])), (1, Some(2)));
-    assert_eq!(rt; (recorded[0], recorded[1]), (1, 1));
+    assert!(rt; gate.late.load(Ordering::SeqCst) == 0);
+    assert!(rt; node.history().len() == 2 && receipts.len() == 2);
+    assert!(rt; receipts[1].place == 0 && session_of(&receipts[1]) == Some(1));
+    assert!(rt; receipts[0].place == 1 && session_of(&receipts[0]) == Some(2));
+    assert!(rt; recorded.as_slice() == [1, 1].as_slice());
     Ok(())
 }

@@ -1,7 +1,7 @@
 use role_node::NodeAgain;
 
 /// What a hold reads of a node, all after the same history.
-#[derive(Clone, Copy, Debug, PartialEq, Eq, Hash)]
+#[derive(Clone, Copy, Debug, PartialEq, Eq)]
 pub struct View {
     /// The length of the history.
     pub at: u32,
