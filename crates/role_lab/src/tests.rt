@@ -30,13 +30,32 @@ const SILENT: (&[u8], &[u8]) = (
 
 /// A vote counts once, and a correct node's must have been sent.
 const VOTES: (&[u8], &[u8]) = (
-    b"cluster 4 1\nrole 2 0\nliar 3\nissue 0 assign 7 2\ngive 1\ngive 1\nlie echo 3 1 0 0 assign 7 2\nlie echo 3 1 0 0 assign 8 2\nlie echo 2 1 0 0 assign 8 2\ngive 99\n",
-    b"sizes 3 2 3\nok\nok\nissued 0 sent 0-3\ncounted echo 4-7\nidle\ncounted\nidle\nV4 NotSent\nV3 NoSuchPacket\n",
+    b"cluster 4 1\nrole 2 0\nliar 3\nissue 0 assign 7 2\ngive 1\ngive 1\n\
+      lie echo 3 1 0 0 assign 7 2\nlie echo 3 1 0 0 assign 8 2\nlie echo 2 1 0 0 assign 8 2\ngive 99\n",
+    b"sizes 3 2 3\nok\nok\nissued 0 sent 0-3\ncounted echo 4-7\nidle\n\
+      counted\nidle\nV4 NotSent\nV3 NoSuchPacket\n",
+);
+
+/// The frame of the SEND of `assign 7 2` from node 0 to node 1: before it was sent, with a bit changed, of another
+/// cluster, at another node, and at last as it was sent, in upper case. The tags were computed elsewhere.
+const BYTES: (&[u8], &[u8]) = (
+    b"cluster 4 1\n\
+    role 2 0\n\
+    bytes 1 -\n\
+    bytes 1 01000000010001010000000100020000000700007748227dd60fa0e7d9fe50a5b9ac4a3a2e2f051b6d9ef19e52f2813c9887255a\n\
+    issue 0 assign 7 2\n\
+    bytes 1 01000000010001010000000100020000000700007748227dd60fa0e7d9fe50a5b9ac4a3a2e2f051b6d9ef19e52f2813c9887255b\n\
+    bytes 1 0100000002000101000000010002000000070000eb706a1a4c2176221f98ec91ea208d13057df66d8961c29b30efaab36f577455\n\
+    bytes 2 01000000010001010000000100020000000700007748227dd60fa0e7d9fe50a5b9ac4a3a2e2f051b6d9ef19e52f2813c9887255a\n\
+    bytes 1 01000000010001010000000100020000000700007748227DD60FA0E7D9FE50A5B9AC4A3A2E2F051B6D9EF19E52F2813C9887255A\n\
+    give 1\n",
+    b"sizes 3 2 3\nok\nL1 Length\nV4 NotSent\nissued 0 sent 0-3\n\
+      L6 BadTag\nL3 Cluster\nL4 NotForMe\ncounted echo 4-7\nidle\n",
 );
 
 #[test]
 fn scripts(rt: HostRuntime) {
-    for (script, due) in [SILENT, VOTES] {
+    for (script, due) in [SILENT, VOTES, BYTES] {
         let (result, text) = outcome(rt.alloc(), script);
         assert!(rt; result.is_ok());
         assert_eq!(rt; text.as_slice(), due);
@@ -56,6 +75,13 @@ fn bad_scripts(rt: HostRuntime) {
             b"sizes 3 2 3\nok\n"
         )
     );
+    for script in [
+        b"cluster 4 1\nbytes 1 0\n".as_slice(),
+        b"cluster 4 1\nbytes 1 \n",
+        b"cluster 4 1\nbytes 4 -\n",
+    ] {
+        assert!(rt; is_bad_at(outcome(rt.alloc(), script), 2, b"sizes 3 2 3\n"));
+    }
 }
 
 #[test]
