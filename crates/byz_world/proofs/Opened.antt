@@ -5,26 +5,13 @@ use Rattle.link_frames.specs.KeyRings.{KeyRing}
 use Rattle.link_frames.specs.Opening.{open_due}
 use Rattle.link_frames.specs.Packets.{PacketValue, SentByOwner}
 use Rattle.link_frames.specs.declared.opening.LinkFault.{LinkFault}
-use Rattle.link_frames.proofs.PacketReading.{demand_ok, packet_takes}
+use Rattle.link_frames.proofs.Exported.{opened_by_owner}
 use Rattle.byz_world.specs.LabKeys.{lab_ring}
 use Rattle.byz_world.specs.Steps.{opened_at}
 use Rattle.byz_world.specs.Worlds.{WorldValue, is_correct_in}
 
 abbrev Opened : Type 0
 Opened = Result PacketValue LinkFault
-
--- bytes open to no other's SEND
-own_opens : (ring : KeyRing) (cluster : ℕ) (bytes : List ℕ) (p : PacketValue) → open_due ring cluster bytes ≡ Ok p →
-    SentByOwner p
-unfolding open_due
-own_opens ring cluster bytes p e =
-    let a = demand_ok _ _ _ _ e in
-    let b = demand_ok _ _ _ _ a.1 in
-    let c = demand_ok _ _ _ _ b.1 in
-    let d = demand_ok _ _ _ _ c.1 in
-    let f = demand_ok _ _ _ _ d.1 in
-    let g = demand_ok _ _ _ _ f.1 in
-    (packet_takes _ _ _ _ p g.1).by_owner
 
 is_opened : (b : Bool) (r : Opened) (p : PacketValue) →
     ◌≡◌ {A = Option Opened} (if b then Some r else None) (Some (Ok p)) → r ≡ Ok p
@@ -35,5 +22,5 @@ pub opened_is_own : (w : WorldValue) (to : ℕ) (bytes : List ℕ) (p : PacketVa
     SentByOwner p
 opened_is_own w to bytes p e =
     let ring : KeyRing = lab_ring w.config.roles.sizes to in
-    own_opens ring w.config.cluster bytes p
+    opened_by_owner ring w.config.cluster bytes p
     (is_opened (is_correct_in w to) (open_due ring w.config.cluster bytes) p e)

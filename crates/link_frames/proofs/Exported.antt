@@ -7,7 +7,7 @@
 --     text_by-.., bad_by-..      a line program, line by line
 --     Ran, Ran-..      a line program that was run so far; Ended, Whole: how it ends
 --     sealed_is_opened, one_frame, length-frame, frames_differ      the laws of frames
---     length-hmac, open_takes, open_again      what is opened is the packet's frame
+--     length-hmac, open_takes, open_again, opened_by_owner      what is opened is the packet's frame
 pub use Rattle.link_frames.proofs.Waiting.{WentOn-nothing, WentOn-trans, CallFailed-later, ReaderFailed-later}
 pub use Rattle.link_frames.proofs.Writing.{AppendsFront-nothing, AppendsFront-whole}
 pub use Rattle.link_frames.proofs.Fronts.{EndsAt-position, NoLineEnd-EndsAt, NoLineEnd-whole, NoLineEnd-position, used_line}
@@ -17,4 +17,4 @@ pub use Rattle.link_frames.proofs.TextLemmas.{text_by-nil, text_by-good, text_by
 pub use Rattle.link_frames.proofs.Running.{Ran, Ran-start, Ran-kept, Ran-moved, Ran-taken, Ran-passed, Ran-line, Ran-good, Ran-text, Ran-number}
 pub use Rattle.link_frames.proofs.Ending.{Ended, Whole, Ended-whole, Ended-front, Ran-front, Ran-silent, Ran-passed_last, Ran-end, Ran-last, Ran-bad_line, Ran-bad_last, Ran-too_long, WroteFront-nothing, HasBytes-done, some_tail}
 pub use Rattle.link_frames.proofs.FrameLaws.{sealed_is_opened, one_frame, length-frame, frames_differ}
-pub use Rattle.link_frames.proofs.OpeningLemmas.{length-hmac, open_takes, open_again}
+pub use Rattle.link_frames.proofs.OpeningLemmas.{length-hmac, open_takes, open_again, opened_by_owner}

@@ -62,6 +62,19 @@ fields_are cluster nodes sender receiver bytes p fits len version cluster_is fro
     (part-add 8 1 11 bytes ∙ both (one 8 p.owner (omega arith) h.owner)
     (part-add 9 2 9 bytes ∙ both (sym two) command))))))
 
+-- bytes open to no other's SEND, whatever the bytes
+pub opened_by_owner : (ring : KeyRing) (cluster : ℕ) (bytes : List ℕ) (p : PacketValue)
+    → open_due ring cluster bytes ≡ Ok p → SentByOwner p
+unfolding open_due
+opened_by_owner ring cluster bytes p e =
+    let a = demand_ok _ _ _ _ e in
+    let b = demand_ok _ _ _ _ a.1 in
+    let c = demand_ok _ _ _ _ b.1 in
+    let d = demand_ok _ _ _ _ c.1 in
+    let f = demand_ok _ _ _ _ d.1 in
+    let g = demand_ok _ _ _ _ f.1 in
+    (packet_takes _ _ _ _ p g.1).by_owner
+
 -- ---- both directions
 
 pub open_takes : (ring : KeyRing) (cluster : ℕ) (bytes : List ℕ) (p : PacketValue) → IsBytes bytes
