@@ -2,6 +2,8 @@ pub mod EventLemmas
 pub mod StateLemmas
 pub mod RoleLemmas
 pub mod OpenLemmas
+pub mod TableLemmas
+pub mod RememberLemmas
 pub mod DecisionLaws
 pub mod IdLaws
 pub mod Exported

@@ -1,5 +1,6 @@
 -- The entries of an `IndexMap` of sessions are a finite map.
-use Rattle.std.proofs.Common.{◌≡◌, ℕ, ◌+◌, ◌-◌, Bool, true, false, cond, ◌==◌, if◌then◌else◌, nat_eq, List, [], ◌∷◌, length, Option, Some, None, is_some, refl, sym, ap, ◌∙◌, arith}
+use Rattle.std.proofs.Common.{◌≡◌, ◌≢◌, ℕ, ◌+◌, ◌-◌, Bool, true, false, cond, ◌==◌, if◌then◌else◌, ◌⊎◌, nat_eq, List, [], ◌∷◌, length, Option, Some, None, is_some, refl, sym, ap, ◌∙◌, inl, inr, arith}
+use Rattle.std.proofs.lemmas.Bool.Decides.{eqb_tells}
 use Rattle.std.specs.Cmp.{nat_cmp_total, nat_eq_equiv, unsigned_tied}
 use Rattle.std.specs.FinMap as map
 use Rattle.std.specs.FinMap.{find, get-from_entries, len-insert, len-remove, len-empty, same_map, nat_cmp-IsAntisymmetric}
@@ -23,7 +24,7 @@ abbrev pub IsLong : Entries → Type 0
 IsLong es = map.len (map_of es) ≡ length es
 
 -- the new entries have this at the key, and the old ones' elsewhere
-abbrev pub Gives : ℕ → Option Session → Entries → Entries → Type 0
+abbrev pub Gives : {V : Type 0} → ℕ → Option V → List (ℕ × V) → List (ℕ × V) → Type 0
 Gives id w old new = (q : ℕ) → lookup (nat_eq q) new ≡ cond (nat_eq id q) w (lookup (nat_eq q) old)
 
 find-lookup : (q : ℕ) (es : Entries) → find nat_cmp q es ≡ lookup (nat_eq q) es
@@ -48,6 +49,18 @@ pub map_of-remove : (old new : Entries) (id : ℕ) → Gives id None old new →
 map_of-remove old new id gives =
     same_map nat_cmp_total nat_cmp-IsAntisymmetric _ _ (λ q. given old new id None gives q
     ∙ sym (get-removed (map_of old) id q))
+
+-- the session that stands there is written again
+pub map_of-again : (old new : Entries) (id : ℕ) (session : Session) → Some session ≡ lookup (nat_eq id) old
+    → Gives id (Some session) old new → map_of new ≡ map_of old
+map_of-again old new id session here gives =
+    same_map nat_cmp_total nat_cmp-IsAntisymmetric _ _ (λ q. given old new id (Some session) gives q
+    ∙ by q (eqb_tells q id))
+  where
+    by : (q : ℕ) → ((q == id) ≡ true) × (q ≡ id) ⊎ ((q == id) ≡ false) × (q ≢ id) →
+        (if q == id then Some session else map.get (map_of old) q) ≡ map.get (map_of old) q
+    by q (inl same) = rw same.0 (here ∙ sym (get-map_of old id) ∙ ap (map.get (map_of old)) (sym same.1))
+    by q (inr apart) = rw apart.0 refl
 
 pub IsLong-none : IsLong []
 IsLong-none = len-empty nat_cmp Session

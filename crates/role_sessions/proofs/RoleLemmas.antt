@@ -1,5 +1,5 @@
 -- The roles of a session that count.
-use Rattle.std.proofs.Common.{◌≡◌, ℕ, Bool, true, false, ◌==◌, ◌&&◌, ◌||◌, not, if◌then◌else◌, List, [], ◌∷◌, filter, find, length, Option, Some, refl, sym, ap, ◌∙◌, eq-eqb, arith}
+use Rattle.std.proofs.Common.{◌≡◌, ℕ, Bool, true, false, cond, ◌==◌, ◌&&◌, ◌||◌, not, if◌then◌else◌, List, [], ◌∷◌, filter, find, length, Option, Some, refl, sym, ap, ◌∙◌, eq-eqb, arith}
 use Rattle.std.proofs.lemmas.Bool.Decides.{nat_tests}
 use Rattle.std.specs.List.{list_any}
 use Rattle.role_sessions.specs.declared.verdict.Rule.TheVariants.{NotYours, NoActiveRole, NoneAssigned}
@@ -27,6 +27,16 @@ none-filter q (x ∷ xs) = by (q x) (none-filter q xs)
         (length (if b then x ∷ filter q xs else filter q xs) == 0) ≡ not (b || list_any q xs)
     by true e = grind (arith, nat_tests)
     by false e = e
+
+-- what passes both passes the first
+pub found_passes : (p q : ℕ → Bool) (xs : List ℕ) (x : ℕ) → find (λ x. p x && q x) xs ≡ Some x → list_any p xs ≡ true
+found_passes p q [] x h = absurd (cc)
+found_passes p q (y ∷ xs) x h = by (p y) h (found_passes p q xs x)
+  where
+    by : (b : Bool) → cond (b && q y) (Some y) (find (λ x. p x && q x) xs) ≡ Some x
+        → (find (λ x. p x && q x) xs ≡ Some x → list_any p xs ≡ true) → (b || list_any p xs) ≡ true
+    by true e rest = refl
+    by false e rest = rest e
 
 -- the verdict in an open session, from what its code knows of it
 module _ (relations : Relations) (inside session : Session) (view : inside ≡ session) (user operation object : ℕ)

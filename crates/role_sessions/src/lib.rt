@@ -6,9 +6,11 @@
 //! a call is refused.
 #![tactic(auto)]
 
+mod answers;
 mod event;
 mod faults;
 pub mod laws;
+mod open_session;
 mod open_sessions;
 mod session;
 mod sessions;

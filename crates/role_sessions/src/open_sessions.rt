@@ -1,89 +1,131 @@
-ghost use Rattle.std.specs.Prelude.{◌≡◌, OnOk, OnErr};
+ghost use Rattle.std.specs.Prelude.{◌≡◌, [], OnOk, OnErr};
 ghost use Rattle.std.specs.FinMap as map;
 ghost use Rattle.std.specs.Option.{option_copied};
 ghost use Rattle.role_sessions.specs.Changes.{changed_at, with_role, without_role};
+ghost use Rattle.role_sessions.specs.Decisions.{relations_of, verdict};
+ghost use Rattle.role_sessions.specs.Kept.{KeptAreRight, KeepsRight};
+ghost use Rattle.role_sessions.specs.Remembered.{as_sessions};
 
+use crate::open_session::OpenSession;
 use crate::session::Session;
+use crate::verdict::{Rule, Verdict};
 use indexmap::IndexMap;
+use rbac_state::Policy;
 use std::alloc::{AllocError, Global};
 use std::marker::Model;
 
-/// The open sessions, by their ids.
+/// The open sessions, by their ids, with the answers that they remember. Those of an earlier generation are forgotten.
 #[derive(Drop, Debug)]
 pub(crate) struct OpenSessions {
-    sessions: IndexMap<u64, Session>,
+    sessions: IndexMap<u64, OpenSession>,
+    generation: u64,
 }
 
 impl Model for OpenSessions {
-    ghost use Rattle.std.specs.Prelude.{◌≡◌, length};
-    ghost use Rattle.std.specs.Coded.{coded_ℕ};
-    ghost use Rattle.std.specs.FinMap as map;
-    ghost use Rattle.std.specs.Ordering.{nat_cmp};
-    ghost use Rattle.role_sessions.specs.Sessions as seen;
-    ghost use Rattle.role_sessions.specs.Kept.{session_code};
+    ghost use Rattle.role_sessions.specs.Remembered.{OpenValue, open_code, open_value, IsTable};
 
-    ghost Value = { map.FinMap nat_cmp seen.Session };
+    ghost Value = { OpenValue };
 
-    ghost coded = { map.code coded_ℕ session_code };
+    ghost coded = { open_code };
 
-    ghost view = { λ a. map.from_entries a.sessions.entries };
+    ghost view = { λ a. open_value a.generation a.sessions.entries };
 
-    ghost invariant = { λ a. map.len (map.from_entries {R = nat_cmp} a.sessions.entries) ≡ length a.sessions.entries };
+    ghost invariant = { λ a. IsTable a.generation a.sessions.entries };
 }
 
 impl OpenSessions {
     pub(crate) fn new(alloc: Global) -> Self
-        ensures { result ≡ map.empty }
+        ensures sessions { result.sessions ≡ map.empty }
+        ensures kept { result.kept ≡ [] }
     {
         OpenSessions {
             sessions: IndexMap::new(alloc),
+            generation: 1,
         }
     }
 
     pub(crate) fn len(&self) -> usize
-        ensures { result ≡ map.len self.now }
+        ensures { result ≡ map.len self.now.sessions }
     {
         self.sessions.len()
     }
 
     pub(crate) fn get(&self, id: u64) -> Option<&Session>
-        ensures { option_copied result ≡ map.get self.now id }
+        ensures { option_copied result ≡ map.get self.now.sessions id }
     {
-        self.sessions.get(&id)
+        match self.sessions.get(&id) {
+            Some(found) => Some(&found.session),
+            None => None,
+        }
     }
 
     pub(crate) fn insert(&mut self, id: u64, session: Session) -> Result<(), AllocError>
-        ensures ok { OnOk result (self.new ≡ map.insert self.old id session) }
+        ensures ok { OnOk result (self.new.sessions ≡ map.insert self.old.sessions id session) }
         ensures err { OnErr result (self.new ≡ self.old) }
+        ensures kept { KeepsRight (as_sessions self.old) (as_sessions self.new) }
     {
-        self.sessions.insert(id, session)?;
+        self.sessions.insert(id, OpenSession::new(session))?;
         Ok(())
     }
 
     pub(crate) fn remove(&mut self, id: u64)
-        ensures { self.new ≡ map.remove self.old id }
+        ensures sessions { self.new.sessions ≡ map.remove self.old.sessions id }
+        ensures kept { KeepsRight (as_sessions self.old) (as_sessions self.new) }
     {
         let _removed = self.sessions.swap_remove(&id);
     }
 
-    /// Makes the role the last active one of the session.
+    /// Makes the role the last active one of the session, and forgets its answers.
     pub(crate) fn activate(&mut self, id: u64, role: u16) -> Result<(), AllocError>
-        ensures ok { OnOk result (self.new ≡ changed_at self.old id (with_role role)) }
+        ensures ok { OnOk result (self.new.sessions ≡ changed_at self.old.sessions id (with_role role)) }
         ensures err { OnErr result (self.new ≡ self.old) }
+        ensures kept { KeepsRight (as_sessions self.old) (as_sessions self.new) }
     {
-        let Some(session) = self.sessions.get_mut(&id) else {
+        let Some(found) = self.sessions.get_mut(&id) else {
             return Ok(());
         };
-        session.activate(role)
+        found.activate(role)?;
+        Ok(())
     }
 
-    /// Takes the role out of the active ones of the session.
+    /// Takes the role out of the active ones of the session, and forgets its answers.
     pub(crate) fn drop_role(&mut self, id: u64, role: u16)
-        ensures { self.new ≡ changed_at self.old id (without_role role) }
+        ensures sessions { self.new.sessions ≡ changed_at self.old.sessions id (without_role role) }
+        ensures kept { KeepsRight (as_sessions self.old) (as_sessions self.new) }
     {
-        let Some(session) = self.sessions.get_mut(&id) else {
+        let Some(found) = self.sessions.get_mut(&id) else {
             return;
         };
-        session.drop_role(role);
+        found.drop_role(role);
+    }
+
+    /// The decision on an access, which the session may remember.
+    pub(crate) fn check(
+        &mut self,
+        policy: &Policy,
+        id: u64,
+        user: u32,
+        operation: u16,
+        object: u32,
+    ) -> Verdict
+        requires { KeptAreRight (relations_of policy.now) (as_sessions self.old) }
+        ensures verdict { let found = map.get self.old.sessions id in
+            result ≡ verdict (relations_of policy.now) found user operation object }
+        ensures sessions { self.new.sessions ≡ self.old.sessions }
+        ensures kept { KeptAreRight (relations_of policy.now) (as_sessions self.new) }
+    {
+        let generation = self.generation;
+        let Some(found) = self.sessions.get_mut(&id) else {
+            return Verdict::Deny(Rule::NoSession);
+        };
+        found.check(policy, generation, user, operation, object)
+    }
+
+    /// Forgets all answers.
+    pub(crate) fn forget(&mut self)
+        ensures sessions { self.new.sessions ≡ self.old.sessions }
+        ensures kept { self.new.kept ≡ [] }
+    {
+        self.generation = self.generation.saturating_add(1);
     }
 }

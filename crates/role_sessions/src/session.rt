@@ -44,6 +44,13 @@ impl Session {
         }
     }
 
+    /// Whether the session is this user's.
+    pub(crate) fn is_of(&self, user: u32) -> bool
+        ensures { result ≡ (self.now.user == user) }
+    {
+        self.user == user
+    }
+
     fn is_active(&self, role: u16) -> bool
         ensures { result ≡ is_active self.now role }
     {
@@ -131,12 +138,15 @@ impl Session {
         if self.active.is_empty() {
             return Verdict::Deny(Rule::NoActiveRole);
         }
-        if !self.counts(policy) {
-            return Verdict::Deny(Rule::NoneAssigned);
-        }
         match self.granting(policy, operation, object) {
             Some(role) => Verdict::Allow(role),
-            None => Verdict::Deny(Rule::NotPermitted),
+            None => {
+                if self.counts(policy) {
+                    Verdict::Deny(Rule::NotPermitted)
+                } else {
+                    Verdict::Deny(Rule::NoneAssigned)
+                }
+            }
         }
     }
 
@@ -155,9 +165,7 @@ impl Session {
             result ≡ find
             (λ role. relations.assigned self.now.user role && relations.granted operation object role) self.now.active }
     {
-        self.active.iter().copied().find(|role| {
-            policy.is_assigned(self.user, *role) && policy.is_granted(*role, operation, object)
-        })
+        policy.first_granting(self.user, &self.active, operation, object)
     }
 
     /// The roles that count, in the order of their activation.

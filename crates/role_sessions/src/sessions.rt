@@ -11,7 +11,7 @@ ghost use Rattle.role_sessions.specs.Kept.{KeptAreRight, KeepsRight};
 use crate::faults::{EndFault, SessionFault};
 use crate::open_sessions::OpenSessions;
 use crate::session::Session;
-use crate::verdict::{Rule, Verdict};
+use crate::verdict::Verdict;
 use rbac_state::{Permission, Policy};
 use std::alloc::Global;
 use std::marker::Model;
@@ -29,7 +29,6 @@ pub struct Sessions {
 }
 
 impl Model for Sessions {
-    ghost use Rattle.std.specs.Prelude.{[]};
     ghost use Rattle.role_sessions.specs.Kept.{SessionsValue, sessions_code};
 
     ghost Value = { SessionsValue };
@@ -37,8 +36,8 @@ impl Model for Sessions {
     ghost coded = { sessions_code };
 
     ghost view = { λ a. record {
-      state = record { opened = a.opened; open_sessions = a.open_sessions };
-      kept = [];
+      state = record { opened = a.opened; open_sessions = a.open_sessions.sessions };
+      kept = a.open_sessions.kept;
     } };
 }
 
@@ -230,10 +229,8 @@ impl Sessions {
         ensures state { self.new.state ≡ self.old.state }
         ensures kept { KeptAreRight (relations_of policy.now) self.new }
     {
-        match self.open_sessions.get(session) {
-            Some(found) => found.verdict(policy, user, operation, object),
-            None => Verdict::Deny(Rule::NoSession),
-        }
+        self.open_sessions
+            .check(policy, session, user, operation, object)
     }
 
     /// The roles that count in the session, in the order of their activation.
@@ -285,6 +282,6 @@ impl Sessions {
         ensures state { self.new.state ≡ self.old.state }
         ensures kept { self.new.kept ≡ [] }
     {
-        let _open_sessions = &self.open_sessions;
+        self.open_sessions.forget();
     }
 }

@@ -11,4 +11,4 @@ returns-clause-state c =
       opened = 0;
       open_sessions = sessions;
     } in
-    ap family c.new.ensures ∙ state_of-none
+    ap family c.new.ensures.sessions ∙ state_of-none
