@@ -248,6 +248,7 @@ impl<L: Ledger> Locked<L> {
             outcome,
         })
     }
+
     /// Whether the name is a node's of the sizes of the node behind the lock.
     pub fn has(&self, name: NodeName) -> bool
         ensures { IsTrue result ↔ (name < node_count self.now) }
