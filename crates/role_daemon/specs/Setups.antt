@@ -1,5 +1,5 @@
 -- The node that a cluster text sets up.
-use Rattle.std.specs.Prelude.{◌≡◌, ◌<◌, ◌⊎◌, ℕ, nat_lt, ◌==◌, not, ◌&&◌, if◌then◌else◌, List, [], ◌∷◌, length, Option, Some, None, is_some, Result, Ok, Err}
+use Rattle.std.specs.Prelude.{◌≡◌, ◌<◌, ◌⊎◌, ⊤, ℕ, nat_lt, ◌==◌, not, ◌&&◌, if◌then◌else◌, List, [], ◌∷◌, length, Option, Some, None, is_some, Result, Ok, Err}
 use Rattle.serde_json.specs.Data.{Data}
 use Rattle.serde_json.specs.Find.{as_object}
 use Rattle.quorum_sizes.specs.Sizes.{Counts}
@@ -26,6 +26,21 @@ most_text_bytes = 65536
 abbrev pub or_sizes_fault : Result Counts SizeFault → Result Counts ClusterFault
 or_sizes_fault (Ok s) = Ok s
 or_sizes_fault (Err f) = Err (fault.Sizes f)
+
+-- there are a key and a port of each node
+abbrev pub IsServerSetup : Setup → Type 0
+IsServerSetup setup = (length setup.keys ≡ setup.config.roles.sizes.nodes)
+    × (length setup.nodes ≡ setup.config.roles.sizes.nodes)
+
+-- a setup to serve has them
+abbrev pub IsSetupIn : Mode → Setup → Type 0
+IsSetupIn Pipe setup = ⊤
+IsSetupIn Serve setup = IsServerSetup setup
+
+-- so many keys and ports are there
+abbrev pub AreCounted : Mode → Counts → ℕ → ℕ → Type 0
+AreCounted Pipe s keys nodes = ⊤
+AreCounted Serve s keys nodes = (keys ≡ s.nodes) × (nodes ≡ s.nodes)
 
 -- the node's own name is a node's, and a pipe has one node
 unfoldable pub name_of : Mode → Counts → ℕ → Result ℕ ClusterFault

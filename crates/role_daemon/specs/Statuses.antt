@@ -4,6 +4,8 @@ use Rattle.role_daemon.specs.declared.fault.ClusterFault.{ClusterFault}
 use Rattle.role_daemon.specs.declared.fault.ClusterFault.TheVariants as cluster
 use Rattle.role_daemon.specs.declared.fault.PipeFault.{PipeFault}
 use Rattle.role_daemon.specs.declared.fault.PipeFault.TheVariants as pipe
+use Rattle.role_daemon.specs.declared.fault.ServeFault.{ServeFault}
+use Rattle.role_daemon.specs.declared.fault.ServeFault.TheVariants as serve
 use Rattle.role_daemon.specs.declared.fault.WordsFault.{WordsFault}
 use Rattle.role_daemon.specs.declared.fault.WordsFault.TheVariants as words
 
@@ -24,3 +26,7 @@ abbrev pub pipe_status : PipeFault → ℕ
 pipe_status (pipe.Cluster fault) = cluster_status fault
 pipe_status pipe.Device = 4
 pipe_status pipe.Memory = 5
+
+abbrev pub serve_status : ServeFault → ℕ
+serve_status serve.Device = 4
+serve_status serve.Memory = 5

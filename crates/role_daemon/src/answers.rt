@@ -163,7 +163,7 @@ fn events_recorded(node: &Node) -> u32
 }
 
 /// An answer as a client hears it.
-fn listed(at: u32, answer: Answer) -> ClientAnswer
+pub fn listed(at: u32, answer: Answer) -> ClientAnswer
     ensures answer { result ≡ answers.listed at answer }
     ensures written { IsWritten result }
 {
@@ -209,7 +209,7 @@ fn fit(operation: u16, object: u32)
 {}
 
 /// How many messages were sent at a place.
-fn sent_count(again: &NodeAgain) -> u8
+pub fn sent_count(again: &NodeAgain) -> u8
     ensures { result ≡ answers.sent_count again.now }
 {
     one_if(again.send) + one_if(again.echo) + one_if(again.ready)

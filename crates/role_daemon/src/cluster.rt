@@ -1,12 +1,12 @@
 //! The cluster text: what a node is told at its start.
 
-ghost use Rattle.std.specs.Prelude.{◌≡◌, ◌<◌, [], ◌∷◌, length, IfOk};
+ghost use Rattle.std.specs.Prelude.{◌≡◌, ◌<◌, [], ◌∷◌, length, IfOk, OnOk};
 ghost use Rattle.std.specs.List.{filter_map, cons_option};
 ghost use Rattle.serde_json.specs.View.{view};
 ghost use Rattle.role_daemon.specs.Results.{IsDueOrMemory};
 ghost use Rattle.role_daemon.specs.Shapes as shapes;
 ghost use Rattle.role_daemon.specs.Setups as setups;
-ghost use Rattle.role_daemon.specs.Setups.{setup_due, IsNodeSetup};
+ghost use Rattle.role_daemon.specs.Setups.{setup_due, IsNodeSetup, IsSetupIn, AreCounted};
 
 use crate::fault::ClusterFault;
 use crate::shape::{Shape, key_of, pair_of, port_of, shape_of};
@@ -54,6 +54,7 @@ pub struct Setup {
 pub fn read_cluster(alloc: Global, bytes: &[u8], mode: Mode) -> Result<Setup, ClusterFault>
     ensures due { IsDueOrMemory (setup_due mode bytes.now) result }
     ensures node { IfOk result IsNodeSetup }
+    ensures server { IfOk result (IsSetupIn mode) }
 {
     if bytes.len() > MOST_TEXT_BYTES {
         return Err(ClusterFault::NotJson);
@@ -68,6 +69,7 @@ pub fn read_cluster(alloc: Global, bytes: &[u8], mode: Mode) -> Result<Setup, Cl
 fn setup_of_value(alloc: Global, mode: Mode, text: &Value) -> Result<Setup, ClusterFault>
     ensures due { IsDueOrMemory (setups.setup_of_value mode (view text.now)) result }
     ensures node { IfOk result IsNodeSetup }
+    ensures server { IfOk result (IsSetupIn mode) }
 {
     if !text.is_object() {
         return Err(ClusterFault::NotObject);
@@ -80,6 +82,7 @@ fn setup_of_value(alloc: Global, mode: Mode, text: &Value) -> Result<Setup, Clus
 fn setup_of(alloc: Global, mode: Mode, shape: &Shape<'_>) -> Result<Setup, ClusterFault>
     ensures due { IsDueOrMemory (setups.setup_of mode (shapes.shape_view shape.now)) result }
     ensures node { IfOk result IsNodeSetup }
+    ensures server { IfOk result (IsSetupIn mode) }
 {
     let sizes = Sizes::new(shape.n, shape.f)?;
     let me = name_of(mode, &sizes, shape.me)?;
@@ -149,7 +152,8 @@ fn add_role(roles: &mut RoleTable, role: u16, owner: u8) -> Result<(), ClusterFa
 /// Whether a server has a key and a port of each node, where it has so many of them.
 #[tactic(auto, unfolding(crate::specs::Setups::counted))]
 fn counted(mode: Mode, sizes: &Sizes, keys: usize, nodes: usize) -> Result<(), ClusterFault>
-    ensures { result ≡ setups.counted mode sizes.now keys nodes }
+    ensures value { result ≡ setups.counted mode sizes.now keys nodes }
+    ensures counted { OnOk result (AreCounted mode sizes.now keys nodes) }
 {
     if matches!(mode, Mode::Serve) {
         let due = usize::from(sizes.n());

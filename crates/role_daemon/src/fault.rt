@@ -1,7 +1,7 @@
 //! Why the program ends before its end.
 
 ghost use Rattle.std.specs.Prelude.{◌≡◌};
-ghost use Rattle.role_daemon.specs.Statuses.{words_status, cluster_status, pipe_status};
+ghost use Rattle.role_daemon.specs.Statuses.{words_status, cluster_status, pipe_status, serve_status};
 
 use client_lines::Member;
 use link_frames::{AheadFault, DeviceFault};
@@ -176,5 +176,38 @@ impl From<DeviceFault> for PipeFault {
 
     fn from(_e: DeviceFault) -> Self {
         PipeFault::Device
+    }
+}
+
+/// Why a node does not serve, or serves no longer.
+#[derive(Debug, Drop, Error)]
+pub enum ServeFault {
+    /// A listener could not be made, or has failed.
+    #[error("device")]
+    Device,
+    /// There was no memory.
+    #[error("out of memory")]
+    Memory,
+}
+
+impl ServeFault {
+    /// The exit status of the program: 4 at a failed listener, 5 for want of memory.
+    pub fn status(&self) -> u8
+        ensures { result ≡ serve_status self.now }
+    {
+        match self {
+            ServeFault::Device => 4,
+            ServeFault::Memory => 5,
+        }
+    }
+}
+
+impl From<AllocError> for ServeFault {
+    ghost use Rattle.role_daemon.specs.declared.fault.ServeFault.TheVariants.{Memory};
+
+    ghost from_gives = { λ _ e. e ≡ Memory };
+
+    fn from(_e: AllocError) -> Self {
+        ServeFault::Memory
     }
 }

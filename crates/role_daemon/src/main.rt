@@ -5,17 +5,24 @@
 //! which text is due for an input, and `specs/Runs.antt` what running the pipe does.
 #![tactic(auto)]
 
+ghost use Rattle.std.specs.Prelude.{IfOk};
+ghost use Rattle.role_daemon.specs.Setups.{IsNodeSetup, IsServerSetup};
+
 mod answers;
 pub mod cluster;
 pub mod fault;
 pub mod pipe;
+pub mod serve;
 mod shape;
 pub mod words;
 
-use fault::{PipeFault, WordsFault};
+use cluster::{MOST_TEXT_BYTES, Mode, Setup, read_cluster};
+use fault::{ClusterFault, PipeFault, WordsFault};
 use link_frames::Watched;
 use pipe::run_pipe;
-use std::io::ErrorKind;
+use serve::serve;
+use std::fs::File;
+use std::io::{ErrorKind, Read};
 use std::process::ExitCode;
 use std::{env, io};
 use words::{Words, read_words};
@@ -27,7 +34,13 @@ fn main(rt: HostRuntime) -> ExitCode {
     };
     match outcome {
         Ok(Words::Pipe) => run(&rt),
-        Ok(Words::Serve { .. }) => refuse(&rt, &WordsFault::Refused),
+        Ok(Words::Serve { file }) => match setup_of(&rt, &file) {
+            Ok(setup) => match serve(&rt, rt.alloc(), setup) {
+                Ok(()) => ExitCode::SUCCESS,
+                Err(fault) => ExitCode::from(fault.status()),
+            },
+            Err(code) => code,
+        },
         Err(fault) => refuse(&rt, &fault),
     }
 }
@@ -69,5 +82,42 @@ fn run(rt: &HostRuntime) -> ExitCode {
     }
 }
 
+/// The setup of a cluster file, or the program's exit status.
+fn setup_of(rt: &HostRuntime, file: &str) -> Result<Setup, ExitCode>
+    ensures node { IfOk result IsNodeSetup }
+    ensures server { IfOk result IsServerSetup }
+{
+    let text = match text_of(rt, file) {
+        Ok(text) => text,
+        Err(error) => {
+            if error.kind() == ErrorKind::OutOfMemory {
+                return Err(ExitCode::from(ClusterFault::Memory.status()));
+            }
+            let _ = eprintln!(rt; "role_daemon: cluster file");
+            return Err(ExitCode::from(ClusterFault::NotJson.status()));
+        }
+    };
+    match read_cluster(rt.alloc(), &text, Mode::Serve) {
+        Ok(setup) => Ok(setup),
+        Err(fault) => {
+            if !matches!(fault, ClusterFault::Memory) {
+                let _ = eprintln!(rt; "role_daemon: {fault}");
+            }
+            Err(ExitCode::from(fault.status()))
+        }
+    }
+}
+
+/// The text of a cluster file, of one that is too long as much as shows it.
+fn text_of(rt: &HostRuntime, file: &str) -> io::Result<Vec<u8>> {
+    let mut text = Vec::new(rt.alloc());
+    File::open(rt, file)?
+        .take(MOST_TEXT_BYTES as u64 + 1)
+        .read_to_end(&mut text)?;
+    Ok(text)
+}
+
+#[cfg(test)]
+mod serve_tests;
 #[cfg(test)]
 mod tests;

@@ -180,7 +180,7 @@ fn answer_line(
 }
 
 /// Holds the text of an answer behind the others.
-fn hold(alloc: Global, held: &mut Vec<u8>, answer: &ClientAnswer) -> Result<(), AllocError>
+pub fn hold(alloc: Global, held: &mut Vec<u8>, answer: &ClientAnswer) -> Result<(), AllocError>
     requires { IsWritten answer.now }
     ensures { OnOk result (held.new.items ≡ held.old.items ++ ended (answer_text answer.now)) }
 {
@@ -191,7 +191,7 @@ fn hold(alloc: Global, held: &mut Vec<u8>, answer: &ClientAnswer) -> Result<(), 
 }
 
 /// Writes what is held if it is much, or if more bytes have to be read for the next line.
-fn write_when_due<W: Write>(
+pub fn write_when_due<W: Write>(
     ahead: &Ahead,
     held: &mut Vec<u8>,
     writer: &mut Watched<W>,

@@ -103,7 +103,11 @@ fn words_of(alloc: Global, words: &[&str]) -> Result<Result<Words, WordsFault>, 
 fn words(rt: HostRuntime) -> Result<(), Fail> {
     let alloc = rt.alloc();
     assert!(rt; matches!(words_of(alloc, &[])?, Ok(Words::Pipe)));
-    for words in [["x"].as_slice(), &["--help"], &["serve", "--cluster", "a"]] {
+    match words_of(alloc, &["serve", "--cluster", "a"])? {
+        Ok(Words::Serve { file }) => assert_eq!(rt; file.as_str(), "a"),
+        _ => assert!(rt; false),
+    }
+    for words in [["x"].as_slice(), &["--help"], &["serve"]] {
         match words_of(alloc, words)? {
             Ok(_) => assert!(rt; false),
             Err(fault) => assert_eq!(rt; fault.status(), 2),

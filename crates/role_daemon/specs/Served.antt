@@ -1,0 +1,52 @@
+-- What a client hears of a call that a worker made, and what the node then sends.
+use Rattle.std.specs.Prelude.{Option, Some, None}
+use Rattle.link_frames.specs.declared.packet.Message.{Message}
+use Rattle.role_sessions.specs.declared.faults.SessionFault.{SessionFault}
+use Rattle.role_sessions.specs.declared.faults.SessionFault.TheVariants as session
+use Rattle.role_node.specs.declared.event.Reply.{Reply}
+use Rattle.role_node.specs.declared.event.Reply.TheVariants as reply
+use Rattle.role_node.specs.declared.faults.NodeFault.{NodeFault}
+use Rattle.role_node.specs.declared.faults.NodeFault.TheVariants as fault
+use Rattle.node_lock.specs.declared.receipt.Outcome.{Outcome}
+use Rattle.node_lock.specs.declared.receipt.Outcome.TheVariants as outcome
+use Rattle.node_lock.specs.declared.view.View.{View}
+use Rattle.client_lines.specs.declared.answer.ClientAnswer.{ClientAnswer}
+use Rattle.client_lines.specs.declared.answer.ClientAnswer.TheVariants.{Issued, Session, Done, Refused}
+use Rattle.role_daemon.specs.Answers.{listed}
+
+-- a reply, with the reach that was read after the call
+abbrev pub reply_served : View → Reply → ClientAnswer
+reply_served view reply.Idle = Done
+reply_served view (reply.Issued message) = Issued message.place view.reach
+reply_served view (reply.Counted send delivered from to) = Done
+reply_served view (reply.Session id) = Session id
+reply_served view reply.Done = Done
+
+-- a refusal is heard, and want of memory is not
+abbrev pub session_refusal : SessionFault → Option ClientAnswer
+session_refusal session.Memory = None
+session_refusal f = Some (Refused (fault.Session f))
+
+abbrev pub refusal_served : NodeFault → Option ClientAnswer
+refusal_served fault.Memory = None
+refusal_served (fault.Session f) = session_refusal f
+refusal_served f = Some (Refused f)
+
+-- what a client hears; an answer has the length that the history had then
+abbrev pub served : View → Outcome → Option ClientAnswer
+served view (outcome.Reply r) = Some (reply_served view r)
+served view (outcome.Answer answer) = Some (listed view.at answer)
+served view (outcome.Refused f) = refusal_served f
+
+-- the message that an outcome has the node send to all
+abbrev pub sent_reply : Reply → Option Message
+sent_reply reply.Idle = None
+sent_reply (reply.Issued message) = Some message
+sent_reply (reply.Counted send delivered from to) = send
+sent_reply (reply.Session id) = None
+sent_reply reply.Done = None
+
+abbrev pub sent_outcome : Outcome → Option Message
+sent_outcome (outcome.Reply r) = sent_reply r
+sent_outcome (outcome.Answer answer) = None
+sent_outcome (outcome.Refused f) = None

@@ -1,0 +1,197 @@
+//! The node over TCP: frames of its peers, and lines of its clients.
+//!
+//! Connections are served by threads of their own, which put jobs into one inbox; four workers make their calls under
+//! the node's lock. A thread that waits sleeps.
+
+ghost use Rattle.std.specs.Prelude.{◌≡◌, length};
+ghost use Rattle.role_daemon.specs.Setups.{IsNodeSetup, IsServerSetup};
+
+mod accept;
+mod bell;
+mod clients;
+mod frames;
+mod hub;
+mod links;
+mod mailbox;
+mod outbox;
+mod peers;
+mod porter;
+mod slot;
+mod workers;
+
+use crate::cluster::Setup;
+use crate::fault::ServeFault;
+use accept::accept;
+use bell::Bell;
+use clients::answer_clients;
+use frames::take_frames;
+use hub::{Hub, MOST_CLIENTS, MOST_PEERS, local, mailboxes, outboxes, slots};
+use links::Links;
+use node_lock::{Inbox, Seat, SharedNode};
+use peers::send_frames;
+use porter::{Porter, porters};
+use role_node::Node;
+use std::alloc::{AllocError, Global};
+use std::marker::Brand;
+use std::net::{Net, TcpListener, TcpStream};
+use std::sync::atomic::{AtomicBool, Ordering};
+use std::sync::ledger::{Blank, Ledger};
+use std::sync::{Mutex, Wait};
+use std::thread::Threads;
+use std::time::Clock;
+use std::{io, thread};
+use workers::work;
+
+/// The workers have a seat each, and those who only look share one more.
+const SEATS: u8 = 5;
+
+/// One pass for each connection, and one for each worker.
+const PASSES: u8 = 84;
+
+/// The two listeners.
+#[derive(Drop)]
+struct Doors {
+    peers: TcpListener,
+    clients: TcpListener,
+}
+
+/// Serves the node of a setup, on this machine's own address, until a client stops it.
+///
+/// # Errors
+///
+/// `Device` where a listener could not be made or has failed, and `Memory`.
+pub fn serve<R>(rt: &R, alloc: Global, setup: Setup) -> Result<(), ServeFault>
+where
+    R: Net<Listener = TcpListener, Stream = TcpStream> + Threads + Wait + Clock + Sync,
+    requires me { IsNodeSetup setup }
+    requires peers { IsServerSetup setup }
+{
+    let blank = Blank::new(u64::from(SEATS));
+    serve_at::<Brand, R>(rt, alloc, blank, setup)
+}
+
+/// The same at a ledger with one part for each seat.
+fn serve_at<L: Ledger + Send + Sync, R>(
+    rt: &R,
+    alloc: Global,
+    blank: Blank,
+    setup: Setup,
+) -> Result<(), ServeFault>
+where
+    R: Net<Listener = TcpListener, Stream = TcpStream> + Threads + Wait + Clock + Sync,
+    requires name { blank.name ≡ L.name }
+    requires parts { (blank.parts ≡ L.parts) × (5 ≡ L.parts) }
+    requires me { IsNodeSetup setup }
+    requires peers { IsServerSetup setup }
+{
+    let own = setup.nodes.as_slice().get(usize::from(setup.me.index()));
+    let ports = [own.copied().unwrap_or(0), setup.client];
+    let doors = Doors {
+        peers: listener(rt, ports[0])?,
+        clients: listener(rt, ports[1])?,
+    };
+    let links = Links::new(alloc, &setup)?;
+    let Setup {
+        config,
+        me,
+        keys: _,
+        nodes,
+        client: _,
+    } = setup;
+    let node = Node::new(alloc, config, me)?;
+    let (node, mut seats) = SharedNode::<L>::new(alloc, blank, node, SEATS)?;
+    let Some(looker) = seats.pop() else {
+        unreachable!()
+    };
+    let (inbox, passes) = Inbox::new(alloc, PASSES)?;
+    let hub = Hub {
+        node,
+        looker: Mutex::new(looker),
+        links,
+        bell: Bell::new(),
+        outboxes: outboxes(alloc, nodes.as_slice().len())?,
+        mailboxes: mailboxes(alloc, MOST_CLIENTS)?,
+        clients: slots(alloc, MOST_CLIENTS)?,
+        peers: slots(alloc, MOST_PEERS)?,
+        ports,
+        ended: AtomicBool::new(false),
+        failed: AtomicBool::new(false),
+    };
+    let porters = porters(alloc, &inbox, &hub.bell, passes)?;
+    run(rt, alloc, &hub, &doors, nodes.as_slice(), seats, porters)?;
+    if hub.failed.load(Ordering::SeqCst) {
+        return Err(ServeFault::Device);
+    }
+    Ok(())
+}
+
+fn listener<R: Net<Listener = TcpListener, Stream = TcpStream>>(
+    rt: &R,
+    port: u16,
+) -> Result<TcpListener, ServeFault> {
+    match TcpListener::bind(rt, local(port)) {
+        Ok(listener) => Ok(listener),
+        Err(error) => {
+            if error.kind() == io::ErrorKind::OutOfMemory {
+                Err(ServeFault::Memory)
+            } else {
+                Err(ServeFault::Device)
+            }
+        }
+    }
+}
+
+/// Runs all threads, until the node ends.
+fn run<L: Ledger + Send + Sync, R>(
+    rt: &R,
+    alloc: Global,
+    hub: &Hub<L>,
+    doors: &Doors,
+    nodes: &[u16],
+    seats: Vec<Seat<L>>,
+    mut porters: Vec<Porter<'_>>,
+) -> Result<(), AllocError>
+where
+    R: Net<Listener = TcpListener, Stream = TcpStream> + Threads + Wait + Clock + Sync,
+{
+    let started = thread::scope(thread::scope_env(), rt, move |scope| -> bool {
+        let mut all = true;
+        for seat in seats {
+            if let Some(porter) = porters.pop() {
+                all &= scope
+                    .spawn(move || work(rt, alloc, hub, porter, seat))
+                    .is_ok();
+            }
+        }
+        for (number, slot) in (0..MOST_CLIENTS).zip(&hub.clients) {
+            if let Some(porter) = porters.pop() {
+                all &= scope
+                    .spawn(move || answer_clients(rt, alloc, hub, number, slot, porter))
+                    .is_ok();
+            }
+        }
+        for (number, slot) in (MOST_CLIENTS..MOST_CLIENTS + MOST_PEERS).zip(&hub.peers) {
+            if let Some(porter) = porters.pop() {
+                all &= scope
+                    .spawn(move || take_frames(rt, alloc, hub, number, slot, porter))
+                    .is_ok();
+            }
+        }
+        for (outbox, port) in hub.outboxes.iter().zip(nodes.iter().copied()) {
+            all &= scope
+                .spawn(move || send_frames(rt, alloc, outbox, port))
+                .is_ok();
+        }
+        all &= scope
+            .spawn(move || accept(rt, hub, &doors.peers, &hub.peers))
+            .is_ok();
+        all &= scope
+            .spawn(move || accept(rt, hub, &doors.clients, &hub.clients))
+            .is_ok();
+        if !all {
+            hub.end(rt);
+        }
+        all
+    });
+    if started { Ok(()) } else { Err(AllocError) }
+}
