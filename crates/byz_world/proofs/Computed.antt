@@ -2,7 +2,7 @@
 use Rattle.std.proofs.Common.{◌≡◌, ℕ, zero, suc, ◌+◌, ◌<◌, max, ◌||◌, nat_le, List, [], ◌∷◌, slice_get, Option, Some, ap, ◌∙◌, arith}
 use Rattle.std.specs.FinSet as sets
 use Rattle.quorum_sizes.specs.Sizes.{Counts, echo_quorum_of, amplify_of, deliver_of}
-use Rattle.quorum_sizes.proofs.NodeCounts.{count, len-count}
+use Rattle.quorum_sizes.proofs.Exported.{count, len-count}
 use Rattle.role_commands.specs.declared.command.Command.{Command}
 use Rattle.link_frames.specs.declared.kind.Kind.{Kind}
 use Rattle.link_frames.specs.declared.kind.Kind.TheVariants.{Echo, Ready}

@@ -4,8 +4,7 @@ use Rattle.std.specs.FinSet as sets
 use Rattle.std.proofs.lemmas.Bool.{and_parts, lt-ltb}
 use Rattle.quorum_sizes.specs.Sizes.{Counts}
 use Rattle.quorum_sizes.specs.NodeSets.{Nodes, AreNodes, nodes_among}
-use Rattle.quorum_sizes.proofs.Exported.{contains-nodes_among}
-use Rattle.quorum_sizes.proofs.NodeCounts.{count, len-count}
+use Rattle.quorum_sizes.proofs.Exported.{contains-nodes_among, count, len-count}
 
 abbrev all : ℕ → Bool
 all k = true

@@ -6,18 +6,6 @@ use Rattle.std.proofs.lemmas.List.Elements.{Contains-append_left, Contains-appen
 use Rattle.std.proofs.lemmas.Option.{slice_get-get_or, slice_get_within, get_or_from_slice_get}
 use Rattle.byz_world.specs.Pools.{listed}
 
--- an element of a list with one more is one of the list, or the last
-pub at_push : {A : Type 0} (xs : List A) (x : A) (k : ℕ) (y : A) → slice_get (xs ++ x ∷ []) k ≡ Some y →
-    ((k < length xs) × (slice_get xs k ≡ Some y)) ⊎ ((k ≡ length xs) × (x ≡ y))
-at_push [] x zero y e = inr (refl, cc)
-at_push [] x (suc k) y e = absurd cc
-at_push (z ∷ xs) x zero y e = inl (omega arith, e)
-at_push (z ∷ xs) x (suc k) y e =
-    ⊎_elim
-    (λ (h : (k < length xs) × (slice_get xs k ≡ Some y)). inl (omega (arith, h.0), h.1))
-    (λ (h : (k ≡ length xs) × (x ≡ y)). inr (ap suc h.0, h.1))
-    (at_push xs x k y e)
-
 -- what a list holds at a number, a longer one does
 pub at_front : {A : Type 0} (xs ys : List A) (k : ℕ) (x : A) → slice_get xs k ≡ Some x → slice_get (xs ++ ys) k ≡ Some x
 at_front [] ys k x e = absurd cc

@@ -10,8 +10,7 @@ use Rattle.std.specs.Option.{option_map_or}
 use Rattle.std.proofs.lemmas.Bool.{and_parts, or_cases, not-true, ltb-true, lt-leb, eqb-true, both_ways}
 use Rattle.quorum_sizes.specs.Sizes.{Counts}
 use Rattle.quorum_sizes.specs.NodeSets.{nodes_among}
-use Rattle.quorum_sizes.proofs.Exported.{contains-nodes_among}
-use Rattle.quorum_sizes.proofs.NodeCounts.{count, len-count}
+use Rattle.quorum_sizes.proofs.Exported.{contains-nodes_among, count, len-count}
 use Rattle.role_commands.specs.declared.command.Command.{Command}
 use Rattle.link_frames.specs.Kinds.{same_kind}
 use Rattle.link_frames.specs.Packets.{PacketValue, SentByOwner, message_of}

@@ -8,13 +8,13 @@ use Rattle.std.specs.FinSet as sets
 use Rattle.quorum_sizes.specs.Sizes.{AreSizes}
 use Rattle.quorum_sizes.specs.NodeSets.{Nodes, nodes_among}
 use Rattle.link_frames.specs.Packets.{message_of}
+use Rattle.role_node.proofs.Exported.{at_push}
 use Rattle.role_node.specs.Answers.{answer_due, is_recorded, IsLegal}
 use Rattle.role_node.specs.Configs.{ConfigValue}
 use Rattle.role_node.specs.declared.event.Event.{Event}
 use Rattle.role_node.specs.declared.event.Event.TheVariants.{Take}
 use Rattle.byz_world.specs.Runs.{Run, history_of, is_correct, has_sent, IsClusterRun}
 use Rattle.byz_world.specs.Inside.{MayFollow}
-use Rattle.byz_world.proofs.Elements.{at_push}
 use Rattle.byz_world.proofs.Pushing.{history_of-none, history_of-push, history_of-push_other}
 
 -- one more recorded event leaves a history legal

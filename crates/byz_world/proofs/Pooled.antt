@@ -18,7 +18,7 @@ use Rattle.bracha_instance.proofs.Exported as bracha
 use Rattle.bracha_instance.specs.Broadcast.{is_for, echoed, readied}
 use Rattle.owner_streams.specs.Places.{takes_at}
 use Rattle.owner_streams.proofs.Exported.{echoed-none, readied-none}
-use Rattle.role_node.proofs.Parts.{issued-none, packets-none}
+use Rattle.role_node.proofs.Exported.{issued-none, packets-none}
 use Rattle.role_node.specs.Access.{sent_at}
 use Rattle.role_node.specs.Answers.{answer_due, is_recorded, IsLegal}
 use Rattle.role_node.specs.Configs.{ConfigValue}

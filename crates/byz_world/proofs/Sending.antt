@@ -23,7 +23,7 @@ use Rattle.bracha_instance.specs.declared.instance.Effect.TheVariants as effect
 use Rattle.owner_streams.proofs.Exported.{takes_at-append, takes_at-own, takes_at-other}
 use Rattle.owner_streams.specs.Places.{take_of, takes_at}
 use Rattle.role_sessions.specs.declared.event.ClientEvent.TheVariants.{Open, Activate, DropRole, Close}
-use Rattle.role_node.proofs.Parts.{issued-Issue, issued-Take, issued-Client, packets-Issue, packets-Take, packets-Client}
+use Rattle.role_node.proofs.Exported.{at_push, issued-Issue, issued-Take, issued-Client, packets-Issue, packets-Take, packets-Client}
 use Rattle.role_node.specs.Configs.{ConfigValue}
 use Rattle.role_node.specs.Histories.{issued, packets, command_in, packet_in}
 use Rattle.role_node.specs.Access.{sent_at}
@@ -34,7 +34,7 @@ use Rattle.role_node.specs.declared.event.Reply.{Reply}
 use Rattle.role_node.specs.declared.faults.NodeFault.{NodeFault}
 use Rattle.byz_world.specs.Runs.{of_kind}
 use Rattle.byz_world.specs.Pools.{sent_by, sent_by_answer}
-use Rattle.byz_world.proofs.Elements.{at_push, at_front, at_seam}
+use Rattle.byz_world.proofs.Elements.{at_front, at_seam}
 
 -- what the node has sent of this message's kind, owner and place
 abbrev pub said : Counts → ℕ → List Event → Message → Option Command

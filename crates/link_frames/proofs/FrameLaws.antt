@@ -4,7 +4,7 @@ use Rattle.std.proofs.lemmas.Nat.{from_be_bytes-to_be_bytes_2, from_be_bytes-to_
 use Rattle.std.specs.Int.{w16, w32, from_be_bytes}
 use Rattle.role_commands.specs.Bytes.{bytes_of, part}
 use Rattle.role_commands.specs.declared.command.Command.{Command}
-use Rattle.role_commands.proofs.ByteLemmas.{bytes_of_injective, length-bytes_of}
+use Rattle.role_commands.proofs.Exported.{bytes_of_injective, length-bytes_of}
 use Rattle.link_frames.specs.Frames.{header, fields_of, frame}
 use Rattle.link_frames.specs.Hmac.{hmac}
 use Rattle.link_frames.specs.KeyRings.{key_with}

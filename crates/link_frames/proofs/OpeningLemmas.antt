@@ -8,13 +8,12 @@ use Rattle.std.proofs.lemmas.Slice.Eq.{bytes_eq-Decides}
 use Rattle.std.specs.Int.{w16, w32, to_be_bytes, from_be_bytes}
 use Rattle.sha2.proofs.Facts256.{length-sha256}
 use Rattle.role_commands.specs.Bytes.{bytes_of, part, IsBytes, command_in}
-use Rattle.role_commands.proofs.ByteLemmas.{length-bytes_of}
 use Rattle.link_frames.specs.Frames.{kind_byte, header, fields_of, frame, IsFrameFor}
 use Rattle.link_frames.specs.Hmac.{hmac}
 use Rattle.link_frames.specs.KeyRings.{KeyRing, key_with}
 use Rattle.link_frames.specs.Opening.{open_due}
 use Rattle.link_frames.specs.Packets.{PacketValue, SentByOwner}
-use Rattle.role_commands.proofs.ByteReading.{IsBytes-part, command_again, command_takes}
+use Rattle.role_commands.proofs.Exported.{length-bytes_of, IsBytes-part, command_again, command_takes}
 use Rattle.link_frames.proofs.PacketReading.{demand_ok, demand_again, HasFields, packet_takes, packet_again}
 
 pub length-hmac : (key text : List ℕ) → length (hmac key text) ≡ 32

@@ -3,7 +3,8 @@
 --     one_is_correct      among more nodes than may lie one does not
 --     correct_are_enough      the nodes that do not lie are each quorum
 --     len_below      a set of numbers below n has n at most
+--     count, len-count      a set of numbers below n has as many as are counted up to n
 --     same_names      sets of names are equal where they contain the same
 --     contains-..      what a set contains after a change, with `==` of numbers
-pub use Rattle.quorum_sizes.proofs.NodeCounts.{quorums_share, one_is_correct, len_below, same_names, contains-insert, contains-nodes_among}
+pub use Rattle.quorum_sizes.proofs.NodeCounts.{quorums_share, one_is_correct, len_below, count, len-count, same_names, contains-insert, contains-nodes_among}
 pub use Rattle.quorum_sizes.proofs.SizeLaws.{correct_are_enough}
