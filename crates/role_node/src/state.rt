@@ -4,7 +4,7 @@ ghost use Rattle.link_frames.specs.Packets.{PacketValue};
 ghost use Rattle.owner_streams.specs.Places.{place_count};
 ghost use Rattle.owner_streams.specs.Values.{IsStateOf};
 ghost use Rattle.rbac_state.specs.Policies.{IsPolicyOf};
-ghost use Rattle.role_sessions.specs.Decisions.{relations_of};
+ghost use Rattle.role_sessions.specs.Decisions.{Relations, relations_of};
 ghost use Rattle.role_sessions.specs.Refusals.{AnswersExactly};
 ghost use Rattle.role_sessions.specs.Kept.{KeptAreRight};
 ghost use Rattle.role_node.specs.Access.{verdict_at, sent_at};
@@ -170,7 +170,7 @@ impl State {
                 step.from,
                 step.to,
             );
-            self.sessions.forget();
+            forget_answers(&mut self.sessions);
         }
         Ok(counted_reply(packet, step))
     }
@@ -335,4 +335,12 @@ fn obey(policy: &mut Policy, streams: &Streams, owner: NodeName, from: u32, to: 
             policy.apply(owner, command);
         }
     }
+}
+
+/// Has the sessions forget the answers that they remember: whatever the relations are now, none of them is wrong.
+fn forget_answers(sessions: &mut Sessions)
+    ensures state { sessions.new.state ≡ sessions.old.state }
+    ensures kept { (relations : Relations) → KeptAreRight relations sessions.new }
+{
+    sessions.forget();
 }

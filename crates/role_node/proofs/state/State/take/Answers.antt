@@ -3,7 +3,7 @@ use Rattle.owner_streams.specs.Steps.{step_of, step_due}
 use Rattle.role_sessions.specs.Decisions.{relations_of}
 use Rattle.role_node.specs.Answers.{counted_reply}
 use Rattle.role_node.specs.Histories.{packets}
-use Rattle.role_node.proofs.After.{after_take, stays_on_err, step_is_due, policy_grown, policy_stays, kept_with_room, none_kept}
+use Rattle.role_node.proofs.After.{after_take, stays_on_err, step_is_due, policy_grown, policy_stays, kept_with_room}
 use Rattle.role_node.proofs.state.State.take.Goals as goal
 use Rattle.role_node.proofs.state.State.take.Goals.{then-step, else-step}
 
@@ -41,7 +41,7 @@ returns-clause-ok c roles history h =
           (c.take.ensures.sizes
           ∙ h.sizes) (ap (λ m. m.owner) c.message-message.ensures.value) is h.policy c.make_room.ensures.same
           (w.obey.ensures.policy (packets history ++ p ∷ []) (c.in_ok-step.ensures.state (packets history) h.streams)))
-          w.forget.ensures.state (none_kept (relations_of w.obey.new.policy) w.forget.new.self w.forget.ensures.kept))
+          w.forget_answers.ensures.state (w.forget_answers.ensures.kept (relations_of w.obey.new.policy)))
       | else-step w ↦
           rw w.self-is
           (after_take roles history p h c.message-message.ensures.kept.0 refl c.take.ensures.sizes
