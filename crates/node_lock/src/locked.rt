@@ -1,7 +1,7 @@
-ghost use Rattle.std.specs.Prelude.{◌≡◌, ◌<◌, ◌≤◌, ◌↔◌, [], length, IsTrue, option_map, IfOk, IfErr, OnOk, OnErr, MatchResult};
+ghost use Rattle.std.specs.Prelude.{◌≡◌, ◌<◌, ◌≤◌, ◌↔◌, [], ◌∷◌, ◌++◌, length, IsTrue, option_map, Ok, IfOk, IfErr, OnOk, OnErr, MatchResult};
 ghost use Rattle.role_node.specs.Configs.{most_events};
 ghost use Rattle.role_node.specs.Answers.{is_recorded};
-ghost use Rattle.role_node.specs.Nodes.{IsLegalNode, due_at};
+ghost use Rattle.role_node.specs.Nodes.{IsLegalNode, due_at, with_event};
 ghost use Rattle.node_lock.specs.Receipts.{outcome_due};
 ghost use Rattle.node_lock.specs.Holds.{end_of, Fits, receipt_of, held_after, seat_after, seat_after_question, IsStepFault, IsMisfit};
 ghost use Rattle.node_lock.specs.Views.{node_count, view_of, held_after_hold, seat_after_hold, IsHoldFault};
@@ -14,7 +14,7 @@ use crate::seat::{MOST_SEATS, Seat};
 use crate::view::View;
 use link_frames::Place;
 use quorum_sizes::NodeName;
-use role_node::{Event, Node, Question};
+use role_node::{Event, Node, Question, Reply};
 use std::alloc::{AllocError, Global};
 use std::error::Error;
 use std::fmt;
@@ -173,11 +173,7 @@ impl<L: Ledger> Locked<L> {
         let place = self.end();
         let number = seat.number();
         let call = Call::of_event(&event);
-        self.by.try_reserve(1)?;
-        let Ok(reply) = self.node.apply(event) else {
-            return Err(StepFault::Memory);
-        };
-        self.by.push_reserved(number);
+        let reply = applied(&mut self.node, &mut self.by, number, event)?;
         self.counts[number as usize] += 1;
         seat.record(&mut self.book, place + 1);
         Ok(Receipt {
@@ -306,4 +302,22 @@ impl<L: Ledger> Locked<L> {
             again: self.node.again(owner, place),
         }
     }
+}
+
+/// Applies an event that is recorded, and puts the number of its seat beside it.
+fn applied(node: &mut Node, by: &mut Vec<u8>, number: u8, event: Event) -> Result<Reply, AllocError>
+    requires { IsTrue (is_recorded (due_at node.old event)) }
+    ensures reply { IfOk result (λ reply. due_at node.old event ≡ Ok reply) }
+    ensures node { OnOk result (node.new ≡ with_event node.old event) }
+    ensures beside { OnOk result (by.new.items ≡ by.old.items ++ number ∷ []) }
+    ensures legal { OnOk result (IsLegalNode node.new) }
+    ensures same_node { OnErr result (node.new ≡ node.old) }
+    ensures same_beside { OnErr result (by.new.items ≡ by.old.items) }
+{
+    by.try_reserve(1)?;
+    let Ok(reply) = node.apply(event) else {
+        return Err(AllocError);
+    };
+    by.push_reserved(number);
+    Ok(reply)
 }

@@ -1,4 +1,4 @@
-ghost use Rattle.std.specs.Prelude.{◌≡◌, ◌<◌, ◌≤◌, ◌+◌, All, length, IfOk, vec_len};
+ghost use Rattle.std.specs.Prelude.{◌≡◌, ◌<◌, ◌≤◌, ◌+◌, [], All, length, IfOk, vec_len};
 ghost use Rattle.node_lock.specs.Inboxes.{IsPassTo, IsNewPassTo};
 ghost use Rattle.node_lock.specs.Pools.{IsReport};
 ghost use Rattle.node_lock.specs.Seats.{most_seats};
@@ -41,45 +41,78 @@ pub fn run_pool<G: Gate, R: Threads + Wait + Sync>(
     requires calls { vec_len calls ≤ 65536 }
     ensures { IfOk result (IsReport config me calls.items workers) }
 {
-    let blank = Blank::new(workers as u64);
-    run_at::<Brand, G, R>(
+    let mut slots = vacant(alloc, calls.len())?;
+    let node = run_new(
         rt,
         alloc,
-        blank,
+        &config,
+        me,
+        workers,
+        calls.as_slice(),
+        gate,
+        &mut slots,
+    )?;
+    report(
+        alloc,
         config,
         me,
+        node.history(),
+        slots,
         calls.as_slice(),
         workers,
-        gate,
     )
 }
 
-/// The same at a ledger with one part for each worker.
+/// The node that made the calls. Their receipts go into the slots.
+fn run_new<G: Gate, R: Threads + Wait + Sync>(
+    rt: &R,
+    alloc: Global,
+    config: &Config,
+    me: NodeName,
+    workers: u8,
+    calls: &[Call],
+    gate: &G,
+    slots: &mut Vec<Slot>,
+) -> Result<Node, PoolFault>
+    requires me { me < config.now.roles.sizes.nodes }
+    requires workers { (1 ≤ workers) × (workers ≤ most_seats) }
+    requires calls { length calls.now ≤ 65536 }
+{
+    let node = Node::new(alloc, config.copy(alloc)?, me)?;
+    let blank = Blank::new(workers as u64);
+    run_at::<Brand, G, R>(rt, alloc, blank, node, workers, calls, gate, slots)
+}
+
+/// The same at a new node, and a ledger with one part for each worker.
 fn run_at<L: Ledger + Send + Sync, G: Gate, R: Threads + Wait + Sync>(
     rt: &R,
     alloc: Global,
     blank: Blank,
-    config: Config,
-    me: NodeName,
-    calls: &[Call],
+    node: Node,
     workers: u8,
+    calls: &[Call],
     gate: &G,
-) -> Result<PoolReport, PoolFault>
+    slots: &mut Vec<Slot>,
+) -> Result<Node, PoolFault>
     requires name { blank.name ≡ L.name }
     requires parts { (blank.parts ≡ L.parts) × (workers ≡ L.parts) }
-    requires me { me < config.roles.sizes.nodes }
+    requires empty { node.history ≡ [] }
     requires workers { (1 ≤ workers) × (workers ≤ most_seats) }
     requires calls { length calls.now ≤ 65536 }
-    ensures { IfOk result (IsReport config me calls.now workers) }
 {
-    let node = Node::new(alloc, config.copy(alloc)?, me)?;
     let (shared, seats) = SharedNode::<L>::new(alloc, blank, node, workers)?;
-    let mut slots = vacant(alloc, calls.len())?;
-    let seats = run_rounds(rt, alloc, &shared, seats, calls, gate, &mut slots)?;
-    let Ok(closed) = close(shared, seats) else {
+    let seats = run_rounds(rt, alloc, &shared, seats, calls, gate, slots)?;
+    Ok(closed(shared, seats))
+}
+
+/// The node of a shared node, with all its seats.
+fn closed<L: Ledger>(shared: SharedNode<L>, seats: Vec<Seat<L>>) -> Node
+    requires { vec_len seats ≡ L.parts }
+{
+    let Ok(node) = close(shared, seats) else {
         unreachable!()
     };
-    report(alloc, config, me, closed.history(), slots, calls, workers)
+    node
 }
 
 /// So many slots without a receipt.
@@ -107,15 +140,34 @@ fn run_rounds<L: Ledger + Send + Sync, G: Gate, R: Threads + Wait + Sync>(
 {
     let mut start = 0;
     while start < calls.len() {
-        let end = calls.len().min(start + INBOX_CAPACITY);
-        let (inbox, passes) = Inbox::new(alloc, seats.len() as u8)?;
-        let passes = filled(rt, &inbox, passes, calls, start, end)?;
-        let desks = paired(alloc, &inbox, seats, passes)?;
-        let done = at_desks(rt, alloc, shared, &inbox, gate, desks)?;
-        seats = collected(alloc, done, slots)?;
-        start = end;
+        seats = run_round(rt, alloc, shared, seats, calls, start, gate, slots)?;
+        start += INBOX_CAPACITY;
     }
     Ok(seats)
+}
+
+/// Runs the calls from `start` on that an inbox takes.
+fn run_round<L: Ledger + Send + Sync, G: Gate, R: Threads + Wait + Sync>(
+    rt: &R,
+    alloc: Global,
+    shared: &SharedNode<L>,
+    seats: Vec<Seat<L>>,
+    calls: &[Call],
+    start: usize,
+    gate: &G,
+    slots: &mut Vec<Slot>,
+) -> Result<Vec<Seat<L>>, PoolFault>
+    requires seats { (1 ≤ vec_len seats) × (vec_len seats ≤ most_seats) }
+    requires start { start ≤ length calls.now }
+    requires calls { length calls.now ≤ 65536 }
+    ensures { IfOk result (λ back. vec_len back ≡ vec_len seats) }
+{
+    let end = calls.len().min(start + INBOX_CAPACITY);
+    let (inbox, passes) = Inbox::new(alloc, seats.len() as u8)?;
+    let passes = filled(rt, &inbox, passes, calls, start, end)?;
+    let desks = paired(alloc, &inbox, seats, passes)?;
+    let done = at_desks(rt, alloc, shared, &inbox, gate, desks)?;
+    collected(alloc, done, slots)
 }
 
 /// Puts the calls from `start` to `end` into an inbox, each with its index as the job's number.

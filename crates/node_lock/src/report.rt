@@ -1,4 +1,5 @@
-ghost use Rattle.std.specs.Prelude.{◌≡◌, ◌<◌, ◌≤◌, map, length, IfOk};
+ghost use Rattle.std.specs.Prelude.{◌≡◌, ◌<◌, ◌≤◌, map, length, IfOk, OnOk, vec_len};
+ghost use Rattle.node_lock.specs.Audits.{AreTrue};
 ghost use Rattle.node_lock.specs.PoolTexts.{cause_of};
 ghost use Rattle.node_lock.specs.Pools.{call_of, recorded_by, recorded_counts, IsReport};
 
@@ -149,14 +150,47 @@ pub(crate) fn report(
     ensures { IfOk result (IsReport config me calls.now workers) }
 {
     let receipts = in_order(alloc, slots, calls)?;
-    let node = remade(alloc, config, me, entries)?;
-    audit(alloc, &node, &receipts)?;
-    let recorded = counts(alloc, &receipts, workers)?;
+    let node = Node::new(alloc, config, me)?;
+    reported(alloc, node, entries, receipts, workers)
+}
+
+/// The report of these receipts, with a new node that is given the entries' events.
+fn reported(
+    alloc: Global,
+    mut node: Node,
+    entries: &[Entry],
+    receipts: Vec<Receipt>,
+    workers: u8,
+) -> Result<PoolReport, PoolFault>
+    requires { vec_len receipts ≤ 65536 }
+    ensures { IfOk result (IsReport node.config node.me (map call_of receipts.items) workers) }
+{
+    let recorded = judged(alloc, &mut node, entries, receipts.as_slice(), workers)?;
     Ok(PoolReport {
         receipts,
         recorded,
         node,
     })
+}
+
+/// Gives the entries' events to the node, and audits the receipts against it. How many recorded events each worker's
+/// receipts tell of.
+fn judged(
+    alloc: Global,
+    node: &mut Node,
+    entries: &[Entry],
+    receipts: &[Receipt],
+    workers: u8,
+) -> Result<Vec<u32>, PoolFault>
+    requires { length receipts.now ≤ 65536 }
+    ensures audited { OnOk result (AreTrue node.new receipts.now) }
+    ensures counted { IfOk result (λ counts. counts.items ≡ recorded_counts receipts.now workers) }
+    ensures config { node.new.config ≡ node.old.config }
+    ensures me { node.new.me ≡ node.old.me }
+{
+    replay(node, entries)?;
+    audit(alloc, node, receipts)?;
+    Ok(counts(alloc, receipts, workers)?)
 }
 
 /// The receipts in the order of the calls.
@@ -188,23 +222,21 @@ fn no_receipt(call: usize) -> PoolFault
     PoolFault::WorkerFailed(Cause::NoReceipt { call: call as u32 })
 }
 
-/// A node of this configuration and name that is given the entries' events, up to the first that it does not record.
-fn remade(alloc: Global, config: Config, me: NodeName, entries: &[Entry]) -> Result<Node, PoolFault>
-    requires { me < config.roles.sizes.nodes }
-    ensures config { IfOk result (λ node. node.config ≡ config) }
-    ensures me { IfOk result (λ node. node.me ≡ me) }
+/// Gives the entries' events to a node, up to the first that it does not record.
+fn replay(node: &mut Node, entries: &[Entry]) -> Result<(), AllocError>
+    ensures config { node.new.config ≡ node.old.config }
+    ensures me { node.new.me ≡ node.old.me }
 {
-    let mut node = Node::new(alloc, config, me)?;
     for entry in entries {
         let event = entry.event;
         if !node.records(&event) {
             break;
         }
         if node.apply(event).is_err() {
-            return Err(PoolFault::Memory);
+            return Err(AllocError);
         }
     }
-    Ok(node)
+    Ok(())
 }
 
 /// How many recorded events each worker's receipts tell of.

@@ -70,14 +70,30 @@ impl<L: Ledger> SharedNode<L> {
         ensures seats { IfOk result (λ made. made.1.items ≡ new_seats seats) }
         ensures count { IfOk result (λ made. vec_len made.1 ≡ seats) }
     {
-        let (book, mut all) = blank.open::<L>();
-        let mut made = Vec::new(alloc);
-        for number in 0..seats {
-            made.push(Seat::new(number, all.split_off(1, 0)))?;
-        }
+        let (book, all) = blank.open::<L>();
+        let made = seated(alloc, all, seats)?;
         let node = Mutex::new(Locked::new(alloc, node, book, seats));
         Ok((SharedNode { node }, made))
     }
+}
+
+/// So many new seats, numbered from 0, each with a part of the share.
+fn seated<L: Ledger>(
+    alloc: Global,
+    mut all: Share<L>,
+    seats: u8,
+) -> Result<Vec<Seat<L>>, AllocError>
+    requires parts { all.parts ≡ seats }
+    requires amount { all.amount ≡ 0 }
+    requires seats { seats ≤ most_seats }
+    ensures seats { IfOk result (λ made. made.items ≡ new_seats seats) }
+    ensures count { IfOk result (λ made. vec_len made ≡ seats) }
+{
+    let mut made = Vec::new(alloc);
+    for number in 0..seats {
+        made.push(Seat::new(number, all.split_off(1, 0)))?;
+    }
+    Ok(made)
 }
 
 /// Takes the node out of its lock, with all the seats. Its history is as long as the seats recorded together.

@@ -1,6 +1,5 @@
-use Rattle.std.proofs.Common.{◌≡◌, ◌∙◌, arith}
+use Rattle.std.proofs.Common.{◌≡◌, ◌∙◌}
 use Rattle.node_lock.proofs.pool.run_at.Goals as goal
 
-pub unreachable-requires : goal.unreachable-requires
-unreachable-requires g c =
-    c.in_default.ensures.absent (c.in_ok-seats.ensures ∙ c.in_ok-shared.ensures.count ∙ c.requires.parts.1)
+pub closed-requires : goal.closed-requires
+closed-requires g c = c.in_ok-seats.ensures ∙ c.in_ok-shared.ensures.count ∙ c.requires.parts.1

@@ -1,7 +1,7 @@
 use Rattle.std.proofs.Common.{◌≡◌, ℕ, ◌+◌, List, [], ◌∷◌, ◌++◌, ap, sym, ◌∙◌, arith}
 use Rattle.std.proofs.lemmas.List.FromFn.{map-range_with_len_more}
 use Rattle.node_lock.specs.Seats.{Sitting, new_seat, new_seats}
-use Rattle.node_lock.proofs.shared.SharedNode.new.Goals as goal
+use Rattle.node_lock.proofs.shared.seated.Goals as goal
 
 pub loop-number-preserved : goal.loop-number-preserved
 loop-number-preserved g c = record {

@@ -1,6 +1,6 @@
 use Rattle.std.specs.Prelude.{◌≡◌, ◌+◌, vec_len}
 use Rattle.node_lock.specs.Seats.{new_seats}
-use Rattle.node_lock.proofs.shared.SharedNode.new.Given as goal
+use Rattle.node_lock.proofs.shared.seated.Given as goal
 
 abbrev pub invariant-loop-number : goal.invariant-loop-number
 invariant-loop-number g l = record {
