@@ -1,6 +1,6 @@
 //! A cluster as a script runs it: the world, and which packets of its pool were given.
 
-ghost use Rattle.std.specs.Prelude.{◌≡◌, ◌<◌, true, false, IfOk, IfSome, IfNone, OnOk, string_bytes};
+ghost use Rattle.std.specs.Prelude.{◌≡◌, ◌<◌, true, false, IfOk, IfSome, IfNone, OnOk, OnErr, string_bytes};
 ghost use Rattle.byz_world.specs.Steps.{step_due, after_step};
 ghost use Rattle.byz_world.specs.declared.step.Step.TheVariants.{Give};
 ghost use Rattle.byz_world.specs.Worlds.{too_many_lie};
@@ -38,7 +38,9 @@ impl Lab {
     /// Only for want of memory, as of the others here.
     pub fn new(alloc: Global, roles: RoleTable, liars: NodeSet) -> Result<Option<Lab>, AllocError>
         ensures some { IfOk result (λ made. IfSome made (λ lab. lab_in lab ≡ new_lab roles liars)) }
+        ensures few { IfOk result (λ made. IfSome made (λ _. too_many_lie roles.sizes liars ≡ false)) }
         ensures none { IfOk result (λ made. IfNone made (too_many_lie roles.sizes liars ≡ true)) }
+        ensures memory { OnErr result (too_many_lie roles.sizes liars ≡ false) }
     {
         let config = Config::new(CLUSTER, roles, MOST_EVENTS).unwrap();
         match World::new(alloc, config, liars) {
@@ -47,7 +49,16 @@ impl Lab {
                 given: Given::new(alloc),
             })),
             Err(WorldFault::TooManyLiars) => Ok(None),
-            Err(_) => Err(AllocError),
+            Err(WorldFault::Memory) => Err(AllocError),
+            Err(
+                WorldFault::NotCorrect
+                | WorldFault::NoSuchPacket
+                | WorldFault::NotSent
+                | WorldFault::PoolFull
+                | WorldFault::Link(_)
+                | WorldFault::Node(_)
+                | WorldFault::NoSession,
+            ) => unreachable!(),
         }
     }
 
@@ -171,7 +182,8 @@ fn taken_text(alloc: Global, world: &mut World, step: Step) -> Result<String, Al
 
 /// Want of memory ends the script; every other fault is an answer.
 fn unless_memory(fault: WorldFault) -> Result<(), AllocError>
-    ensures { OnOk result (is_want_of_memory fault ≡ false) }
+    ensures other { OnOk result (is_want_of_memory fault ≡ false) }
+    ensures memory { OnErr result (is_want_of_memory fault ≡ true) }
 {
     match fault {
         WorldFault::Memory => Err(AllocError),

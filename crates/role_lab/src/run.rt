@@ -2,7 +2,7 @@
 
 ghost use Rattle.std.specs.Prelude.{◌≡◌, ℕ, ◌<◌, ◌≤◌, ◌++◌, ◌⊎◌, Bool, List, Option, length, OnOk, OnErr, IfOk, IfErr};
 ghost use Rattle.std.specs.Io.KnownBytes.{Appends};
-ghost use Rattle.link_frames.specs.Aheads.{pending};
+ghost use Rattle.link_frames.specs.Aheads.{front_of, pending};
 ghost use Rattle.link_frames.specs.Devices.{WentOn, CallFailed, ReaderFailed, AppendsFront};
 ghost use Rattle.link_frames.specs.Blocks.{ReadAhead};
 ghost use Rattle.link_frames.specs.LinePrograms.{Moved};
@@ -10,7 +10,7 @@ ghost use Rattle.link_frames.specs.Watching.{watched_inner, watched_tally};
 ghost use Rattle.role_lab.specs.Scripts.{Script, most_line_bytes, next};
 ghost use Rattle.role_lab.specs.Stages.{Follows};
 ghost use Rattle.role_lab.specs.Runs.{ScriptRan, IsEndless};
-ghost use Rattle.role_lab.specs.Steps.{Holds, ScriptRuns, IsTaken};
+ghost use Rattle.role_lab.specs.Steps.{Holds, ScriptRuns, IsTaken, IsNotDue};
 
 use crate::fault::ScriptFault;
 use crate::stage::{Stage, answer};
@@ -164,6 +164,7 @@ fn write_when_due<W: Write>(
     ensures moved { OnOk result
         (Moved (W.contents (watched_inner writer.old))
         (W.contents (watched_inner writer.new)) held.old.items held.new.items) }
+    ensures due { OnOk result (IsNotDue held.new.items (front_of ahead.now)) }
     ensures went_on { OnOk result (WentOn (watched_tally writer.old) (watched_tally writer.new)) }
     ensures part { OnErr result
         (AppendsFront (W.contents (watched_inner writer.old)) (W.contents (watched_inner writer.new)) held.old.items) }

@@ -5,4 +5,4 @@ pub returns-in_ok-unless_memory-in-Err-clause-after : goal.returns-in_ok-unless_
 returns-in_ok-unless_memory-in-Err-clause-after c =
     OnOk-from c.format.result
     (refused_leaves c.args.world.now c.step.new.self c.args.step c.in-Err.fault c.in-Err.ensures.due
-    c.in_ok-unless_memory-in-Err.ensures c.in-Err.ensures.err)
+    c.in_ok-unless_memory-in-Err.ensures.other c.in-Err.ensures.err)
