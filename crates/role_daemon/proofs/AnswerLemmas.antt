@@ -19,7 +19,7 @@ use Rattle.role_node.specs.declared.faults.NodeFault.{NodeFault}
 use Rattle.role_node.specs.declared.faults.NodeFault.TheVariants as fault
 use Rattle.role_node.specs.declared.question.Answer.{Answer}
 use Rattle.role_node.specs.declared.question.Question.{Question}
-use Rattle.role_node.proofs.ListedLemmas.{one_answer}
+use Rattle.role_node.proofs.Exported.{one_answer}
 use Rattle.client_lines.specs.declared.answer.ClientAnswer.TheVariants.{Refused}
 use Rattle.role_daemon.specs.Answers.{after_answer, after_event, listed, asked}
 

@@ -1,5 +1,5 @@
 use Rattle.std.proofs.Common.{◌≡◌, refl, ap, ◌∙◌, sym}
-use Rattle.role_node.proofs.ListedLemmas.{one_answer}
+use Rattle.role_node.proofs.Exported.{one_answer}
 use Rattle.node_lock.proofs.asked.asked.Goals as goal
 
 pub returns-in-Ok-clause-ok : goal.returns-in-Ok-clause-ok

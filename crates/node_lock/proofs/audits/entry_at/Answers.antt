@@ -3,7 +3,7 @@ use Rattle.std.specs.Prelude.{slice_get, IsTrue}
 use Rattle.std.proofs.lemmas.Option.{slice_get_read, slice_get-map}
 use Rattle.role_node.specs.Answers.{is_recorded, answer_due}
 use Rattle.role_node.specs.Kept.{event_of}
-use Rattle.role_node.proofs.Entries.{events-length}
+use Rattle.role_node.proofs.Exported.{events-length}
 use Rattle.node_lock.proofs.Dues.{next_entry}
 use Rattle.node_lock.proofs.audits.entry_at.Goals as goal
 
