@@ -17,18 +17,15 @@ mod outbox;
 mod peers;
 mod porter;
 mod slot;
+mod task;
 mod workers;
 
 use crate::cluster::Setup;
 use crate::fault::ServeFault;
-use accept::accept;
 use bell::Bell;
-use clients::answer_clients;
-use frames::take_frames;
 use hub::{Hub, MOST_CLIENTS, MOST_PEERS, local, mailboxes, outboxes, slots};
 use links::Links;
 use node_lock::{Inbox, Seat, SharedNode};
-use peers::send_frames;
 use porter::{Porter, porters};
 use role_node::Node;
 use std::alloc::{AllocError, Global};
@@ -40,7 +37,7 @@ use std::sync::{Mutex, Wait};
 use std::thread::Threads;
 use std::time::Clock;
 use std::{io, thread};
-use workers::work;
+use task::Task;
 
 /// The workers have a seat each, and those who only look share one more.
 const SEATS: u8 = 5;
@@ -118,7 +115,8 @@ where
         failed: AtomicBool::new(false),
     };
     let porters = porters(alloc, &inbox, &hub.bell, passes)?;
-    run(rt, alloc, &hub, &doors, nodes.as_slice(), seats, porters)?;
+    let tasks = tasks(alloc, &hub, &doors, nodes.as_slice(), seats, porters)?;
+    run(rt, alloc, &hub, tasks)?;
     if hub.failed.load(Ordering::SeqCst) {
         return Err(ServeFault::Device);
     }
@@ -141,53 +139,68 @@ fn listener<R: Net<Listener = TcpListener, Stream = TcpStream>>(
     }
 }
 
-/// Runs all threads, until the node ends.
+/// What each thread does: four workers, a thread for each slot, one for each node, and one for each listener.
+fn tasks<'a, L: Ledger>(
+    alloc: Global,
+    hub: &'a Hub<L>,
+    doors: &'a Doors,
+    nodes: &[u16],
+    seats: Vec<Seat<L>>,
+    mut porters: Vec<Porter<'a>>,
+) -> Result<Vec<Task<'a, L>>, AllocError> {
+    let mut tasks = Vec::new(alloc);
+    for seat in seats {
+        if let Some(porter) = porters.pop() {
+            tasks.push(Task::Work { porter, seat })?;
+        }
+    }
+    for (index, slot) in (0..MOST_CLIENTS).zip(&hub.clients) {
+        if let Some(porter) = porters.pop() {
+            tasks.push(Task::AnswerClients {
+                index,
+                slot,
+                porter,
+            })?;
+        }
+    }
+    for (number, slot) in (MOST_CLIENTS..MOST_CLIENTS + MOST_PEERS).zip(&hub.peers) {
+        if let Some(porter) = porters.pop() {
+            tasks.push(Task::TakeFrames {
+                number,
+                slot,
+                porter,
+            })?;
+        }
+    }
+    for (outbox, port) in hub.outboxes.iter().zip(nodes.iter().copied()) {
+        tasks.push(Task::SendFrames { outbox, port })?;
+    }
+    tasks.push(Task::Accept {
+        listener: &doors.peers,
+        slots: hub.peers.as_slice(),
+    })?;
+    tasks.push(Task::Accept {
+        listener: &doors.clients,
+        slots: hub.clients.as_slice(),
+    })?;
+    Ok(tasks)
+}
+
+/// Does each task in a thread of its own, until the node ends.
 fn run<L: Ledger + Send + Sync, R>(
     rt: &R,
     alloc: Global,
     hub: &Hub<L>,
-    doors: &Doors,
-    nodes: &[u16],
-    seats: Vec<Seat<L>>,
-    mut porters: Vec<Porter<'_>>,
+    tasks: Vec<Task<'_, L>>,
 ) -> Result<(), AllocError>
 where
     R: Net<Listener = TcpListener, Stream = TcpStream> + Threads + Wait + Clock + Sync,
 {
     let started = thread::scope(thread::scope_env(), rt, move |scope| -> bool {
         let mut all = true;
-        for seat in seats {
-            if let Some(porter) = porters.pop() {
-                all &= scope
-                    .spawn(move || work(rt, alloc, hub, porter, seat))
-                    .is_ok();
-            }
+        for task in tasks {
+            all &= scope.spawn(move || task.run(rt, alloc, hub)).is_ok();
         }
-        for (number, slot) in (0..MOST_CLIENTS).zip(&hub.clients) {
-            if let Some(porter) = porters.pop() {
-                all &= scope
-                    .spawn(move || answer_clients(rt, alloc, hub, number, slot, porter))
-                    .is_ok();
-            }
-        }
-        for (number, slot) in (MOST_CLIENTS..MOST_CLIENTS + MOST_PEERS).zip(&hub.peers) {
-            if let Some(porter) = porters.pop() {
-                all &= scope
-                    .spawn(move || take_frames(rt, alloc, hub, number, slot, porter))
-                    .is_ok();
-            }
-        }
-        for (outbox, port) in hub.outboxes.iter().zip(nodes.iter().copied()) {
-            all &= scope
-                .spawn(move || send_frames(rt, alloc, outbox, port))
-                .is_ok();
-        }
-        all &= scope
-            .spawn(move || accept(rt, hub, &doors.peers, &hub.peers))
-            .is_ok();
-        all &= scope
-            .spawn(move || accept(rt, hub, &doors.clients, &hub.clients))
-            .is_ok();
         if !all {
             hub.end(rt);
         }

@@ -45,7 +45,8 @@ fn text_of(alloc: Global, me: usize, f: u8, peers: &[u16], client: u16) -> Resul
     }
     let n = peers.len();
     Ok(format!(in alloc;
-        "{{\"client\":{client},\"cluster\":1,\"f\":{f},\"keys\":[{keys}],\"me\":{me},\"n\":{n},\"nodes\":[{ports}],\"roles\":[[2,0]]}}"
+        "{{\"client\":{client},\"cluster\":1,\"f\":{f},\"keys\":[{keys}],\"me\":{me},\"n\":{n},\
+        \"nodes\":[{ports}],\"roles\":[[2,0]]}}"
     )?)
 }
 

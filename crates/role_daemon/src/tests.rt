@@ -56,18 +56,14 @@ fn cluster_texts(rt: HostRuntime) -> Result<(), Fail> {
     for (text, fault) in cases {
         assert_eq!(rt; fault_of(rt.alloc(), text, Mode::Pipe)?.as_str(), fault);
     }
-    let text = b"{\"cluster\":1,\"f\":0,\"me\":0,\"n\":1,\"roles\":[[2,0]]}";
-    assert_eq!(rt;
-        fault_of(rt.alloc(), text, Mode::Serve)?.as_str(),
-        "U3 Missing keys"
-    );
     Ok(())
 }
 
 #[test]
 fn a_server_has_keys_and_ports(rt: HostRuntime) -> Result<(), Fail> {
-    let text =
-        b"{\"client\":9,\"cluster\":1,\"f\":0,\"keys\":[\"000102030405060708090a0b0c0d0e0f101112131415161718191A1B1C1D1E1F\"],\"me\":0,\"n\":1,\"nodes\":[65535],\"roles\":[[2,0]]}";
+    let text = b"{\"client\":9,\"cluster\":1,\"f\":0,\
+        \"keys\":[\"000102030405060708090a0b0c0d0e0f101112131415161718191A1B1C1D1E1F\"],\
+        \"me\":0,\"n\":1,\"nodes\":[65535],\"roles\":[[2,0]]}";
     let setup = read_cluster(rt.alloc(), text, Mode::Serve)?;
     assert_eq!(rt; setup.nodes.as_slice(), [65_535].as_slice());
     assert_eq!(rt; setup.client, 9);
@@ -75,18 +71,23 @@ fn a_server_has_keys_and_ports(rt: HostRuntime) -> Result<(), Fail> {
         [key] => assert_eq!(rt; key[31], 31),
         _ => assert!(rt; false),
     }
-    let text =
-        b"{\"client\":9,\"cluster\":1,\"f\":0,\"keys\":[],\"me\":0,\"n\":1,\"nodes\":[1],\"roles\":[]}";
-    assert_eq!(rt;
-        fault_of(rt.alloc(), text, Mode::Serve)?.as_str(),
-        "U4 OutOfRange keys"
-    );
-    let text =
-        b"{\"client\":9,\"cluster\":1,\"f\":0,\"keys\":[],\"me\":0,\"n\":1,\"nodes\":[0],\"roles\":[]}";
-    assert_eq!(rt;
-        fault_of(rt.alloc(), text, Mode::Serve)?.as_str(),
-        "U4 OutOfRange nodes"
-    );
+    let cases: [(&[u8], &str); 3] = [
+        (
+            b"{\"cluster\":1,\"f\":0,\"me\":0,\"n\":1,\"roles\":[]}",
+            "U3 Missing keys",
+        ),
+        (
+            b"{\"client\":9,\"cluster\":1,\"f\":0,\"keys\":[],\"me\":0,\"n\":1,\"nodes\":[1],\"roles\":[]}",
+            "U4 OutOfRange keys",
+        ),
+        (
+            b"{\"client\":9,\"cluster\":1,\"f\":0,\"keys\":[],\"me\":0,\"n\":1,\"nodes\":[0],\"roles\":[]}",
+            "U4 OutOfRange nodes",
+        ),
+    ];
+    for (text, fault) in cases {
+        assert_eq!(rt; fault_of(rt.alloc(), text, Mode::Serve)?.as_str(), fault);
+    }
     Ok(())
 }
 
@@ -139,10 +140,29 @@ const OPENING: &str = "{\"cluster\":1,\"f\":0,\"me\":0,\"n\":1,\"roles\":[[2,0]]
 
 #[test]
 fn refusals(rt: HostRuntime) -> Result<(), Fail> {
-    let lines =
-        "nope\n[1]\n{}\n{\"op\":\"fly\"}\n{\"op\":\"open\"}\n{\"op\":\"open\",\"user\":4294967296}\n{\"op\":\"open\",\"user\":4294967295,\"x\":null}\n{\"op\":\"reach\",\"owner\":1}\n{\"op\":\"again\",\"owner\":0,\"place\":0}\n{\"op\":\"grant\",\"object\":9,\"operation\":5,\"role\":3}\n{\"op\":\"stop\"}\nnope\n";
-    let due =
-        "{\"error\":\"J1 NotJson\"}\n{\"error\":\"J2 NotObject\"}\n{\"error\":\"J3 NoOp\"}\n{\"error\":\"J4 UnknownOp\"}\n{\"error\":\"J5 Missing\",\"name\":\"user\"}\n{\"error\":\"J6 OutOfRange\",\"name\":\"user\"}\n{\"session\":1}\n{\"error\":\"J6 OutOfRange\",\"name\":\"owner\"}\n{\"again\":0}\n{\"error\":\"F1 NotMine\"}\n{\"stopped\":true}\n";
+    let lines = "nope\n\
+        [1]\n\
+        {}\n\
+        {\"op\":\"fly\"}\n\
+        {\"op\":\"open\"}\n\
+        {\"op\":\"open\",\"user\":4294967296}\n\
+        {\"op\":\"open\",\"user\":4294967295,\"x\":null}\n\
+        {\"op\":\"reach\",\"owner\":1}\n\
+        {\"op\":\"again\",\"owner\":0,\"place\":0}\n\
+        {\"op\":\"grant\",\"object\":9,\"operation\":5,\"role\":3}\n\
+        {\"op\":\"stop\"}\n\
+        nope\n";
+    let due = "{\"error\":\"J1 NotJson\"}\n\
+        {\"error\":\"J2 NotObject\"}\n\
+        {\"error\":\"J3 NoOp\"}\n\
+        {\"error\":\"J4 UnknownOp\"}\n\
+        {\"error\":\"J5 Missing\",\"name\":\"user\"}\n\
+        {\"error\":\"J6 OutOfRange\",\"name\":\"user\"}\n\
+        {\"session\":1}\n\
+        {\"error\":\"J6 OutOfRange\",\"name\":\"owner\"}\n\
+        {\"again\":0}\n\
+        {\"error\":\"F1 NotMine\"}\n\
+        {\"stopped\":true}\n";
     let input = format!(in rt.alloc(); "{OPENING}{lines}")?;
     let mut held = Vec::new(rt.alloc());
     let mut writer = Watched::new(&mut held);
