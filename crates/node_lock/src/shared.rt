@@ -9,7 +9,7 @@ use std::alloc::{AllocError, Global};
 use std::error::Error;
 use std::fmt;
 use std::sync::Mutex;
-use std::sync::ledger::{Blank, Ledger, Share};
+use std::sync::ledger::{Blank, Book, Ledger, Share};
 
 /// A node that threads share. A caller locks the `Mutex` and calls [`Locked::step`] and [`Locked::ask`] with its seat.
 #[derive(Drop)]
@@ -72,8 +72,17 @@ impl<L: Ledger> SharedNode<L> {
     {
         let (book, all) = blank.open::<L>();
         let made = seated(alloc, all, seats)?;
+        Ok((SharedNode::over(alloc, node, book, seats), made))
+    }
+
+    /// The lock over a node that has recorded nothing.
+    fn over(alloc: Global, node: Node, book: Book<L>, seats: u8) -> SharedNode<L>
+        requires empty { node.history ≡ [] }
+        requires total { book.total ≡ 0 }
+        requires seats { (seats ≡ L.parts) × (0 < seats) }
+    {
         let node = Mutex::new(Locked::new(alloc, node, book, seats));
-        Ok((SharedNode { node }, made))
+        SharedNode { node }
     }
 }
 
