@@ -1,9 +1,10 @@
 //! The lines of a script of a cluster.
 
-ghost use Rattle.std.specs.Prelude.{◌≡◌, ◌<◌, IfOk, IfSome};
+ghost use Rattle.std.specs.Prelude.{◌≡◌, ◌<◌, IfOk, IfSome, OnErr};
 ghost use Rattle.byz_world.specs.declared.step.Step.TheVariants.{Client};
 ghost use Rattle.role_lab.specs.Orders as reading;
-ghost use Rattle.role_lab.specs.Inside.{IsWithinSizes, packet_given};
+ghost use Rattle.role_lab.specs.Inside.{IsWithinSizes, NamesBytes, packet_given};
+ghost use Rattle.role_lab.specs.Inside as inside;
 
 use crate::fields::{
     bytes_of, kind_then, narrow_then, node_number, node_then, session_then, wide_then,
@@ -115,6 +116,7 @@ fn role_and_owner(text: &str) -> Option<Setup>
 pub fn order_of_line(alloc: Global, sizes: &Sizes, line: &str) -> Result<Option<Order>, AllocError>
     ensures value { IfOk result (λ order. order ≡ reading.order_of_line sizes.now line.now) }
     ensures within { IfOk result (λ order. IfSome order (IsWithinSizes sizes.now)) }
+    ensures memory { OnErr result (NamesBytes line.now) }
 {
     if line == "flush" {
         return Ok(Some(Order::Flush));
@@ -173,7 +175,7 @@ fn order_of_node(sizes: &Sizes, name: &str, text: &str) -> Option<Order>
     order_at_node(sizes, name, node, text)
 }
 
-#[tactic(auto, unfolding(crate::specs::Orders::order_at_node))]
+#[tactic(auto, unfolding(crate::specs::Orders::order_at_node, crate::specs::Inside::question_at_node))]
 fn order_at_node(sizes: &Sizes, name: &str, node: NodeName, text: &str) -> Option<Order>
     ensures value { result ≡ reading.order_at_node sizes.now name.now node text.now }
     ensures within { IfSome result (IsWithinSizes sizes.now) }
@@ -207,7 +209,18 @@ fn order_at_node(sizes: &Sizes, name: &str, node: NodeName, text: &str) -> Optio
     } else if name == "close" {
         let (session, user) = session_and_user(text)?;
         Some(acted(node, ClientEvent::Close { session, user }))
-    } else if name == "check" {
+    } else {
+        question_at_node(sizes, name, node, text)
+    }
+}
+
+/// What is asked at a node.
+#[tactic(auto, unfolding(crate::specs::Inside::question_at_node))]
+fn question_at_node(sizes: &Sizes, name: &str, node: NodeName, text: &str) -> Option<Order>
+    ensures value { result ≡ inside.question_at_node sizes.now name.now node text.now }
+    ensures within { IfSome result (IsWithinSizes sizes.now) }
+{
+    if name == "check" {
         let question = access_of(text)?;
         Some(Order::Ask { node, question })
     } else if name == "list" {
