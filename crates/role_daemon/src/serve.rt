@@ -23,7 +23,7 @@ mod workers;
 use crate::cluster::Setup;
 use crate::fault::ServeFault;
 use bell::Bell;
-use hub::{Hub, MOST_CLIENTS, MOST_PEERS, local, mailboxes, outboxes, slots};
+use hub::{Hub, MOST_CLIENTS, MOST_PEERS, Rooms, local};
 use links::Links;
 use node_lock::{Inbox, Seat, SharedNode};
 use porter::{Porter, porters};
@@ -81,46 +81,27 @@ where
     requires me { IsNodeSetup setup }
     requires peers { IsServerSetup setup }
 {
+    let ports = ports_of(&setup);
+    let doors = Doors::new(rt, ports)?;
+    let (hub, seats) = hub_of::<L>(alloc, blank, setup, ports)?;
+    serve_hub(rt, alloc, &hub, &doors, seats)
+}
+
+/// The ports for the other nodes and for clients.
+fn ports_of(setup: &Setup) -> [u16; 2] {
     let own = setup.nodes.as_slice().get(usize::from(setup.me.index()));
-    let ports = [own.copied().unwrap_or(0), setup.client];
-    let doors = Doors {
-        peers: listener(rt, ports[0])?,
-        clients: listener(rt, ports[1])?,
-    };
-    let links = Links::new(alloc, &setup)?;
-    let Setup {
-        config,
-        me,
-        keys: _,
-        nodes,
-        client: _,
-    } = setup;
-    let node = Node::new(alloc, config, me)?;
-    let (node, mut seats) = SharedNode::<L>::new(alloc, blank, node, SEATS)?;
-    let Some(looker) = seats.pop() else {
-        unreachable!()
-    };
-    let (inbox, passes) = Inbox::new(alloc, PASSES)?;
-    let hub = Hub {
-        node,
-        looker: Mutex::new(looker),
-        links,
-        bell: Bell::new(),
-        outboxes: outboxes(alloc, nodes.as_slice().len())?,
-        mailboxes: mailboxes(alloc, MOST_CLIENTS)?,
-        clients: slots(alloc, MOST_CLIENTS)?,
-        peers: slots(alloc, MOST_PEERS)?,
-        ports,
-        ended: AtomicBool::new(false),
-        failed: AtomicBool::new(false),
-    };
-    let porters = porters(alloc, &inbox, &hub.bell, passes)?;
-    let tasks = tasks(alloc, &hub, &doors, nodes.as_slice(), seats, porters)?;
-    run(rt, alloc, &hub, tasks)?;
-    if hub.failed.load(Ordering::SeqCst) {
-        return Err(ServeFault::Device);
+    [own.copied().unwrap_or(0), setup.client]
+}
+
+impl Doors {
+    fn new<R>(rt: &R, ports: [u16; 2]) -> Result<Doors, ServeFault>
+    where
+        R: Net<Listener = TcpListener, Stream = TcpStream>,
+    {
+        let peers = listener(rt, ports[0])?;
+        let clients = listener(rt, ports[1])?;
+        Ok(Doors { peers, clients })
     }
-    Ok(())
 }
 
 fn listener<R: Net<Listener = TcpListener, Stream = TcpStream>>(
@@ -139,12 +120,71 @@ fn listener<R: Net<Listener = TcpListener, Stream = TcpStream>>(
     }
 }
 
+/// The hub of a setup's node, and the seats of its workers.
+fn hub_of<L: Ledger>(
+    alloc: Global,
+    blank: Blank,
+    setup: Setup,
+    ports: [u16; 2],
+) -> Result<(Hub<L>, Vec<Seat<L>>), AllocError>
+    requires name { blank.name ≡ L.name }
+    requires parts { (blank.parts ≡ L.parts) × (5 ≡ L.parts) }
+    requires me { IsNodeSetup setup }
+{
+    let links = Links::new(alloc, &setup)?;
+    let rooms = Rooms::new(alloc, setup.nodes.as_slice().len())?;
+    let Setup {
+        config,
+        me,
+        keys: _,
+        nodes,
+        client: _,
+    } = setup;
+    let node = Node::new(alloc, config, me)?;
+    let (node, mut seats) = SharedNode::<L>::new(alloc, blank, node, SEATS)?;
+    let Some(looker) = seats.pop() else {
+        unreachable!()
+    };
+    let hub = Hub {
+        node,
+        looker: Mutex::new(looker),
+        links,
+        bell: Bell::new(),
+        rooms,
+        nodes,
+        ports,
+        ended: AtomicBool::new(false),
+        failed: AtomicBool::new(false),
+    };
+    Ok((hub, seats))
+}
+
+/// Serves a hub's node, until it ends.
+fn serve_hub<L: Ledger + Send + Sync, R>(
+    rt: &R,
+    alloc: Global,
+    hub: &Hub<L>,
+    doors: &Doors,
+    seats: Vec<Seat<L>>,
+) -> Result<(), ServeFault>
+where
+    R: Net<Listener = TcpListener, Stream = TcpStream> + Threads + Wait + Clock + Sync,
+{
+    let (inbox, passes) = Inbox::new(alloc, PASSES)?;
+    let porters = porters(alloc, &inbox, &hub.bell, passes)?;
+    let tasks = tasks(alloc, hub, doors, seats, porters)?;
+    run(rt, alloc, hub, tasks)?;
+    if hub.failed.load(Ordering::SeqCst) {
+        return Err(ServeFault::Device);
+    }
+    Ok(())
+}
+
 /// What each thread does: four workers, a thread for each slot, one for each node, and one for each listener.
 fn tasks<'a, L: Ledger>(
     alloc: Global,
     hub: &'a Hub<L>,
     doors: &'a Doors,
-    nodes: &[u16],
     seats: Vec<Seat<L>>,
     mut porters: Vec<Porter<'a>>,
 ) -> Result<Vec<Task<'a, L>>, AllocError> {
@@ -154,7 +194,7 @@ fn tasks<'a, L: Ledger>(
             tasks.push(Task::Work { porter, seat })?;
         }
     }
-    for (index, slot) in (0..MOST_CLIENTS).zip(&hub.clients) {
+    for (index, slot) in (0..MOST_CLIENTS).zip(&hub.rooms.clients) {
         if let Some(porter) = porters.pop() {
             tasks.push(Task::AnswerClients {
                 index,
@@ -163,7 +203,7 @@ fn tasks<'a, L: Ledger>(
             })?;
         }
     }
-    for (number, slot) in (MOST_CLIENTS..MOST_CLIENTS + MOST_PEERS).zip(&hub.peers) {
+    for (number, slot) in (MOST_CLIENTS..MOST_CLIENTS + MOST_PEERS).zip(&hub.rooms.peers) {
         if let Some(porter) = porters.pop() {
             tasks.push(Task::TakeFrames {
                 number,
@@ -172,16 +212,21 @@ fn tasks<'a, L: Ledger>(
             })?;
         }
     }
-    for (outbox, port) in hub.outboxes.iter().zip(nodes.iter().copied()) {
+    for (outbox, port) in hub
+        .rooms
+        .outboxes
+        .iter()
+        .zip(hub.nodes.as_slice().iter().copied())
+    {
         tasks.push(Task::SendFrames { outbox, port })?;
     }
     tasks.push(Task::Accept {
         listener: &doors.peers,
-        slots: hub.peers.as_slice(),
+        slots: hub.rooms.peers.as_slice(),
     })?;
     tasks.push(Task::Accept {
         listener: &doors.clients,
-        slots: hub.clients.as_slice(),
+        slots: hub.rooms.clients.as_slice(),
     })?;
     Ok(tasks)
 }

@@ -177,7 +177,7 @@ impl<L: Ledger> Client<'_, L> {
         if !self.put(rt, &Job { number, call }) {
             return Ok(Then::Close);
         }
-        let Some(mailbox) = self.hub.mailboxes.get(number as usize) else {
+        let Some(mailbox) = self.hub.rooms.mailboxes.get(number as usize) else {
             return Ok(Then::Close);
         };
         let Some(text) = mailbox.wait(rt) else {

@@ -9,6 +9,7 @@ use crate::serve::slot::Slot;
 use link_frames::{Message, Packet, Place};
 use node_lock::{Call, Job, Receipt, Seat, SharedNode, View};
 use quorum_sizes::NodeName;
+use role_commands::Items;
 use role_node::Event;
 use std::alloc::{AllocError, Global};
 use std::net::{Ipv4Addr, Net, SocketAddr, SocketAddrV4, TcpStream};
@@ -29,6 +30,32 @@ const NO_CONNECTION: u32 = u32::MAX;
 /// How many milliseconds a listener is given to take the connection that wakes it.
 const WAKING: u64 = 200;
 
+/// Where frames, answers and connections wait.
+#[derive(Drop)]
+pub struct Rooms {
+    /// An outbox for each node, the node's own of no use.
+    pub outboxes: Vec<Outbox>,
+    pub mailboxes: Vec<Mailbox>,
+    pub clients: Vec<Slot>,
+    pub peers: Vec<Slot>,
+}
+
+impl Rooms {
+    /// Empty rooms for so many nodes, and for the most connections.
+    ///
+    /// # Errors
+    ///
+    /// Only for want of memory.
+    pub fn new(alloc: Global, nodes: usize) -> Result<Rooms, AllocError> {
+        Ok(Rooms {
+            outboxes: outboxes(alloc, nodes)?,
+            mailboxes: mailboxes(alloc, MOST_CLIENTS)?,
+            clients: slots(alloc, MOST_CLIENTS)?,
+            peers: slots(alloc, MOST_PEERS)?,
+        })
+    }
+}
+
 /// What the threads of a serving node share.
 #[derive(Drop)]
 pub struct Hub<L: Ledger> {
@@ -37,11 +64,9 @@ pub struct Hub<L: Ledger> {
     pub looker: Mutex<Seat<L>>,
     pub links: Links,
     pub bell: Bell,
-    /// An outbox for each node, the node's own of no use.
-    pub outboxes: Vec<Outbox>,
-    pub mailboxes: Vec<Mailbox>,
-    pub clients: Vec<Slot>,
-    pub peers: Vec<Slot>,
+    pub rooms: Rooms,
+    /// The port of each node, for its peers.
+    pub nodes: Items<u16>,
     /// The ports of the two listeners.
     pub ports: [u16; 2],
     pub ended: AtomicBool,
@@ -54,7 +79,7 @@ pub fn local(port: u16) -> SocketAddr {
 }
 
 /// So many free slots.
-pub fn slots(alloc: Global, count: u32) -> Result<Vec<Slot>, AllocError> {
+fn slots(alloc: Global, count: u32) -> Result<Vec<Slot>, AllocError> {
     let mut made = Vec::new(alloc);
     for _ in 0..count {
         made.push(Slot::new())?;
@@ -63,7 +88,7 @@ pub fn slots(alloc: Global, count: u32) -> Result<Vec<Slot>, AllocError> {
 }
 
 /// So many empty mailboxes.
-pub fn mailboxes(alloc: Global, count: u32) -> Result<Vec<Mailbox>, AllocError> {
+fn mailboxes(alloc: Global, count: u32) -> Result<Vec<Mailbox>, AllocError> {
     let mut made = Vec::new(alloc);
     for _ in 0..count {
         made.push(Mailbox::new())?;
@@ -72,7 +97,7 @@ pub fn mailboxes(alloc: Global, count: u32) -> Result<Vec<Mailbox>, AllocError> 
 }
 
 /// So many empty outboxes.
-pub fn outboxes(alloc: Global, count: usize) -> Result<Vec<Outbox>, AllocError> {
+fn outboxes(alloc: Global, count: usize) -> Result<Vec<Outbox>, AllocError> {
     let mut made = Vec::new(alloc);
     for _ in 0..count {
         made.push(Outbox::new(alloc))?;
@@ -90,16 +115,16 @@ impl<L: Ledger> Hub<L> {
     pub fn end<R: Net + Wait>(&self, rt: &R) {
         self.ended.store(true, Ordering::SeqCst);
         self.bell.end(rt);
-        for outbox in &self.outboxes {
+        for outbox in &self.rooms.outboxes {
             outbox.end(rt);
         }
-        for mailbox in &self.mailboxes {
+        for mailbox in &self.rooms.mailboxes {
             mailbox.end(rt);
         }
-        for slot in &self.clients {
+        for slot in &self.rooms.clients {
             slot.end(rt);
         }
-        for slot in &self.peers {
+        for slot in &self.rooms.peers {
             slot.end(rt);
         }
         for port in self.ports {
@@ -115,7 +140,7 @@ impl<L: Ledger> Hub<L> {
 
     /// Sends a message to all nodes, in their order. What does not fit is lost.
     pub fn send_to_all<R: Wait>(&self, rt: &R, porter: &mut Porter<'_>, message: &Message) {
-        for (index, outbox) in self.outboxes.iter().enumerate() {
+        for (index, outbox) in self.rooms.outboxes.iter().enumerate() {
             if let Some(to) = self.links.name(index) {
                 self.send(rt, porter, outbox, to, message);
             }

@@ -44,7 +44,7 @@ pub fn work<L: Ledger, R: Wait>(
 
 /// Gives a client's connection its answer.
 fn give<L: Ledger, R: Wait>(rt: &R, hub: &Hub<L>, number: u32, text: Option<String>) {
-    if let Some(mailbox) = hub.mailboxes.get(number as usize) {
+    if let Some(mailbox) = hub.rooms.mailboxes.get(number as usize) {
         mailbox.give(rt, text);
     }
 }
@@ -53,7 +53,7 @@ fn give<L: Ledger, R: Wait>(rt: &R, hub: &Hub<L>, number: u32, text: Option<Stri
 fn give_up<L: Ledger, R: Wait>(rt: &R, hub: &Hub<L>, number: u32) {
     if number < MOST_CLIENTS {
         give(rt, hub, number, None);
-    } else if let Some(slot) = hub.peers.get((number - MOST_CLIENTS) as usize) {
+    } else if let Some(slot) = hub.rooms.peers.get((number - MOST_CLIENTS) as usize) {
         slot.cut(rt);
     }
 }
