@@ -34,12 +34,12 @@ fn config(alloc: Global) -> Result<(Config, NodeName), Fail>
     ensures { IfOk result (λ made. made.1 < made.0.roles.sizes.nodes) }
 {
     let sizes = Sizes::new(1, 0)?;
-    let mut table = RoleTable::new(alloc, sizes);
-    table.add(2, 0)?;
     let me = sizes.name(0).ok_or("no node")?;
-    if !table.sizes().has(me) {
+    if !sizes.has(me) {
         return Err("no node".into());
     }
+    let mut table = RoleTable::new(alloc, sizes);
+    table.add(2, 0)?;
     Ok((Config::new(1, table, 10).ok_or("no configuration")?, me))
 }
 
@@ -94,18 +94,49 @@ fn use_a_seat<L: Ledger, R: Wait + Abort>(rt: &R, alloc: Global, blank: Blank) -
     let Some(mut seat) = seats.pop() else {
         return Err("no seat".into());
     };
-    let open = shared.node.lock(rt).step(&mut seat, OPEN)?;
+    let open = open_a_session(rt, &shared, &mut seat)?;
+    let asked = ask_twice(rt, alloc, &shared, &mut seat)?;
+    let node = close_at_last(shared, seats, seat)?;
+    audit_three(rt, alloc, &node, open, asked)
+}
+
+/// The first call of a node, which opens session 1.
+fn open_a_session<L: Ledger, R: Wait + Abort>(
+    rt: &R,
+    shared: &SharedNode<L>,
+    seat: &mut Seat<L>,
+) -> Result<Receipt, Fail> {
+    let open = shared.node.lock(rt).step(seat, OPEN)?;
     assert!(rt; (open.seat, open.place) == (1, 0));
     assert!(rt; session_of(&open) == Some(1));
-    let check = shared.node.lock(rt).ask(&mut seat, CHECK)?;
-    assert!(rt; check.place == 1);
-    assert!(rt; has_no_active_role(&check));
-    let roles = shared
-        .node
-        .lock(rt)
-        .ask(&mut seat, Question::AssignedRoles(7))?;
+    Ok(open)
+}
+
+/// The receipts of two questions after it.
+fn ask_twice<L: Ledger, R: Wait + Abort>(
+    rt: &R,
+    alloc: Global,
+    shared: &SharedNode<L>,
+    seat: &mut Seat<L>,
+) -> Result<Vec<Receipt>, Fail> {
+    let mut asked = Vec::new(alloc);
+    let roles = shared.node.lock(rt).ask(seat, Question::AssignedRoles(7))?;
     assert!(rt; roles.place == 1);
     assert!(rt; has_no_roles(&roles));
+    asked.push(roles)?;
+    let check = shared.node.lock(rt).ask(seat, CHECK)?;
+    assert!(rt; check.place == 1);
+    assert!(rt; has_no_active_role(&check));
+    asked.push(check)?;
+    Ok(asked)
+}
+
+/// Closes a node without one of its seats, and then with it.
+fn close_at_last<L: Ledger>(
+    shared: SharedNode<L>,
+    seats: Vec<Seat<L>>,
+    seat: Seat<L>,
+) -> Result<Node, Fail> {
     let Err(CloseFault::SeatMissing { node, mut seats }) = close(shared, seats) else {
         return Err("closed without a seat".into());
     };
@@ -113,7 +144,7 @@ fn use_a_seat<L: Ledger, R: Wait + Abort>(rt: &R, alloc: Global, blank: Blank) -
     let Ok(node) = close(node, seats) else {
         return Err("not closed".into());
     };
-    audit_three(rt, alloc, &node, open, check, roles)
+    Ok(node)
 }
 
 /// The three receipts are true; with the first one altered, left out or doubled they are not.
@@ -122,12 +153,8 @@ fn audit_three(
     alloc: Global,
     node: &Node,
     open: Receipt,
-    check: Receipt,
-    roles: Receipt,
+    mut receipts: Vec<Receipt>,
 ) -> Result<(), Fail> {
-    let mut receipts = Vec::new(alloc);
-    receipts.push(roles)?;
-    receipts.push(check)?;
     assert!(rt; audit(alloc, node, &receipts) == Err(AuditFault::Missing(0)));
     receipts.push(opened(2))?;
     assert!(rt; audit(alloc, node, &receipts) == Err(AuditFault::Differs(0)));
@@ -158,12 +185,22 @@ fn issue_in_a_hold<L: Ledger, R: Wait + Abort>(
     let Some(mut seat) = seats.pop() else {
         return Err("no seat".into());
     };
+    issue(rt, &shared, &mut seat, owner)
+}
+
+/// The hold, which issues the command and reads its place.
+fn issue<L: Ledger, R: Wait + Abort>(
+    rt: &R,
+    shared: &SharedNode<L>,
+    seat: &mut Seat<L>,
+    owner: NodeName,
+) -> Result<(), Fail> {
     let mut node = shared.node.lock(rt);
     if !node.has(owner) {
         return Err("no node".into());
     }
     let issue = Some(Call::Step(Event::Issue(ASSIGN)));
-    let (receipt, view) = node.hold(&mut seat, issue, owner, 0)?;
+    let (receipt, view) = node.hold(seat, issue, owner, 0)?;
     assert!(rt; receipt.map(|receipt| receipt.place) == Some(0));
     assert!(rt; (view.at, view.reach) == (1, 0));
     assert!(rt; view.again.send == Some(ASSIGN));
