@@ -1,7 +1,7 @@
 use super::*;
 use quorum_sizes::Sizes;
 use role_commands::{Command, RoleTable};
-use std::alloc::Global;
+use std::alloc::{AllocError, Global};
 use std::test::Fail;
 
 /// Four nodes; roles 2 and 3 are of node 0, and role 9 is of node 1.
@@ -49,22 +49,70 @@ fn example(alloc: Global) -> Result<Policy, Fail> {
     )
 }
 
+/// Whether these are the users who have the role.
+fn lists_users(policy: &Policy, role: u16, users: &[u32]) -> Result<bool, AllocError> {
+    Ok(policy.assigned_users(role)?.as_slice() == users)
+}
+
+/// Whether these are the roles of the user.
+fn lists_roles(policy: &Policy, user: u32, roles: &[u16]) -> Result<bool, AllocError> {
+    Ok(policy.assigned_roles(user)?.as_slice() == roles)
+}
+
+/// Whether these are the permissions of the role.
+fn lists_role_permissions(
+    policy: &Policy,
+    role: u16,
+    permissions: &[(u16, u32)],
+) -> Result<bool, AllocError> {
+    Ok(policy.role_permissions(role)?.as_slice() == permissions)
+}
+
+/// Whether these are the permissions of the user.
+fn lists_user_permissions(
+    policy: &Policy,
+    user: u32,
+    permissions: &[(u16, u32)],
+) -> Result<bool, AllocError> {
+    Ok(policy.user_permissions(user)?.as_slice() == permissions)
+}
+
+/// Whether these are the operations of the role on the object.
+fn lists_role_operations(
+    policy: &Policy,
+    role: u16,
+    object: u32,
+    operations: &[u16],
+) -> Result<bool, AllocError> {
+    Ok(policy.role_operations(role, object)?.as_slice() == operations)
+}
+
+/// Whether these are the operations of the user on the object.
+fn lists_user_operations(
+    policy: &Policy,
+    user: u32,
+    object: u32,
+    operations: &[u16],
+) -> Result<bool, AllocError> {
+    Ok(policy.user_operations(user, object)?.as_slice() == operations)
+}
+
 #[test]
 fn commands_of_the_owner(rt: HostRuntime) -> Result<(), Fail> {
     let policy = example(rt.alloc())?;
-    assert_eq!(rt; policy.assigned_users(2)?.as_slice(), [7].as_slice());
-    assert_eq!(rt; policy.assigned_roles(7)?.as_slice(), [2].as_slice());
-    assert!(rt; policy.assigned_users(4)?.is_empty());
+    assert!(rt; lists_users(&policy, 2, &[7])?);
+    assert!(rt; lists_roles(&policy, 7, &[2])?);
+    assert!(rt; lists_users(&policy, 4, &[])?);
     Ok(())
 }
 
 #[test]
 fn permissions_of_the_owner(rt: HostRuntime) -> Result<(), Fail> {
     let policy = example(rt.alloc())?;
-    assert_eq!(rt; policy.role_permissions(2)?.as_slice(), [(5, 9)].as_slice());
-    assert_eq!(rt; policy.user_permissions(7)?.as_slice(), [(5, 9)].as_slice());
-    assert_eq!(rt; policy.role_operations(2, 9)?.as_slice(), [5].as_slice());
-    assert_eq!(rt; policy.user_operations(7, 9)?.as_slice(), [5].as_slice());
+    assert!(rt; lists_role_permissions(&policy, 2, &[(5, 9)])?);
+    assert!(rt; lists_user_permissions(&policy, 7, &[(5, 9)])?);
+    assert!(rt; lists_role_operations(&policy, 2, 9, &[5])?);
+    assert!(rt; lists_user_operations(&policy, 7, 9, &[5])?);
     Ok(())
 }
 
@@ -100,12 +148,9 @@ fn pairs_taken_away(rt: HostRuntime) -> Result<(), Fail> {
             ),
         ],
     )?;
-    assert_eq!(rt; policy.assigned_users(2)?.as_slice(), [8].as_slice());
-    assert!(rt; policy.assigned_roles(7)?.is_empty());
-    assert_eq!(rt;
-        policy.role_permissions(2)?.as_slice(),
-        [(5, 10)].as_slice()
-    );
+    assert!(rt; lists_users(&policy, 2, &[8])?);
+    assert!(rt; lists_roles(&policy, 7, &[])?);
+    assert!(rt; lists_role_permissions(&policy, 2, &[(5, 10)])?);
     Ok(())
 }
 
@@ -123,16 +168,10 @@ fn listings_in_order(rt: HostRuntime) -> Result<(), Fail> {
             (0, grant(2, 5, 8)),
         ],
     )?;
-    assert_eq!(rt;
-        policy.assigned_users(3)?.as_slice(),
-        [7, 70_000].as_slice()
-    );
-    assert_eq!(rt; policy.assigned_roles(7)?.as_slice(), [2, 3].as_slice());
-    assert_eq!(rt;
-        policy.user_permissions(7)?.as_slice(),
-        [(5, 8), (5, 9), (6, 1)].as_slice()
-    );
-    assert_eq!(rt; policy.user_operations(7, 9)?.as_slice(), [5].as_slice());
+    assert!(rt; lists_users(&policy, 3, &[7, 70_000])?);
+    assert!(rt; lists_roles(&policy, 7, &[2, 3])?);
+    assert!(rt; lists_user_permissions(&policy, 7, &[(5, 8), (5, 9), (6, 1)])?);
+    assert!(rt; lists_user_operations(&policy, 7, 9, &[5])?);
     Ok(())
 }
 
