@@ -22,12 +22,12 @@ use Rattle.role_sessions.specs.Refusals.{open_due, activate_due, drop_due, close
 use Rattle.role_sessions.specs.declared.event.ClientEvent.{ClientEvent}
 use Rattle.role_sessions.specs.declared.event.ClientEvent.TheVariants.{Open, Activate, DropRole, Close}
 use Rattle.role_node.specs.Configs.{ConfigValue}
+use Rattle.role_node.specs.Entries.{EntryValue}
 use Rattle.role_node.specs.Faults.{of_stream_fault, of_session_fault}
 use Rattle.role_node.specs.Histories.{issued, packets}
 use Rattle.role_node.specs.Access.{reach_at, relations_at, sessions_at}
 use Rattle.role_node.specs.declared.event.Event.{Event}
 use Rattle.role_node.specs.declared.event.Event.TheVariants.{Issue, Take, Client}
-use Rattle.role_node.specs.declared.event.Entry.{Entry}
 use Rattle.role_node.specs.declared.event.Reply.{Reply}
 use Rattle.role_node.specs.declared.event.Reply.TheVariants as reply
 use Rattle.role_node.specs.declared.faults.NodeFault.{NodeFault}
@@ -144,7 +144,7 @@ IsAnswer due (Err (fault.End f)) = due ≡ Err (fault.End f)
 IsAnswer due (Err fault.Memory) = IsTrue (is_recorded due)
 
 -- each reply is the one that was due at its place
-abbrev pub AreReplies : ConfigValue → ℕ → List Event → List Entry → Type 0
+abbrev pub AreReplies : ConfigValue → ℕ → List Event → List EntryValue → Type 0
 AreReplies config me history entries =
-    (k : ℕ) (entry : Entry) → slice_get entries k ≡ Some entry
+    (k : ℕ) (entry : EntryValue) → slice_get entries k ≡ Some entry
     → answer_due config me (take k history) entry.event ≡ Ok entry.reply

@@ -1,5 +1,6 @@
 pub mod Configs
 pub mod Faults
+pub mod Entries
 pub mod Histories
 pub mod Access
 pub mod Answers
