@@ -23,9 +23,8 @@ use Rattle.role_sessions.specs.Kept.{SessionsValue, KeptAreRight, KeepsRight}
 use Rattle.role_sessions.specs.declared.event.ClientEvent.{ClientEvent}
 use Rattle.role_node.specs.Histories.{packets, client_events}
 use Rattle.role_node.specs.Faults.{of_stream_fault}
-use Rattle.role_node.specs.Answers.{of_effect_due}
+use Rattle.role_node.specs.Answers.{EntryValue, of_effect_due}
 use Rattle.role_node.specs.Kept.{ArePartsOf, IsStateAfter, Stays, obeyed}
-use Rattle.role_node.specs.Entries.{EntryValue}
 use Rattle.role_node.specs.declared.event.Event.{Event}
 use Rattle.role_node.specs.declared.event.Event.TheVariants.{Issue, Take, Client}
 use Rattle.role_node.specs.declared.faults.NodeFault.{NodeFault}

@@ -11,11 +11,10 @@ use Rattle.role_sessions.specs.Sessions.{state_of}
 use Rattle.role_sessions.proofs.Exported.{state_counts_the_opened}
 use Rattle.role_node.specs.Configs.{most_events}
 use Rattle.role_node.specs.Histories.{issued, client_events}
-use Rattle.role_node.specs.Answers.{outlook, outlook_with_room, or_counted, is_routed, reply_to}
+use Rattle.role_node.specs.Answers.{EntryValue, outlook, outlook_with_room, or_counted, is_routed, reply_to}
 use Rattle.role_node.specs.Inside.{IsNode, node_value}
 use Rattle.role_node.specs.Nodes.{NodeValue}
 use Rattle.role_node.specs.Kept.{IsStateAfter, Stays, Follows, IsEntryFor, IsInRange, events}
-use Rattle.role_node.specs.Entries.{EntryValue}
 use Rattle.role_node.specs.declared.event.Event.{Event}
 use Rattle.role_node.specs.declared.event.Event.TheVariants.{Issue, Take, Client}
 use Rattle.role_node.specs.declared.event.Reply.{Reply}

@@ -22,7 +22,6 @@ use Rattle.role_sessions.specs.Refusals.{open_due, activate_due, drop_due, close
 use Rattle.role_sessions.specs.declared.event.ClientEvent.{ClientEvent}
 use Rattle.role_sessions.specs.declared.event.ClientEvent.TheVariants.{Open, Activate, DropRole, Close}
 use Rattle.role_node.specs.Configs.{ConfigValue}
-use Rattle.role_node.specs.Entries.{EntryValue}
 use Rattle.role_node.specs.Faults.{of_stream_fault, of_session_fault}
 use Rattle.role_node.specs.Histories.{issued, packets}
 use Rattle.role_node.specs.Access.{reach_at, relations_at, sessions_at}
@@ -142,6 +141,11 @@ IsAnswer due (Err (fault.Beyond place end)) = due ≡ Err (fault.Beyond place en
 IsAnswer due (Err (fault.Session f)) = due ≡ Err (fault.Session f)
 IsAnswer due (Err (fault.End f)) = due ≡ Err (fault.End f)
 IsAnswer due (Err fault.Memory) = IsTrue (is_recorded due)
+
+-- an event that a node recorded, and its reply
+pub record EntryValue : Type 0 where
+  pub event : Event
+  pub reply : Reply
 
 -- each reply is the one that was due at its place
 abbrev pub AreReplies : ConfigValue → ℕ → List Event → List EntryValue → Type 0

@@ -1,4 +1,4 @@
--- An entry of a node's history: an event with its reply, and what is kept of the two.
+-- What is kept of an entry of a node's history. Serves the code, and no public contract.
 use Rattle.std.specs.Prelude.{◌≡◌, ◌+◌, ◌-◌, ◌^◌, ◌<◌, Bool, true, false, if◌then◌else◌}
 use Rattle.std.specs.Prelude.{Option, Some, None, option_map, is_some, IfSome, ⊤, refl}
 use Rattle.std.specs.Coded.{Coded, code_by, coded×}
@@ -9,6 +9,7 @@ use Rattle.link_frames.specs.declared.kind.Kind.{Kind}
 use Rattle.link_frames.specs.declared.packet.Message.{Message}
 use Rattle.owner_streams.specs.declared.steps.StreamStep.{StreamStep}
 use Rattle.role_sessions.specs.declared.event.ClientEvent.TheVariants.{Open, Activate, DropRole, Close}
+use Rattle.role_node.specs.Answers.{EntryValue}
 use Rattle.role_node.specs.contracts.event.Event as event_contract
 use Rattle.role_node.specs.contracts.event.Reply as reply_contract
 use Rattle.role_node.specs.declared.event.Event.{Event}
@@ -18,12 +19,7 @@ use Rattle.role_node.specs.declared.event.Reply.TheVariants as reply
 use Rattle.role_node.specs.declared.entry.Kept.{Kept}
 use Rattle.role_node.specs.declared.entry.Kept.TheVariants as kept
 
--- an event that a node recorded, and its reply
-pub record EntryValue : Type 0 where
-  pub event : Event
-  pub reply : Reply
-
--- it is stored as its parts
+-- an entry is stored as its parts
 abbrev pub entry_code : Coded EntryValue
 entry_code =
     code_by (Event × Reply) (coded× event_contract.the_row.coded reply_contract.the_row.coded)

@@ -15,8 +15,7 @@ use Rattle.role_sessions.specs.Kept.{KeptAreRight}
 use Rattle.role_sessions.specs.declared.event.ClientEvent.{ClientEvent}
 use Rattle.role_node.specs.Configs.{ConfigValue, most_events}
 use Rattle.role_node.specs.Histories.{issued, packets, client_events}
-use Rattle.role_node.specs.Entries.{EntryValue}
-use Rattle.role_node.specs.Answers.{outlook_with_room, reply_to, answer_due, is_recorded}
+use Rattle.role_node.specs.Answers.{EntryValue, outlook_with_room, reply_to, answer_due, is_recorded}
 use Rattle.role_node.specs.declared.event.Event.{Event}
 use Rattle.role_node.specs.declared.event.Event.TheVariants.{Issue, Take, Client}
 use Rattle.role_node.specs.declared.faults.NodeFault.{NodeFault}

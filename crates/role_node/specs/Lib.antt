@@ -1,9 +1,9 @@
 pub mod Configs
 pub mod Faults
-pub mod Entries
 pub mod Histories
 pub mod Access
 pub mod Answers
+pub mod Entries
 pub mod Nodes
 pub mod Kept
 pub mod Questions

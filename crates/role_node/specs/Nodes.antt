@@ -2,8 +2,7 @@
 use Rattle.std.specs.Prelude.{ℕ, List, [], ◌∷◌, ◌++◌, refl}
 use Rattle.std.specs.Coded.{Coded, code_by, coded×, coded_list, coded_ℕ}
 use Rattle.role_node.specs.Configs.{ConfigValue, config_code}
-use Rattle.role_node.specs.Entries.{EntryValue}
-use Rattle.role_node.specs.Answers.{answer_due, IsLegal, AreReplies}
+use Rattle.role_node.specs.Answers.{EntryValue, answer_due, IsLegal, AreReplies}
 use Rattle.role_node.specs.contracts.event.Event as contract
 use Rattle.role_node.specs.declared.event.Event.{Event}
 use Rattle.role_node.specs.declared.event.Reply.{Reply}

@@ -45,7 +45,8 @@ pub struct Entry {
 const _: () = prove!(size_of::<Entry>() == 32);
 
 impl Model for Entry {
-    ghost use Rattle.role_node.specs.Entries.{EntryValue, entry_code, kept_value, IsKept, kept_of, kept_of-value};
+    ghost use Rattle.role_node.specs.Answers.{EntryValue};
+    ghost use Rattle.role_node.specs.Entries.{entry_code, kept_value, IsKept, kept_of, kept_of-value};
 
     ghost Value = { EntryValue };
 

@@ -2,8 +2,8 @@ use Rattle.std.proofs.Common.{◌≡◌, [], ◌∷◌, ◌++◌, Ok, refl, sym,
 use Rattle.owner_streams.specs.Steps.{step_of, step_due}
 use Rattle.owner_streams.specs.declared.steps.StreamStep.{StreamStep}
 use Rattle.role_sessions.specs.Decisions.{relations_of}
-use Rattle.role_node.specs.Answers.{counted_reply}
-use Rattle.role_node.specs.Entries.{EntryValue, IsOwn}
+use Rattle.role_node.specs.Answers.{EntryValue, counted_reply}
+use Rattle.role_node.specs.Entries.{IsOwn}
 use Rattle.role_node.specs.Histories.{packets}
 use Rattle.role_node.specs.declared.event.Event.TheVariants.{Take}
 use Rattle.role_node.proofs.After.{after_take, stays_on_err, step_is_due, policy_grown, policy_stays, kept_with_room}
