@@ -23,9 +23,8 @@ use Rattle.role_sessions.specs.Kept.{SessionsValue, KeptAreRight, KeepsRight}
 use Rattle.role_sessions.specs.declared.event.ClientEvent.{ClientEvent}
 use Rattle.role_node.specs.Histories.{packets, client_events}
 use Rattle.role_node.specs.Faults.{of_stream_fault}
-use Rattle.role_node.specs.Answers.{of_effect_due}
+use Rattle.role_node.specs.Answers.{EntryValue, of_effect_due}
 use Rattle.role_node.specs.Kept.{ArePartsOf, IsStateAfter, Stays, obeyed}
-use Rattle.role_node.specs.declared.event.Reply.{Reply}
 use Rattle.role_node.specs.declared.event.Event.{Event}
 use Rattle.role_node.specs.declared.event.Event.TheVariants.{Issue, Take, Client}
 use Rattle.role_node.specs.declared.faults.NodeFault.{NodeFault}
@@ -201,7 +200,7 @@ blank_policy roles streams p nothing blank =
     (blank_is_of_no_commands roles p blank)
 
 -- a refusal keeps the state, with what room was made
-pub stays_on_err : (r : Result Reply NodeFault) {old new : State} → new.issued ≡ old.issued
+pub stays_on_err : (r : Result EntryValue NodeFault) {old new : State} → new.issued ≡ old.issued
     → new.streams ≡ old.streams →
     SameRelations old.policy new.policy → new.sessions ≡ old.sessions → OnErr r (Stays old new)
 stays_on_err (Ok reply) i s same t = tt

@@ -9,9 +9,8 @@ use Rattle.bracha_instance.specs.declared.instance.Effect.{Effect}
 use Rattle.bracha_instance.specs.declared.instance.Effect.TheVariants as effect
 use Rattle.role_sessions.specs.declared.event.ClientEvent.TheVariants.{Open, Activate, DropRole, Close}
 use Rattle.role_node.specs.Configs.{ConfigValue}
-use Rattle.role_node.specs.Answers.{outlook, outlook_with_room, unless_full, reply_to, answered, answer_due, is_recorded, IsLegal, AreReplies}
+use Rattle.role_node.specs.Answers.{EntryValue, outlook, outlook_with_room, unless_full, reply_to, answered, answer_due, is_recorded, IsLegal, AreReplies}
 use Rattle.role_node.specs.Kept.{event_of, events, AreEntries}
-use Rattle.role_node.specs.declared.event.Entry.{Entry}
 use Rattle.role_node.specs.declared.event.Event.{Event}
 use Rattle.role_node.specs.declared.event.Event.TheVariants.{Issue, Take, Client}
 use Rattle.role_node.specs.declared.event.Reply.{Reply}
@@ -29,21 +28,21 @@ at_push (z ∷ xs) x (suc k) y e =
     (λ (h : (k ≡ length xs) × (x ≡ y)). inr (ap suc h.0, h.1))
     (at_push xs x k y e)
 
-pub events-push : (entries : List Entry) (entry : Entry)
+pub events-push : (entries : List EntryValue) (entry : EntryValue)
     → events (entries ++ entry ∷ []) ≡ events entries ++ entry.event ∷ []
 events-push [] entry = refl
 events-push (e ∷ entries) entry = ap (λ es. e.event ∷ es) (events-push entries entry)
 
-pub events-length : (entries : List Entry) → length (events entries) ≡ length entries
+pub events-length : (entries : List EntryValue) → length (events entries) ≡ length entries
 events-length [] = refl
 events-length (e ∷ entries) = ap suc (events-length entries)
 
-was_due : ConfigValue → ℕ → List Event → Entry → Type 0
+was_due : ConfigValue → ℕ → List Event → EntryValue → Type 0
 was_due config me past entry =
     (answer_due config me past entry.event ≡ Ok entry.reply) × IsTrue (is_recorded (Ok entry.reply))
 
 -- one more entry whose reply was due
-pub entries_push : (config : ConfigValue) (me : ℕ) (entries : List Entry) (entry : Entry)
+pub entries_push : (config : ConfigValue) (me : ℕ) (entries : List EntryValue) (entry : EntryValue)
     → AreEntries config me entries →
     answer_due config me (events entries) entry.event ≡ Ok entry.reply → IsTrue (is_recorded (Ok entry.reply)) →
     AreEntries config me (entries ++ entry ∷ [])
@@ -61,7 +60,7 @@ entries_push config me entries entry are due recorded k e at =
     let past : take k (events (entries ++ entry ∷ [])) ≡ events entries =
     ap (take k) (events-push entries entry) ∙ ap (λ n. take n (events entries ++ entry.event ∷ [])) end
     ∙ take-append_seam (events entries) (entry.event ∷ []) in
-    let Q : Entry → Type 0 = λ x. (answer_due config me (events entries) x.event ≡ Ok x.reply)
+    let Q : EntryValue → Type 0 = λ x. (answer_due config me (events entries) x.event ≡ Ok x.reply)
     × IsTrue (is_recorded (Ok x.reply)) in
     subst P (sym past) (subst Q h.1 (due, recorded)))
     (at_push entries entry k e at)
@@ -69,13 +68,13 @@ entries_push config me entries entry are due recorded k e at =
 pub no_entries : (config : ConfigValue) (me : ℕ) → AreEntries config me []
 no_entries config me k e at = absurd cc
 
-mapped : (o : Option Entry) (event : Event) → option_map event_of o ≡ Some event
-    → (entry : Entry) × (o ≡ Some entry) × (entry.event ≡ event)
+mapped : (o : Option EntryValue) (event : Event) → option_map event_of o ≡ Some event
+    → (entry : EntryValue) × (o ≡ Some entry) × (entry.event ≡ event)
 mapped None event e = absurd cc
 mapped (Some entry) event e = (entry, refl, cc)
 
 -- the events of such entries are a legal history
-pub legal : (config : ConfigValue) (me : ℕ) (entries : List Entry) → AreEntries config me entries
+pub legal : (config : ConfigValue) (me : ℕ) (entries : List EntryValue) → AreEntries config me entries
     → IsLegal config me (events entries)
 legal config me entries are k event at =
     let m = mapped (slice_get entries k) event (sym (slice_get-map event_of entries k) ∙ at) in
@@ -84,7 +83,7 @@ legal config me entries are k event at =
     let P : Event → Type 0 = λ x. IsTrue (is_recorded (answer_due config me (take k (events entries)) x)) in
     subst P m.2 recorded
 
-pub replies : (config : ConfigValue) (me : ℕ) (entries : List Entry) → AreEntries config me entries
+pub replies : (config : ConfigValue) (me : ℕ) (entries : List EntryValue) → AreEntries config me entries
     → AreReplies config me (events entries) entries
 replies config me entries are k entry at = (are k entry at).0
 

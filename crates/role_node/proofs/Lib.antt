@@ -1,6 +1,7 @@
 pub mod Parts
 pub mod Growing
 pub mod After
+pub mod Owning
 pub mod Entries
 pub mod Relations
 pub mod Refused

@@ -1,5 +1,6 @@
 -- What a node's fields keep when an event is recorded, and when none is.
-use Rattle.std.proofs.Common.{◌≡◌, ℕ, ◌<◌, ◌≤◌, Bool, true, false, ◌&&◌, ◌==◌, List, [], ◌∷◌, ◌++◌, length, Some, None, Result, Ok, Err, refl, sym, ap, subst, arith, length-append}
+use Rattle.std.proofs.Common.{◌≡◌, ℕ, ◌<◌, ◌≤◌, Bool, true, false, ◌&&◌, ◌==◌, List, [], ◌∷◌, ◌++◌, length}
+use Rattle.std.proofs.Common.{Some, None, Result, Ok, Err, refl, sym, ap, ◌∙◌, subst, arith, length-append}
 use Rattle.std.specs.Prelude.{if◌then◌else◌, nat_le, nat_lt}
 use Rattle.std.proofs.lemmas.Bool.Decides.{nat_tests}
 use Rattle.role_commands.specs.Tables.{Table}
@@ -10,11 +11,10 @@ use Rattle.role_sessions.specs.Sessions.{state_of}
 use Rattle.role_sessions.proofs.Exported.{state_counts_the_opened}
 use Rattle.role_node.specs.Configs.{most_events}
 use Rattle.role_node.specs.Histories.{issued, client_events}
-use Rattle.role_node.specs.Answers.{outlook, outlook_with_room, or_counted, is_routed, reply_to}
+use Rattle.role_node.specs.Answers.{EntryValue, outlook, outlook_with_room, or_counted, is_routed, reply_to}
 use Rattle.role_node.specs.Inside.{IsNode, node_value}
 use Rattle.role_node.specs.Nodes.{NodeValue}
-use Rattle.role_node.specs.Kept.{IsStateAfter, Stays, Follows, RepliesTo, IsInRange, events}
-use Rattle.role_node.specs.declared.event.Entry.{Entry}
+use Rattle.role_node.specs.Kept.{IsStateAfter, Stays, Follows, IsEntryFor, IsInRange, events}
 use Rattle.role_node.specs.declared.event.Event.{Event}
 use Rattle.role_node.specs.declared.event.Event.TheVariants.{Issue, Take, Client}
 use Rattle.role_node.specs.declared.event.Reply.{Reply}
@@ -38,13 +38,15 @@ inside_stays {a = a} is ec em ee stays =
     }
 
 -- an event that counts is recorded
-pub inside_grows : {a b : Inside} (event : Event) (r : Reply) → IsNode a → b.config ≡ a.config → b.me ≡ a.me →
-    b.entries.items ≡ a.entries.items ++ record { event = event; reply = r } ∷ [] → Follows event a.state b.state →
-    outlook a.config a.me (events a.entries.items) event ≡ Ok effect.Counted → RepliesTo a.me event a.state r → IsNode b
-inside_grows {a = a} event r is ec em ee follows counts replies =
+pub inside_grows : {a b : Inside} {entry : EntryValue} (event : Event) → IsNode a → b.config ≡ a.config → b.me ≡ a.me →
+    b.entries.items ≡ a.entries.items ++ entry ∷ [] → Follows event a.state b.state →
+    outlook a.config a.me (events a.entries.items) event ≡ Ok effect.Counted → IsEntryFor a.me event a.state entry →
+    IsNode b
+inside_grows {a = a} event is ec em pushed follows counts is_entry =
     let history : List Event = events a.entries.items in
-    let entry : Entry = record { event = event; reply = r } in
-    let replied : r ≡ reply_to a.config.roles a.me history event = replies a.config.roles history is.state in
+    let r : Reply = reply_to a.config.roles a.me history event in
+    let entry : EntryValue = record { event = event; reply = r } in
+    let ee = pushed ∙ ap (λ e. a.entries.items ++ e ∷ []) (is_entry a.config.roles history is.state) in
     let room = counted_with_room a.config a.me history event counts in
     let full : nat_le a.config.limit (length history) ≡ false = room.0 in
     let shorter : length (events a.entries.items) < a.config.limit = grind (arith, nat_tests) in
@@ -56,8 +58,8 @@ inside_grows {a = a} event r is ec em ee follows counts replies =
       within = rw (ec, ee) within;
       entries = rw (ec, em, ee)
           (entries_push a.config a.me a.entries.items entry is.entries
-          (counted_is_due a.config a.me history event r counts replied)
-          (counted_is_recorded a.config.roles a.me history event r replied));
+          (counted_is_due a.config a.me history event r counts refl)
+          (counted_is_recorded a.config.roles a.me history event r refl));
       state = rw (ec, ee, events-push a.entries.items entry) (follows a.config.roles history is.state);
     }
 

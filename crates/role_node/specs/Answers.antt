@@ -27,7 +27,6 @@ use Rattle.role_node.specs.Histories.{issued, packets}
 use Rattle.role_node.specs.Access.{reach_at, relations_at, sessions_at}
 use Rattle.role_node.specs.declared.event.Event.{Event}
 use Rattle.role_node.specs.declared.event.Event.TheVariants.{Issue, Take, Client}
-use Rattle.role_node.specs.declared.event.Entry.{Entry}
 use Rattle.role_node.specs.declared.event.Reply.{Reply}
 use Rattle.role_node.specs.declared.event.Reply.TheVariants as reply
 use Rattle.role_node.specs.declared.faults.NodeFault.{NodeFault}
@@ -143,8 +142,13 @@ IsAnswer due (Err (fault.Session f)) = due ≡ Err (fault.Session f)
 IsAnswer due (Err (fault.End f)) = due ≡ Err (fault.End f)
 IsAnswer due (Err fault.Memory) = IsTrue (is_recorded due)
 
+-- an event that a node recorded, and its reply
+pub record EntryValue : Type 0 where
+  pub event : Event
+  pub reply : Reply
+
 -- each reply is the one that was due at its place
-abbrev pub AreReplies : ConfigValue → ℕ → List Event → List Entry → Type 0
+abbrev pub AreReplies : ConfigValue → ℕ → List Event → List EntryValue → Type 0
 AreReplies config me history entries =
-    (k : ℕ) (entry : Entry) → slice_get entries k ≡ Some entry
+    (k : ℕ) (entry : EntryValue) → slice_get entries k ≡ Some entry
     → answer_due config me (take k history) entry.event ≡ Ok entry.reply

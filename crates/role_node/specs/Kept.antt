@@ -15,11 +15,9 @@ use Rattle.role_sessions.specs.Kept.{KeptAreRight}
 use Rattle.role_sessions.specs.declared.event.ClientEvent.{ClientEvent}
 use Rattle.role_node.specs.Configs.{ConfigValue, most_events}
 use Rattle.role_node.specs.Histories.{issued, packets, client_events}
-use Rattle.role_node.specs.Answers.{outlook_with_room, reply_to, answer_due, is_recorded}
-use Rattle.role_node.specs.declared.event.Entry.{Entry}
+use Rattle.role_node.specs.Answers.{EntryValue, outlook_with_room, reply_to, answer_due, is_recorded}
 use Rattle.role_node.specs.declared.event.Event.{Event}
 use Rattle.role_node.specs.declared.event.Event.TheVariants.{Issue, Take, Client}
-use Rattle.role_node.specs.declared.event.Reply.{Reply}
 use Rattle.role_node.specs.declared.faults.NodeFault.{NodeFault}
 use Rattle.role_node.specs.declared.faults.NodeFault.TheVariants.{Memory}
 use Rattle.role_node.specs.declared.state.State.{State}
@@ -50,13 +48,17 @@ Follows event old new =
 abbrev pub Stays : State → State → Type 0
 Stays old new = (roles : Table) (history : List Event) → IsStateAfter roles history old → IsStateAfter roles history new
 
--- the reply is the one to the event that counts
-abbrev pub RepliesTo : ℕ → Event → State → Reply → Type 0
-RepliesTo me event old reply = (roles : Table) (history : List Event) → IsStateAfter roles history old
-    → reply ≡ reply_to roles me history event
+-- it is the state of some history
+abbrev pub IsReached : State → Type 0
+IsReached a = (roles : Table) × (history : List Event) × IsStateAfter roles history a
+
+-- the entry is of the event, which counts, and its reply
+abbrev pub IsEntryFor : ℕ → Event → State → EntryValue → Type 0
+IsEntryFor me event old entry = (roles : Table) (history : List Event) → IsStateAfter roles history old
+    → entry ≡ record { event = event; reply = reply_to roles me history event }
 
 -- where the event counts, only memory can be wanting
-abbrev pub FailsForMemory : ℕ → Event → State → Result Reply NodeFault → Type 0
+abbrev pub FailsForMemory : ℕ → Event → State → Result EntryValue NodeFault → Type 0
 FailsForMemory me event old result =
     (roles : Table) (history : List Event) → IsStateAfter roles history old →
     outlook_with_room roles me history event ≡ Ok effect.Counted → IfErr result (λ fault. fault ≡ Memory)
@@ -71,16 +73,16 @@ IsInRange a (Client act) = a.sessions.state.opened ≤ most_events
 abbrev pub obeyed : Counts → List PacketValue → ℕ → ℕ → ℕ → List Command
 obeyed s taken owner count node = if node == owner then take count (stream s owner taken) else stream s node taken
 
-abbrev pub event_of : Entry → Event
+abbrev pub event_of : EntryValue → Event
 event_of entry = entry.event
 
 -- the events of the entries
-abbrev pub events : List Entry → List Event
+abbrev pub events : List EntryValue → List Event
 events entries = map event_of entries
 
 -- each reply was due at its place, and its event recorded
-abbrev pub AreEntries : ConfigValue → ℕ → List Entry → Type 0
+abbrev pub AreEntries : ConfigValue → ℕ → List EntryValue → Type 0
 AreEntries config me entries =
-    (k : ℕ) (entry : Entry) → slice_get entries k ≡ Some entry →
+    (k : ℕ) (entry : EntryValue) → slice_get entries k ≡ Some entry →
     (answer_due config me (take k (events entries)) entry.event ≡ Ok entry.reply)
     × IsTrue (is_recorded (Ok entry.reply))

@@ -2,9 +2,8 @@
 use Rattle.std.specs.Prelude.{ℕ, List, [], ◌∷◌, ◌++◌, refl}
 use Rattle.std.specs.Coded.{Coded, code_by, coded×, coded_list, coded_ℕ}
 use Rattle.role_node.specs.Configs.{ConfigValue, config_code}
-use Rattle.role_node.specs.Answers.{answer_due, IsLegal, AreReplies}
+use Rattle.role_node.specs.Answers.{EntryValue, answer_due, IsLegal, AreReplies}
 use Rattle.role_node.specs.contracts.event.Event as contract
-use Rattle.role_node.specs.declared.event.Entry.{Entry}
 use Rattle.role_node.specs.declared.event.Event.{Event}
 use Rattle.role_node.specs.declared.event.Reply.{Reply}
 use Rattle.role_node.specs.declared.event.Reply.TheVariants as reply
@@ -49,5 +48,5 @@ after_reply node event reply.Done = with_event node event
 abbrev pub IsLegalNode : NodeValue → Type 0
 IsLegalNode node = IsLegal node.config node.me node.history
 
-abbrev pub AreRepliesOf : NodeValue → List Entry → Type 0
+abbrev pub AreRepliesOf : NodeValue → List EntryValue → Type 0
 AreRepliesOf node entries = AreReplies node.config node.me node.history entries

@@ -1,5 +1,3 @@
-ghost use Rattle.std.specs.Prelude.{◌≡◌};
-
 use link_frames::{Message, Packet};
 use role_commands::Command;
 use role_sessions::ClientEvent;
@@ -37,24 +35,6 @@ pub enum Reply {
     Session(u64),
     /// The client's act is done.
     Done,
-}
-
-/// An event that a node recorded, and its reply.
-#[derive(Clone, Copy, Debug, PartialEq, Eq, Hash)]
-pub struct Entry {
-    pub event: Event,
-    pub reply: Reply,
-}
-
-impl Entry {
-    pub(crate) fn new(event: &Event, reply: &Reply) -> Self
-        ensures { result ≡ record { event = event.now; reply = reply.now } }
-    {
-        Entry {
-            event: *event,
-            reply: *reply,
-        }
-    }
 }
 
 /// What a node has sent to all at a place of an owner's stream, and may send again.

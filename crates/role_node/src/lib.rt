@@ -6,6 +6,7 @@
 #![tactic(auto)]
 
 mod config;
+mod entry;
 mod event;
 mod faults;
 pub mod laws;
@@ -14,7 +15,8 @@ mod question;
 mod state;
 
 pub use config::{Config, MOST_EVENTS};
-pub use event::{Entry, Event, NodeAgain, Reply};
+pub use entry::Entry;
+pub use event::{Event, NodeAgain, Reply};
 pub use faults::{AskFault, NodeFault};
 pub use node::Node;
 pub use question::{Answer, Question};

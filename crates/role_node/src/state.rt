@@ -8,19 +8,21 @@ ghost use Rattle.role_sessions.specs.Decisions.{Relations, relations_of};
 ghost use Rattle.role_sessions.specs.Refusals.{AnswersExactly};
 ghost use Rattle.role_sessions.specs.Kept.{KeptAreRight};
 ghost use Rattle.role_node.specs.Access.{verdict_at, sent_at};
-ghost use Rattle.role_node.specs.Answers.{issue_fault, take_outlook, act_fault, or_counted, outlook_with_room, counted_reply};
+ghost use Rattle.role_node.specs.Answers.{issue_fault, take_outlook, act_fault, or_counted, outlook_with_room};
 ghost use Rattle.role_node.specs.Questions.{ask_due, IsAsked, IsAnswerUnder, of_listing_fault};
 ghost use Rattle.role_node.specs.Configs.{most_events};
-ghost use Rattle.role_node.specs.Kept.{obeyed, IsStateAfter, Follows, Stays, RepliesTo, FailsForMemory, IsInRange};
+ghost use Rattle.role_node.specs.Kept.{obeyed, IsStateAfter, Follows, Stays, IsReached};
+ghost use Rattle.role_node.specs.Kept.{IsEntryFor, FailsForMemory, IsInRange};
 ghost use Rattle.role_node.specs.declared.event.Event.{Event};
 ghost use Rattle.role_node.specs.declared.event.Event.TheVariants.{Issue, Take, Client};
 
-use crate::event::{Event, NodeAgain, Reply};
+use crate::entry::Entry;
+use crate::event::{Event, NodeAgain};
 use crate::faults::{AskFault, NodeFault};
 use crate::question::{Answer, Question};
 use bracha_instance::Effect;
 use link_frames::{Kind, Message, Packet, Place};
-use owner_streams::{PLACES, StreamStep, Streams, WINDOW};
+use owner_streams::{PLACES, Streams, WINDOW};
 use quorum_sizes::NodeName;
 use rbac_state::{Policy, push_within_capacity};
 use role_commands::{Command, Items, RoleTable};
@@ -117,11 +119,12 @@ impl State {
         Ok(Effect::Counted)
     }
 
-    /// Changes the state as an event that counts does, and gives its reply. All room is made before the first
+    /// Changes the state as an event that counts does, and gives its entry. All room is made before the first
     /// change that is seen.
-    pub(crate) fn answer(&mut self, me: NodeName, event: &Event) -> Result<Reply, NodeFault>
-        requires { IsInRange self.old event.now }
-        ensures reply { IfOk result (RepliesTo me event.now self.old) }
+    pub(crate) fn answer(&mut self, me: NodeName, event: &Event) -> Result<Entry, NodeFault>
+        requires range { IsInRange self.old event.now }
+        requires reached { IsReached self.old }
+        ensures entry { IfOk result (IsEntryFor me event.now self.old) }
         ensures ok { OnOk result (Follows event.now self.old self.new) }
         ensures err { OnErr result (Stays self.old self.new) }
         ensures memory { FailsForMemory me event.now self.old result }
@@ -133,9 +136,9 @@ impl State {
         }
     }
 
-    fn issue(&mut self, me: NodeName, command: Command) -> Result<Reply, NodeFault>
+    fn issue(&mut self, me: NodeName, command: Command) -> Result<Entry, NodeFault>
         requires { vec_len self.old.issued < place_count }
-        ensures reply { IfOk result (RepliesTo me (Issue command) self.old) }
+        ensures entry { IfOk result (IsEntryFor me (Issue command) self.old) }
         ensures ok { OnOk result (Follows (Issue command) self.old self.new) }
         ensures err { OnErr result (Stays self.old self.new) }
         ensures memory { FailsForMemory me (Issue command) self.old result }
@@ -143,7 +146,7 @@ impl State {
         self.issued.try_reserve(1)?;
         let place = self.issued.len() as Place;
         push_within_capacity(&mut self.issued, command);
-        Ok(Reply::Issued(Message {
+        Ok(Entry::issued(Message {
             kind: Kind::Send,
             owner: me,
             place,
@@ -151,10 +154,11 @@ impl State {
         }))
     }
 
-    fn take(&mut self, packet: &Packet) -> Result<Reply, NodeFault>
+    fn take(&mut self, packet: &Packet) -> Result<Entry, NodeFault>
         requires from { packet.now.from < self.old.streams.sizes.nodes }
         requires owner { packet.now.owner < self.old.streams.sizes.nodes }
-        ensures reply { IfOk result (λ reply. (me : ℕ) → RepliesTo me (Take packet.now) self.old reply) }
+        requires reached { IsReached self.old }
+        ensures entry { IfOk result (λ entry. (me : ℕ) → IsEntryFor me (Take packet.now) self.old entry) }
         ensures ok { OnOk result (Follows (Take packet.now) self.old self.new) }
         ensures err { OnErr result (Stays self.old self.new) }
         ensures memory { (me : ℕ) → FailsForMemory me (Take packet.now) self.old result }
@@ -172,25 +176,25 @@ impl State {
             );
             forget_answers(&mut self.sessions);
         }
-        Ok(counted_reply(packet, step))
+        Ok(Entry::taken(packet, &step))
     }
 
-    fn act(&mut self, act: ClientEvent) -> Result<Reply, NodeFault>
+    fn act(&mut self, act: ClientEvent) -> Result<Entry, NodeFault>
         requires { self.old.sessions.state.opened ≤ most_events }
-        ensures reply { IfOk result (λ reply. (me : ℕ) → RepliesTo me (Client act) self.old reply) }
+        ensures entry { IfOk result (λ entry. (me : ℕ) → IsEntryFor me (Client act) self.old entry) }
         ensures ok { OnOk result (Follows (Client act) self.old self.new) }
         ensures err { OnErr result (Stays self.old self.new) }
         ensures memory { (me : ℕ) → FailsForMemory me (Client act) self.old result }
     {
         match act {
-            ClientEvent::Open { user } => Ok(Reply::Session(self.sessions.open(user)?)),
+            ClientEvent::Open { user } => Ok(Entry::opened(user, self.sessions.open(user)?)),
             ClientEvent::Activate {
                 session,
                 user,
                 role,
             } => {
                 self.sessions.activate(&self.policy, session, user, role)?;
-                Ok(Reply::Done)
+                Ok(Entry::acted(act))
             }
             ClientEvent::DropRole {
                 session,
@@ -198,11 +202,11 @@ impl State {
                 role,
             } => {
                 self.sessions.drop_role(session, user, role)?;
-                Ok(Reply::Done)
+                Ok(Entry::acted(act))
             }
             ClientEvent::Close { session, user } => {
                 self.sessions.close(session, user)?;
-                Ok(Reply::Done)
+                Ok(Entry::acted(act))
             }
         }
     }
@@ -295,27 +299,6 @@ fn listing_fault(fault: SessionFault) -> AskFault
     match fault {
         SessionFault::NoSession => AskFault::NoSession,
         _ => AskFault::Memory,
-    }
-}
-
-/// The reply to a packet that counts.
-fn counted_reply(packet: &Packet, step: StreamStep) -> Reply
-    ensures { result ≡ counted_reply packet.now step }
-{
-    let send = match step.broadcast {
-        Some((kind, command)) => Some(Message {
-            kind,
-            owner: packet.owner(),
-            place: packet.place(),
-            command,
-        }),
-        None => None,
-    };
-    Reply::Counted {
-        send,
-        delivered: step.delivered,
-        from: step.from,
-        to: step.to,
     }
 }
 

@@ -1,6 +1,7 @@
 ghost use Rattle.std.specs.Prelude.{◌<◌, IfOk};
 
 use super::*;
+use bracha_instance::Effect;
 use link_frames::{Kind, Message, Packet, Place};
 use quorum_sizes::{NodeName, Sizes};
 use role_commands::{Command, RoleTable};
@@ -370,6 +371,22 @@ fn denials_in_order(rt: HostRuntime) -> Result<(), Fail> {
 }
 
 static MANY_ROLES: [Step; 2] = [Step::Client(OPEN, Due::Opens(1)), Step::ManyRoles];
+
+#[test]
+fn a_history_recorded_again(rt: HostRuntime) -> Result<(), Fail> {
+    let mut bench = Bench::new(rt.alloc(), config(rt.alloc(), 1, 0, 4, 100)?, 0)?;
+    bench.run(&rt, &DENIALS)?;
+    let mut again = Bench::new(rt.alloc(), config(rt.alloc(), 1, 0, 4, 100)?, 0)?.node;
+    for entry in bench.node.history() {
+        let event = entry.event();
+        let Effect::Counted = again.look(&event)? else {
+            return Err("idle".into());
+        };
+        let reply = again.record(&event)?;
+        assert!(rt; reply == entry.reply());
+    }
+    Ok(())
+}
 
 #[test]
 fn too_many_active_roles(rt: HostRuntime) -> Result<(), Fail> {

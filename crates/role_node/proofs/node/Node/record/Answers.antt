@@ -12,28 +12,33 @@ pub returns-in_err-try_reserve-clause-legal : goal.returns-in_err-try_reserve-cl
 returns-in_err-try_reserve-clause-legal c =
     legal c.self.inside.config c.self.inside.me c.try_reserve.new.self.items (invariant_of-self c).entries
 
-pub answer-requires : goal.answer-requires
-answer-requires c =
-    let counts = counts_inside c.self.inside c.args.self.now c.args.event c.self.view_is c.requires in
+pub answer-requires-clause-range : goal.answer-requires-clause-range
+answer-requires-clause-range c =
+    let counts = counts_inside c.self.inside c.args.self.now c.args.event.now c.self.view_is c.requires in
     let a = c.self.inside in
-    in_range a.config.roles a.me (events a.entries.items) a.state c.args.event c.self.invariant.state
-    (counted_with_room a.config a.me (events a.entries.items) c.args.event counts).1 (events_are_few a c.self.invariant)
+    in_range a.config.roles a.me (events a.entries.items) a.state c.args.event.now c.self.invariant.state
+    (counted_with_room a.config a.me (events a.entries.items) c.args.event.now counts).1
+    (events_are_few a c.self.invariant)
 
-pub invariant_of-self-in_err-reply : goal.invariant_of-self-in_err-reply
-invariant_of-self-in_err-reply c =
-    inside_stays c.self.invariant refl refl c.try_reserve.ensures.items c.in_err-reply.ensures.err
+pub answer-requires-clause-reached : goal.answer-requires-clause-reached
+answer-requires-clause-reached c =
+    (c.self.inside.config.roles, events c.self.inside.entries.items, c.self.invariant.state)
 
-pub returns-in_err-reply-clause-legal : goal.returns-in_err-reply-clause-legal
-returns-in_err-reply-clause-legal c =
-    legal c.self.inside.config c.self.inside.me c.try_reserve.new.self.items (invariant_of-self-in_err-reply c).entries
+pub invariant_of-self-in_err-entry : goal.invariant_of-self-in_err-entry
+invariant_of-self-in_err-entry c =
+    inside_stays c.self.invariant refl refl c.try_reserve.ensures.items c.in_err-entry.ensures.err
+
+pub returns-in_err-entry-clause-legal : goal.returns-in_err-entry-clause-legal
+returns-in_err-entry-clause-legal c =
+    legal c.self.inside.config c.self.inside.me c.try_reserve.new.self.items (invariant_of-self-in_err-entry c).entries
 
 pub invariant_of-self-2 : goal.invariant_of-self-2
 invariant_of-self-2 c =
-    let counts = counts_inside c.self.inside c.args.self.now c.args.event c.self.view_is c.requires in
+    let counts = counts_inside c.self.inside c.args.self.now c.args.event.now c.self.view_is c.requires in
     let pushed = c.push_within_capacity.ensures.items
-    ∙ (λ i. c.try_reserve.ensures.items i ++ c.new.ensures i ∷ []) in
-    inside_grows c.args.event c.in_ok-reply.reply c.self.invariant refl refl pushed
-    c.in_ok-reply.ensures.ok counts c.in_ok-reply.ensures.reply
+    ∙ (λ i. c.try_reserve.ensures.items i ++ c.in_ok-entry.entry ∷ []) in
+    inside_grows c.args.event.now c.self.invariant refl refl pushed
+    c.in_ok-entry.ensures.ok counts c.in_ok-entry.ensures.entry
 
 pub returns-clause-legal : goal.returns-clause-legal
 returns-clause-legal c =

@@ -1,9 +1,13 @@
-use Rattle.std.proofs.Common.{◌≡◌, [], ◌∷◌, ◌++◌, Ok, refl, sym, ap, ◌∙◌, arith}
+use Rattle.std.proofs.Common.{◌≡◌, [], ◌∷◌, ◌++◌, Ok, refl, sym, ap, ◌∙◌, subst, arith}
 use Rattle.owner_streams.specs.Steps.{step_of, step_due}
+use Rattle.owner_streams.specs.declared.steps.StreamStep.{StreamStep}
 use Rattle.role_sessions.specs.Decisions.{relations_of}
-use Rattle.role_node.specs.Answers.{counted_reply}
+use Rattle.role_node.specs.Answers.{EntryValue, counted_reply}
+use Rattle.role_node.specs.Entries.{IsOwn}
 use Rattle.role_node.specs.Histories.{packets}
+use Rattle.role_node.specs.declared.event.Event.TheVariants.{Take}
 use Rattle.role_node.proofs.After.{after_take, stays_on_err, step_is_due, policy_grown, policy_stays, kept_with_room}
+use Rattle.role_node.proofs.Owning.{step_is_own}
 use Rattle.role_node.proofs.state.State.take.Goals as goal
 use Rattle.role_node.proofs.state.State.take.Goals.{then-step, else-step}
 
@@ -16,13 +20,24 @@ returns-in_err-step-clause-err c =
     stays_on_err c.from_residual-in_err-step.result refl c.in_err-step.ensures.err
     c.make_room.ensures.same refl
 
-pub returns-clause-reply : goal.returns-clause-reply
-returns-clause-reply c me roles history h =
+pub taken-requires-clause-own : goal.taken-requires-clause-own
+taken-requires-clause-own c =
+    let roles = c.requires.reached.0 in
+    let history = c.requires.reached.1 in
+    let h = c.requires.reached.2 in
     let due : step_due roles.sizes (packets history) c.args.packet.now ≡ Ok c.in_ok-step.step =
     rw (← h.sizes) (c.in_ok-step.ensures.due (packets history) h.streams h.sends) in
-    c.counted_reply.ensures
-    ∙ ap (counted_reply c.args.packet.now)
-    (sym (step_is_due roles.sizes (packets history) c.args.packet.now c.in_ok-step.step due))
+    subst (IsOwn c.args.packet.now.command)
+    (step_is_due roles.sizes (packets history) c.args.packet.now c.in_ok-step.step due)
+    (step_is_own roles.sizes (packets history) c.args.packet.now)
+
+pub returns-clause-entry : goal.returns-clause-entry
+returns-clause-entry c me roles history h =
+    let p = c.args.packet.now in
+    let due : step_due roles.sizes (packets history) p ≡ Ok c.in_ok-step.step =
+    rw (← h.sizes) (c.in_ok-step.ensures.due (packets history) h.streams h.sends) in
+    let entry : StreamStep → EntryValue = λ step. record { event = Take p; reply = counted_reply p step } in
+    c.taken.ensures ∙ ap entry (sym (step_is_due roles.sizes (packets history) p c.in_ok-step.step due))
 
 pub returns-clause-ok : goal.returns-clause-ok
 returns-clause-ok c roles history h =
