@@ -1,5 +1,6 @@
-use Rattle.std.proofs.Common.{rules, append_assoc}
+use Rattle.std.proofs.Common.{append_assoc, ◌∙◌}
+use Rattle.std.proofs.lemmas.Result.{IfOk-weaker}
 use Rattle.role_lab.proofs.order_texts.between_text.Goals as goal
 
 pub returns : goal.returns
-returns c = search (rules, append_assoc)
+returns c = IfOk-weaker c.format.result _ _ (λ text written. written ∙ simp append_assoc) c.format.ensures.ok
