@@ -79,7 +79,7 @@ impl Node {
     {
         match self.look(&event)? {
             Effect::Idle => Ok(Reply::Idle),
-            Effect::Counted => self.record(event),
+            Effect::Counted => self.record(&event),
         }
     }
 
@@ -104,12 +104,16 @@ impl Node {
         }
     }
 
-    /// Records an event that counts.
-    fn record(&mut self, event: Event) -> Result<Reply, NodeFault>
-        requires { outlook self.old.config self.old.me self.old.history event ≡ Ok Counted }
+    /// Records an event that counts, as [`apply`](Self::apply) does: one of which [`look`](Self::look) says that it does.
+    ///
+    /// # Errors
+    ///
+    /// Only for want of memory. The node stays as it was.
+    pub fn record(&mut self, event: &Event) -> Result<Reply, NodeFault>
+        requires { outlook self.old.config self.old.me self.old.history event.now ≡ Ok Counted }
         ensures reply { IfOk result (λ reply.
-            reply ≡ reply_to self.old.config.roles self.old.me self.old.history event) }
-        ensures ok { IfOk result (λ reply. self.new ≡ with_event self.old event) }
+            reply ≡ reply_to self.old.config.roles self.old.me self.old.history event.now) }
+        ensures ok { IfOk result (λ reply. self.new ≡ with_event self.old event.now) }
         ensures err { OnErr result (self.new ≡ self.old) }
         ensures memory { IfErr result (λ fault. fault ≡ Memory) }
         ensures config { self.new.config ≡ self.old.config }
@@ -117,8 +121,8 @@ impl Node {
         ensures legal { IsLegalNode self.new }
     {
         self.entries.try_reserve(1)?;
-        let reply = self.state.answer(self.me, &event)?;
-        push_within_capacity(&mut self.entries, Entry::new(&event, &reply));
+        let reply = self.state.answer(self.me, event)?;
+        push_within_capacity(&mut self.entries, Entry::new(event, &reply));
         Ok(reply)
     }
 

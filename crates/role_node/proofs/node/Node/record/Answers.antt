@@ -14,10 +14,10 @@ returns-in_err-try_reserve-clause-legal c =
 
 pub answer-requires : goal.answer-requires
 answer-requires c =
-    let counts = counts_inside c.self.inside c.args.self.now c.args.event c.self.view_is c.requires in
+    let counts = counts_inside c.self.inside c.args.self.now c.args.event.now c.self.view_is c.requires in
     let a = c.self.inside in
-    in_range a.config.roles a.me (events a.entries.items) a.state c.args.event c.self.invariant.state
-    (counted_with_room a.config a.me (events a.entries.items) c.args.event counts).1 (events_are_few a c.self.invariant)
+    in_range a.config.roles a.me (events a.entries.items) a.state c.args.event.now c.self.invariant.state
+    (counted_with_room a.config a.me (events a.entries.items) c.args.event.now counts).1 (events_are_few a c.self.invariant)
 
 pub invariant_of-self-in_err-reply : goal.invariant_of-self-in_err-reply
 invariant_of-self-in_err-reply c =
@@ -29,10 +29,10 @@ returns-in_err-reply-clause-legal c =
 
 pub invariant_of-self-2 : goal.invariant_of-self-2
 invariant_of-self-2 c =
-    let counts = counts_inside c.self.inside c.args.self.now c.args.event c.self.view_is c.requires in
+    let counts = counts_inside c.self.inside c.args.self.now c.args.event.now c.self.view_is c.requires in
     let pushed = c.push_within_capacity.ensures.items
     ∙ (λ i. c.try_reserve.ensures.items i ++ c.new.ensures i ∷ []) in
-    inside_grows c.args.event c.in_ok-reply.reply c.self.invariant refl refl pushed
+    inside_grows c.args.event.now c.in_ok-reply.reply c.self.invariant refl refl pushed
     c.in_ok-reply.ensures.ok counts c.in_ok-reply.ensures.reply
 
 pub returns-clause-legal : goal.returns-clause-legal
