@@ -22,5 +22,6 @@ pub mod Headline
 pub mod Idle
 pub mod Telling
 pub mod Stepping
+pub mod Arriving
 pub mod Settling
 pub mod Exported

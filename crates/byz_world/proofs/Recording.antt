@@ -8,7 +8,7 @@ use Rattle.link_frames.specs.declared.packet.Message.{Message}
 use Rattle.bracha_instance.specs.declared.instance.Effect.TheVariants as effect
 use Rattle.role_node.specs.Answers.{outlook, reply_to, answered, answer_due, is_recorded}
 use Rattle.role_node.specs.Configs.{ConfigValue}
-use Rattle.role_node.specs.Nodes.{NodeValue, due_at, with_event, after_reply}
+use Rattle.role_node.specs.Nodes.{NodeValue, with_event}
 use Rattle.role_node.specs.declared.event.Event.{Event}
 use Rattle.role_node.specs.declared.event.Event.TheVariants.{Issue, Take, Client}
 use Rattle.role_node.specs.declared.event.Reply.{Reply}
@@ -232,18 +232,6 @@ world_grows config liars members order sent at e is may counts =
 
 -- As the code has it.
 
-same_ok : {A B : Type 0} (x y : A) → ◌≡◌ {A = Result A B} (Ok x) (Ok y) → y ≡ x
-same_ok x y e = cc
-
-after_counted : (config : ConfigValue) (me : ℕ) (history : List Event) (node : NodeValue) (e : Event) →
-    after_reply node e (reply_to config.roles me history e) ≡ with_event node e
-after_counted config me history node (Issue c) = refl
-after_counted config me history node (Take p) = refl
-after_counted config me history node (Client (Open user)) = refl
-after_counted config me history node (Client (Activate session user role)) = refl
-after_counted config me history node (Client (DropRole session user role)) = refl
-after_counted config me history node (Client (Close session user)) = refl
-
 -- what a node's answer and the fields after it are, where the event counts
 pub record IsRecorded (config : ConfigValue) (liars : Nodes) (w : WorldValue) (at : ℕ) (e : Event) (reply : Reply)
     (members' : Members)
@@ -256,9 +244,10 @@ pub is_recorded_in : (config : ConfigValue) (liars : Nodes) (members : Members) 
     (at : ℕ) (e : Event) (reply : Reply) (members' : Members) (order' : List ℕ) (sent' : List Sent) →
     IsWorldIn config liars members order sent → world_in config liars members order ≡ w → MayHappen w at e →
     outlook w.config at (history_of at w.run) e ≡ Ok effect.Counted →
-    ((node : NodeValue) → member_in members at ≡ Some node → due_at node e ≡ Ok reply) →
     ((node : NodeValue) → member_in members at ≡ Some node
-    → members' ≡ slice_set members at (Some (after_reply node e reply))) →
+    → reply ≡ reply_to node.config.roles node.me node.history e) →
+    ((node : NodeValue) → member_in members at ≡ Some node
+    → members' ≡ slice_set members at (Some (with_event node e))) →
     order' ≡ order ++ at ∷ [] → sent' ≡ sent ++ listed (option_map (λ m. (at, m)) (sent_by reply)) →
     IsRecorded config liars w at e reply members' order' sent'
 is_recorded_in config liars members order sent w at e reply members' order' sent' is same may counts due set named
@@ -271,12 +260,9 @@ is_recorded_in config liars members order sent w at e reply members' order' sent
     let may' : MayHappen start at e = subst P (sym same) may in
     let counts' : outlook config at past e ≡ Ok effect.Counted = subst C (sym same) counts in
     let here = correct_member config liars members order sent is at may'.follows.correct in
-    let reply_is : reply ≡ R = same_ok R reply (sym (answer_is config at past e counts')
-    ∙ due (node_in start at) here) in
+    let reply_is : reply ≡ R = due (node_in start at) here in
     let members_are : members' ≡ slice_set members at (Some (with_event (node_in start at) e)) =
-    set (node_in start at) here
-    ∙ ap (λ r. slice_set members at (Some (after_reply (node_in start at) e r))) reply_is
-    ∙ ap (λ n. slice_set members at (Some n)) (after_counted config at past (node_in start at) e) in
+    set (node_in start at) here in
     let sent_is : sent' ≡ sent ++ listed (option_map (λ m. (at, m)) (sent_by R)) =
     sends ∙ ap (λ r. sent ++ listed (option_map (λ m. (at, m)) (sent_by r))) reply_is in
     let grown = world_grows config liars members order sent at e is may' counts' in
@@ -286,3 +272,15 @@ is_recorded_in config liars members order sent w at e reply members' order' sent
       reply_is = reply_is;
       grown = rw (members_are, named, sent_is) grown;
     })
+
+-- a correct node's member is that node
+pub member_is : {config : ConfigValue} {liars : Nodes} {members : Members} {order : List ℕ} {sent : List Sent}
+    {w : WorldValue} {at : ℕ} {e : Event} →
+    IsWorldIn config liars members order sent → world_in config liars members order ≡ w → MayHappen w at e →
+    (P : NodeValue → Type 0) → P (node_in w at) → (node : NodeValue) → member_in members at ≡ Some node → P node
+member_is {config} {liars} {members} {order} {sent} {w} {at} {e} is same may P holds node here =
+    let Q : WorldValue → Type 0 = λ v. MayHappen v at e in
+    let may' = subst Q (sym same) may in
+    let there = correct_member config liars members order sent is at may'.follows.correct in
+    let is_node : node_in (world_in config liars members order) at ≡ node = cc in
+    subst P (ap (λ v. node_in v at) (sym same) ∙ is_node) holds

@@ -250,14 +250,14 @@ unforged_is : (b : Bool) (c : Arrival) (q : ℕ × Event) →
 unforged_is true c q e = absurd cc
 unforged_is false c q e = (refl, e)
 
-abbrev MayBe : WorldValue → ℕ × Event → Type 0
+abbrev pub MayBe : WorldValue → ℕ × Event → Type 0
 MayBe w q = MayHappen w q.0 q.1
 
 same_take : (p q : PacketValue) → event.Take p ≡ event.Take q → p ≡ q
 same_take p q e = cc
 
 -- a packet that comes from its owner, if it is a SEND, and was sent, if its sender is correct
-taken_may : (w : WorldValue) (p : PacketValue) (q : ℕ × Event) → SentByOwner p →
+pub taken_may : (w : WorldValue) (p : PacketValue) (q : ℕ × Event) → SentByOwner p →
     (is_correct_in w p.from ≡ true → IsTrue (has_sent w.config.roles.sizes w.run p.from (message_of p))) →
     arrives w p ≡ Ok (Some q) → MayBe w q
 taken_may w p q own sent e =
@@ -275,7 +275,7 @@ taken_may w p q own sent e =
       room = λ act. is.1;
     })
 
-unforged : (a b : Bool) → (a && not b) ≡ false → a ≡ true → b ≡ true
+pub unforged : (a b : Bool) → (a && not b) ≡ false → a ≡ true → b ≡ true
 unforged true true e h = refl
 unforged true false e h = absurd cc
 unforged false b e h = absurd cc
@@ -293,7 +293,7 @@ opened_may w None q own e = absurd cc
 opened_may w (Some (Err f)) q own e = absurd cc
 opened_may w (Some (Ok p)) q own e = unforged_may w p q (own p refl) e
 
-given_may : (w : WorldValue) (o : Option PacketValue) (k : ℕ) (q : ℕ × Event) → IsClusterRunOf w →
+pub given_may : (w : WorldValue) (o : Option PacketValue) (k : ℕ) (q : ℕ × Event) → IsClusterRunOf w →
     slice_get (pool w.config w.run) k ≡ o → given w o ≡ Ok (Some q) → MayBe w q
 given_may w None k q is at e = absurd cc
 given_may w (Some p) k q is at e =

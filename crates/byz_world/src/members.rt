@@ -1,14 +1,15 @@
 //! The correct nodes of a world.
 
-ghost use Rattle.std.specs.Prelude.{◌≡◌, ◌<◌, ℕ, Some, Ok, Err, OnErr, IfOk, IsSome, map, slice_set, if◌then◌else◌};
+ghost use Rattle.std.specs.Prelude.{◌≡◌, ◌<◌, ℕ, Some, Ok, Err, OnErr, IfOk, IsSome, OnOk, map, slice_set, if◌then◌else◌};
 ghost use Rattle.std.specs.Option.{option_copied};
 ghost use Rattle.std.specs.List.{range_with_len};
 ghost use Rattle.bracha_instance.specs.Broadcast.{is_for};
+ghost use Rattle.bracha_instance.specs.declared.instance.Effect.TheVariants.{Counted};
 ghost use Rattle.role_commands.specs.Same.{same_command};
 ghost use Rattle.role_node.specs.Access.{sent_at, sessions_at, verdict_at};
 ghost use Rattle.role_node.specs.Questions.{ask_due, IsAsked, IsAnswerTo};
-ghost use Rattle.role_node.specs.Answers.{IsAnswer};
-ghost use Rattle.role_node.specs.Nodes.{NodeValue, due_at, after_reply};
+ghost use Rattle.role_node.specs.Answers.{outlook, reply_to};
+ghost use Rattle.role_node.specs.Nodes.{NodeValue, with_event};
 ghost use Rattle.byz_world.specs.Runs.{of_kind};
 ghost use Rattle.byz_world.specs.Inside.{member_in, has_taken, has_taken_all};
 ghost use Rattle.byz_world.specs.Worlds.{new_world, node_due};
@@ -64,22 +65,24 @@ pub(crate) fn member(members: &[Option<Node>], name: NodeName) -> Option<&Node>
     }
 }
 
-/// Has a node answer an event.
-pub(crate) fn apply_at(
+/// Has a node record an event that counts there.
+pub(crate) fn record_at(
     members: &mut Vec<Option<Node>>,
     name: NodeName,
-    event: Event,
+    event: &Event,
 ) -> Result<Reply, NodeFault>
-    requires { IsSome (member_in members.old.items name) }
-    ensures due { (node : NodeValue) → member_in members.old.items name ≡ Some node →
-        IsAnswer (due_at node event) result }
+    requires member { IsSome (member_in members.old.items name) }
+    requires counts { (node : NodeValue) → member_in members.old.items name ≡ Some node →
+        outlook node.config node.me node.history event.now ≡ Ok Counted }
+    ensures reply { (node : NodeValue) → member_in members.old.items name ≡ Some node →
+        IfOk result (λ reply. reply ≡ reply_to node.config.roles node.me node.history event.now) }
     ensures ok { (node : NodeValue) → member_in members.old.items name ≡ Some node →
-        IfOk result (λ reply. members.new.items ≡
-        slice_set members.old.items name (Some (after_reply node event reply))) }
+        OnOk result (members.new.items ≡
+        slice_set members.old.items name (Some (with_event node event.now))) }
     ensures err { OnErr result (members.new.items ≡ members.old.items) }
 {
     match &mut members[usize::from(name.index())] {
-        Some(node) => node.apply(event),
+        Some(node) => node.record(event),
         None => unreachable!(),
     }
 }

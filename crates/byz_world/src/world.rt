@@ -1,4 +1,4 @@
-ghost use Rattle.std.specs.Prelude.{◌≡◌, ℕ, ◌<◌, ◌≤◌, ◌*◌, ◌++◌, ◌∷◌, [], List, length, not, slice_get, IfOk, IfErr, OnOk, OnErr, Ok, Some, IsTrue, ◌↔◌, if◌then◌else◌};
+ghost use Rattle.std.specs.Prelude.{◌≡◌, ℕ, ◌<◌, ◌≤◌, ◌*◌, ◌++◌, ◌∷◌, [], List, length, not, nat_lt, ◌&&◌, slice_get, IfOk, IfErr, OnOk, OnErr, Ok, Some, IsTrue, ◌↔◌, if◌then◌else◌};
 ghost use Rattle.std.specs.Option.{option_copied};
 ghost use Rattle.std.specs.Vec.{vec_len, vec_capacity};
 ghost use Rattle.quorum_sizes.specs.Sizes.{AreSizes};
@@ -12,25 +12,27 @@ ghost use Rattle.byz_world.specs.Runs.{history_of, has_sent};
 ghost use Rattle.byz_world.specs.LabKeys.{ring_due};
 ghost use Rattle.byz_world.specs.Pools.{pool, sent_by};
 ghost use Rattle.byz_world.specs.Worlds.{new_world, is_correct_in, node_due};
-ghost use Rattle.byz_world.specs.Steps.{arrival, opened_at, unless_pool_full, unless_forged, arrives, is_forged, is_pool_full, of_reply, with_run, after_step, after_steps, IsStepAnswer};
+ghost use Rattle.byz_world.specs.Steps.{arrival, opened_at, unless_forged, arrives, is_forged, is_pool_full, of_reply, with_run, after_step, after_steps, IsStepAnswer};
 ghost use Rattle.byz_world.specs.Agreement.{agree_due};
 ghost use Rattle.byz_world.specs.Resting.{IsAtRest};
 ghost use Rattle.byz_world.specs.Asking.{IsMade, IsQuestionAnswer, decision_due};
-ghost use Rattle.byz_world.specs.Inside.{MayHappen};
+ghost use Rattle.byz_world.specs.Inside.{MayHappen, MayArrive};
 ghost use Rattle.byz_world.specs.Steps.{IsSound};
 ghost use Rattle.byz_world.specs.Worlds.{IsClusterRunOf};
 ghost use Rattle.byz_world.specs.declared.step.Step.{Step};
+ghost use Rattle.byz_world.specs.declared.step.Step.TheVariants.{Issue, Give, Lie, Bytes, Client};
 ghost use Rattle.byz_world.specs.declared.faults.WorldFault.TheVariants as fault;
 
 use crate::faults::WorldFault;
 use crate::keys::{keys_of, new_keys};
-use crate::members::{apply_at, ask_at, check_at, has_said, member, new_members, takes_all};
+use crate::members::{ask_at, check_at, has_said, member, new_members, record_at, takes_all};
 use crate::notes::{note_name, note_sent, sent_by};
 use crate::step::{Step, StepReply};
 use bracha_instance::Effect;
 use link_frames::{LinkFault, Message, Packet, PairKeys, open_frame};
 use quorum_sizes::{NodeName, NodeSet, Sizes};
-use role_node::{Answer, AskFault, Config, Event, Node, NodeFault, Question, Reply};
+use role_commands::Command;
+use role_node::{Answer, AskFault, ClientEvent, Config, Event, Node, NodeFault, Question, Reply};
 use role_sessions::Verdict;
 use std::alloc::{AllocError, Global};
 use std::marker::Model;
@@ -149,49 +151,136 @@ impl World {
         ensures err { OnErr result (self.new ≡ self.old) }
         ensures run { IsClusterRunOf self.new }
     {
-        match self.arrival(step) {
-            Ok(Some((name, event))) => self.happen(name, event),
-            Ok(None) => Ok(StepReply::Absorbed),
-            Err(fault) => Err(fault),
+        match step {
+            Step::Issue { node, command } => self.issue(*node, *command),
+            Step::Give { packet } => self.give(*packet),
+            Step::Lie { packet } => self.lie(packet),
+            Step::Bytes { to, bytes } => self.receive(*to, bytes.as_slice()),
+            Step::Client { node, event } => self.act(*node, *event),
         }
     }
 
-    /// The node and the event that a step comes to, if to any, or its first refusal.
-    fn arrival(&self, step: &Step) -> Result<Option<(NodeName, Event)>, WorldFault>
-        ensures due { result ≡ arrival self.now step.now }
-        ensures sound { IfOk result (λ _. IsSound step.now) }
+    /// A correct node publishes a command.
+    fn issue(&mut self, name: NodeName, command: Command) -> Result<StepReply, WorldFault>
+        ensures due { IsStepAnswer self.old (Issue name command) result }
+        ensures ok { OnOk result (self.new ≡ after_step self.old (Issue name command)) }
+        ensures err { OnErr result (self.new ≡ self.old) }
+        ensures run { IsClusterRunOf self.new }
+    {
+        if !self.is_correct(name) {
+            return Err(WorldFault::NotCorrect);
+        }
+        if self.is_full() {
+            return Err(WorldFault::PoolFull);
+        }
+        self.happen(name, &Event::Issue(command))
+    }
+
+    /// The packet of this number comes to its receiver.
+    fn give(&mut self, number: u32) -> Result<StepReply, WorldFault>
+        ensures due { IsStepAnswer self.old (Give number) result }
+        ensures ok { OnOk result (self.new ≡ after_step self.old (Give number)) }
+        ensures err { OnErr result (self.new ≡ self.old) }
+        ensures run { IsClusterRunOf self.new }
+    {
+        let _sizes = self.sizes();
+        match self.sent(number) {
+            Some(packet) => self.arrive(packet),
+            None => Err(WorldFault::NoSuchPacket),
+        }
+    }
+
+    /// A packet comes to its receiver that anybody may have sent.
+    fn lie(&mut self, packet: &Packet) -> Result<StepReply, WorldFault>
+        ensures due { IsStepAnswer self.old (Lie packet.now) result }
+        ensures ok { OnOk result (self.new ≡ after_step self.old (Lie packet.now)) }
+        ensures err { OnErr result (self.new ≡ self.old) }
+        ensures run { IsClusterRunOf self.new }
+    {
+        if !self.is_between_nodes(packet) {
+            return Err(WorldFault::NotCorrect);
+        }
+        self.unless_forged(*packet)
+    }
+
+    /// Bytes come to a correct node.
+    fn receive(&mut self, to: NodeName, bytes: &[u8]) -> Result<StepReply, WorldFault>
+        ensures due { IsStepAnswer self.old (Bytes to bytes.now) result }
+        ensures ok { OnOk result (self.new ≡ after_step self.old (Bytes to bytes.now)) }
+        ensures err { OnErr result (self.new ≡ self.old) }
+        ensures run { IsClusterRunOf self.new }
+    {
+        let _sizes = self.sizes();
+        match self.opened_at(to, bytes) {
+            Some(Ok(packet)) => self.unless_forged(packet),
+            Some(Err(fault)) => Err(WorldFault::Link(fault)),
+            None => Err(WorldFault::NotCorrect),
+        }
+    }
+
+    /// A client acts at a correct node.
+    fn act(&mut self, name: NodeName, act: ClientEvent) -> Result<StepReply, WorldFault>
+        ensures due { IsStepAnswer self.old (Client name act) result }
+        ensures ok { OnOk result (self.new ≡ after_step self.old (Client name act)) }
+        ensures err { OnErr result (self.new ≡ self.old) }
+        ensures run { IsClusterRunOf self.new }
+    {
+        if !self.is_correct(name) {
+            return Err(WorldFault::NotCorrect);
+        }
+        self.happen(name, &Event::Client(act))
+    }
+
+    /// A packet comes to its receiver, unless it is forged.
+    fn unless_forged(&mut self, packet: Packet) -> Result<StepReply, WorldFault>
+        ensures due { (step : Step) → arrival self.old step ≡ unless_forged self.old packet →
+            IsStepAnswer self.old step result }
+        ensures ok { (step : Step) → arrival self.old step ≡ unless_forged self.old packet →
+            OnOk result (self.new ≡ after_step self.old step) }
+        ensures err { OnErr result (self.new ≡ self.old) }
+        ensures run { IsClusterRunOf self.new }
+    {
+        if self.is_forged(&packet) {
+            return Err(WorldFault::NotSent);
+        }
+        self.arrive(packet)
+    }
+
+    /// A packet that may be taken comes to its receiver. A liar absorbs it.
+    fn arrive(&mut self, packet: Packet) -> Result<StepReply, WorldFault>
+        requires { MayArrive self.old (arrives self.old packet) }
+        ensures due { (step : Step) → arrival self.old step ≡ arrives self.old packet →
+            IsStepAnswer self.old step result }
+        ensures ok { (step : Step) → arrival self.old step ≡ arrives self.old packet →
+            OnOk result (self.new ≡ after_step self.old step) }
+        ensures err { OnErr result (self.new ≡ self.old) }
+        ensures run { IsClusterRunOf self.new }
+    {
+        let to = packet.to();
+        if !self.is_correct(to) {
+            return Ok(StepReply::Absorbed);
+        }
+        if self.is_full() {
+            return Err(WorldFault::PoolFull);
+        }
+        self.happen(to, &Event::Take(packet))
+    }
+
+    /// Whether the packet is from a node to a node.
+    fn is_between_nodes(&self, packet: &Packet) -> bool
+        ensures value { let nodes = self.now.config.roles.sizes.nodes in
+            result ≡ (nat_lt packet.now.from nodes && nat_lt packet.now.to nodes) }
         ensures run { IsClusterRunOf self.now }
     {
         let sizes = self.sizes();
-        match step {
-            Step::Issue { node, command } => {
-                if !self.is_correct(*node) {
-                    return Err(WorldFault::NotCorrect);
-                }
-                self.unless_full(*node, Event::Issue(*command))
-            }
-            Step::Give { packet } => match self.sent(*packet) {
-                Some(packet) => self.arrives(packet),
-                None => Err(WorldFault::NoSuchPacket),
-            },
-            Step::Lie { packet } => {
-                if !sizes.has(packet.from()) || !sizes.has(packet.to()) {
-                    return Err(WorldFault::NotCorrect);
-                }
-                self.unless_forged(*packet)
-            }
-            Step::Bytes { to, bytes } => match self.opened_at(*to, bytes.as_slice()) {
-                Some(Ok(packet)) => self.unless_forged(packet),
-                Some(Err(fault)) => Err(WorldFault::Link(fault)),
-                None => Err(WorldFault::NotCorrect),
-            },
-            Step::Client { node, event } => {
-                if !self.is_correct(*node) {
-                    return Err(WorldFault::NotCorrect);
-                }
-                Ok(Some((*node, Event::Client(*event))))
-            }
-        }
+        sizes.has(packet.from()) && sizes.has(packet.to())
+    }
+
+    /// Whether the pool has no room for what a node may send.
+    fn is_full(&self) -> bool
+        ensures { result ≡ is_pool_full self.now }
+    {
+        self.config.limit() < self.sent_len() + u32::from(self.sizes().n())
     }
 
     /// What comes of bytes that arrive at a correct node.
@@ -211,47 +300,11 @@ impl World {
         keys_of(&self.keys, name)
     }
 
-    /// Where a packet arrives that anybody may have sent, unless it is forged.
-    fn unless_forged(&self, packet: Packet) -> Result<Option<(NodeName, Event)>, WorldFault>
-        ensures due { result ≡ unless_forged self.now packet }
-        ensures kept { IsPacket packet }
-    {
-        if self.is_forged(&packet) {
-            return Err(WorldFault::NotSent);
-        }
-        self.arrives(packet)
-    }
-
-    /// Where a packet arrives that may be taken: a liar absorbs it.
-    fn arrives(&self, packet: Packet) -> Result<Option<(NodeName, Event)>, WorldFault>
-        ensures { result ≡ arrives self.now packet }
-    {
-        if !self.is_correct(packet.to()) {
-            return Ok(None);
-        }
-        self.unless_full(packet.to(), Event::Take(packet))
-    }
-
-    /// The event of a node that may send, unless the pool has no room for it.
-    fn unless_full(
-        &self,
-        name: NodeName,
-        event: Event,
-    ) -> Result<Option<(NodeName, Event)>, WorldFault>
-        ensures { result ≡ unless_pool_full self.now (name, event) }
-    {
-        let limit = self.config.limit();
-        let more = u32::from(self.sizes().n());
-        if self.sent_len() + more > limit {
-            return Err(WorldFault::PoolFull);
-        }
-        Ok(Some((name, event)))
-    }
-
     /// Whether the packet is in the name of a correct node that has not sent it.
     fn is_forged(&self, packet: &Packet) -> bool
         ensures forged { result ≡ is_forged self.now packet.now }
         ensures kept { IsPacket packet.now }
+        ensures run { IsClusterRunOf self.now }
     {
         let message = packet.message();
         match self.node(packet.from()) {
@@ -261,16 +314,16 @@ impl World {
     }
 
     /// Has a node answer an event.
-    fn happen(&mut self, name: NodeName, event: Event) -> Result<StepReply, WorldFault>
-        requires { MayHappen self.old name event }
-        ensures due { (step : Step) → arrival self.old step ≡ Ok (Some (name, event)) →
+    fn happen(&mut self, name: NodeName, event: &Event) -> Result<StepReply, WorldFault>
+        requires { MayHappen self.old name event.now }
+        ensures due { (step : Step) → arrival self.old step ≡ Ok (Some (name, event.now)) →
             IsStepAnswer self.old step result }
-        ensures ok { (step : Step) → arrival self.old step ≡ Ok (Some (name, event)) →
+        ensures ok { (step : Step) → arrival self.old step ≡ Ok (Some (name, event.now)) →
             OnOk result (self.new ≡ after_step self.old step) }
         ensures err { OnErr result (self.new ≡ self.old) }
         ensures run { IsClusterRunOf self.new }
     {
-        match self.look(name, &event) {
+        match self.look(name, event) {
             Ok(Effect::Counted) => self.record(name, event),
             Ok(Effect::Idle) => Ok(StepReply::Node {
                 reply: Reply::Idle,
@@ -294,12 +347,12 @@ impl World {
     }
 
     /// Has a node record an event that counts, and keeps what it sends. Room is made before.
-    fn record(&mut self, name: NodeName, event: Event) -> Result<StepReply, WorldFault>
-        requires may { MayHappen self.old name event }
-        requires counts { outlook self.old.config name (history_of name self.old.run) event ≡ Ok Counted }
+    fn record(&mut self, name: NodeName, event: &Event) -> Result<StepReply, WorldFault>
+        requires may { MayHappen self.old name event.now }
+        requires counts { outlook self.old.config name (history_of name self.old.run) event.now ≡ Ok Counted }
         ensures reply { IfOk result (λ reply. reply ≡
-            of_reply self.old (reply_to self.old.config.roles name (history_of name self.old.run) event)) }
-        ensures ok { OnOk result (self.new ≡ with_run self.old (self.old.run ++ (name, event) ∷ [])) }
+            of_reply self.old (reply_to self.old.config.roles name (history_of name self.old.run) event.now)) }
+        ensures ok { OnOk result (self.new ≡ with_run self.old (self.old.run ++ (name, event.now) ∷ [])) }
         ensures err { OnErr result (self.new ≡ self.old) }
         ensures memory { IfErr result (λ refusal. refusal ≡ fault.Memory) }
         ensures run { IsClusterRunOf self.new }
@@ -308,7 +361,7 @@ impl World {
         let nodes = self.sizes().n();
         self.order.try_reserve(1)?;
         self.sent.try_reserve(1)?;
-        let Ok(reply) = apply_at(&mut self.members, name, event) else {
+        let Ok(reply) = record_at(&mut self.members, name, event) else {
             return Err(WorldFault::Memory);
         };
         note_name(&mut self.order, name);
@@ -384,7 +437,8 @@ impl World {
     }
 
     fn is_correct(&self, name: NodeName) -> bool
-        ensures { result ≡ is_correct_in self.now name }
+        ensures value { result ≡ is_correct_in self.now name }
+        ensures run { IsClusterRunOf self.now }
     {
         self.node(name).is_some()
     }

@@ -12,7 +12,7 @@ returns-clause-decision c =
     let a = c.self.inside in
     let w = world_value a in
     let correct : is_correct_in w c.args.name ≡ true =
-    ap (λ v. is_correct_in v c.args.name) c.self.view_is ∙ sym c.is_correct.ensures ∙ c.if-not-is_correct.false in
+    ap (λ v. is_correct_in v c.args.name) c.self.view_is ∙ sym c.is_correct.ensures.value ∙ c.if-not-is_correct.false in
     let member = correct_member a.config a.liars a.members.items a.order.items a.sent.items c.self.invariant.world
     c.args.name correct in
     let there = ap (λ ms. member_in ms c.args.name) c.deref_mut.ensures.value ∙ member in

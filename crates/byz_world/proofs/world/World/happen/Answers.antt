@@ -4,24 +4,24 @@ use Rattle.byz_world.proofs.world.World.happen.Goals as goal
 
 pub returns-in-Ok-Counted-clause-due : goal.returns-in-Ok-Counted-clause-due
 returns-in-Ok-Counted-clause-due c step at =
-    recorded_answer c.args.self.now step c.args.name c.args.event c.record.result at (sym
+    recorded_answer c.args.self.now step c.args.name c.args.event.now c.record.result at (sym
     c.in-Ok-Counted.ensures.due ∙ ap Ok c.in-Ok-Counted.field-0-is) c.record.ensures.reply c.record.ensures.memory
 
 pub returns-in-Ok-Counted-clause-ok : goal.returns-in-Ok-Counted-clause-ok
 returns-in-Ok-Counted-clause-ok c step at =
-    recorded_after c.args.self.now _ step c.args.name c.args.event c.record.result at (sym
+    recorded_after c.args.self.now _ step c.args.name c.args.event.now c.record.result at (sym
     c.in-Ok-Counted.ensures.due ∙ ap Ok c.in-Ok-Counted.field-0-is) c.record.ensures.ok
 
 pub returns-in-Ok-Idle-clause-due : goal.returns-in-Ok-Idle-clause-due
 returns-in-Ok-Idle-clause-due c step at =
-    idle_answer c.args.self.now step c.args.name c.args.event c.sent_len.result at (sym c.in-Ok-Idle.ensures.due
+    idle_answer c.args.self.now step c.args.name c.args.event.now c.sent_len.result at (sym c.in-Ok-Idle.ensures.due
     ∙ ap Ok c.in-Ok-Idle.field-0-is) c.sent_len.ensures.value
 
 pub returns-in-Ok-Idle-clause-ok : goal.returns-in-Ok-Idle-clause-ok
 returns-in-Ok-Idle-clause-ok c step at =
-    idle_after c.args.self.now step c.args.name c.args.event at (sym c.in-Ok-Idle.ensures.due
+    idle_after c.args.self.now step c.args.name c.args.event.now at (sym c.in-Ok-Idle.ensures.due
     ∙ ap Ok c.in-Ok-Idle.field-0-is)
 
 pub returns-in-Err-clause-due : goal.returns-in-Err-clause-due
 returns-in-Err-clause-due c step at =
-    refused_answer c.args.self.now step c.args.name c.args.event c.in-Err.fault at (sym c.in-Err.ensures.due)
+    refused_answer c.args.self.now step c.args.name c.args.event.now c.in-Err.fault at (sym c.in-Err.ensures.due)

@@ -1,0 +1,121 @@
+-- What comes to a node, as the code finds it: the tests one after another say where a step arrives.
+use Rattle.std.proofs.Common.{◌≡◌, ℕ, Bool, true, false, ◌&&◌, List, Option, Some, None, Result, Ok, Err, refl, ap, ◌∙◌}
+use Rattle.std.specs.Prelude.{if◌then◌else◌, not, nat_lt, is_some, length, slice_get}
+use Rattle.link_frames.specs.Packets.{PacketValue, SentByOwner, message_of}
+use Rattle.link_frames.specs.declared.opening.LinkFault.{LinkFault}
+use Rattle.role_commands.specs.declared.command.Command.{Command}
+use Rattle.role_sessions.specs.declared.event.ClientEvent.{ClientEvent}
+use Rattle.role_node.specs.declared.event.Event.{Event}
+use Rattle.role_node.specs.declared.event.Event.TheVariants as event
+use Rattle.role_node.specs.declared.event.Reply.{Reply}
+use Rattle.byz_world.specs.Runs.{has_sent}
+use Rattle.byz_world.specs.Pools.{pool, sent_by}
+use Rattle.byz_world.specs.Worlds.{WorldValue, is_correct_in, IsClusterRunOf}
+use Rattle.byz_world.specs.Steps.{Arrival, arrival, arrives, given, unless_forged, opened_at, of_opened}
+use Rattle.byz_world.specs.Steps.{is_pool_full, is_forged, of_reply, step_due, after_step, IsStepAnswer}
+use Rattle.byz_world.specs.Inside.{MayArrive, MayHappen}
+use Rattle.byz_world.specs.declared.step.Step.{Step}
+use Rattle.byz_world.specs.declared.step.Step.TheVariants.{Issue, Give, Lie, Bytes, Client}
+use Rattle.byz_world.specs.declared.step.StepReply.TheVariants.{Absorbed, Node}
+use Rattle.byz_world.specs.declared.faults.WorldFault.TheVariants as fault
+use Rattle.byz_world.proofs.Stepping.{MayBe, taken_may, given_may, unforged}
+use Rattle.byz_world.proofs.Stepping.{early_answer, absorbed_answer, absorbed_after}
+
+-- What may be taken.
+
+may_be : (w : WorldValue) (a : Arrival) → ((q : ℕ × Event) → a ≡ Ok (Some q) → MayBe w q) → MayArrive w a
+may_be w (Ok (Some q)) may = may q refl
+may_be w (Ok None) may = tt
+may_be w (Err f) may = tt
+
+-- a packet of the pool may be taken
+pub pooled_may : (w : WorldValue) (k : ℕ) (p : PacketValue) → IsClusterRunOf w →
+    slice_get (pool w.config w.run) k ≡ Some p → MayArrive w (arrives w p)
+pooled_may w k p is at = may_be w (arrives w p) (λ q. given_may w (Some p) k q is at)
+
+-- .. and so may a packet that is not forged
+pub unforged_may_be : (w : WorldValue) (p : PacketValue) → SentByOwner p → is_forged w p ≡ false →
+    MayArrive w (arrives w p)
+unforged_may_be w p own forged =
+    let sent = unforged (is_correct_in w p.from) (has_sent w.config.roles.sizes w.run p.from (message_of p)) forged in
+    may_be w (arrives w p) (λ q. taken_may w p q own sent)
+
+-- What is refused before a node is asked.
+
+pub issued_elsewhere : (w : WorldValue) (name : ℕ) (command : Command) → is_correct_in w name ≡ false →
+    IsStepAnswer w (Issue name command) (Err fault.NotCorrect)
+issued_elsewhere w name command liar =
+    early_answer w (Issue name command) fault.NotCorrect (ap (λ b. if b then (
+    if is_pool_full w then Err fault.PoolFull else Ok (Some (name, event.Issue command))
+    ) else Err fault.NotCorrect) liar)
+
+two_tests : {A : Type 0} (a b : Bool) (x y z : A) → a ≡ true → b ≡ true → (if a then (if b then x else y) else z) ≡ x
+two_tests a b x y z ha hb = rw (ha, hb) refl
+
+pub issued_too_much : (w : WorldValue) (name : ℕ) (command : Command) → is_correct_in w name ≡ true →
+    is_pool_full w ≡ true → IsStepAnswer w (Issue name command) (Err fault.PoolFull)
+issued_too_much w name command correct full =
+    early_answer w (Issue name command) fault.PoolFull
+    (two_tests (is_correct_in w name) (is_pool_full w) (Err fault.PoolFull) (Ok (Some (name, event.Issue command)))
+    (Err fault.NotCorrect) correct full)
+
+pub acted_elsewhere : (w : WorldValue) (name : ℕ) (act : ClientEvent) → is_correct_in w name ≡ false →
+    IsStepAnswer w (Client name act) (Err fault.NotCorrect)
+acted_elsewhere w name act liar =
+    early_answer w (Client name act) fault.NotCorrect
+    (ap (λ b. if b then Ok (Some (name, event.Client act)) else Err fault.NotCorrect) liar)
+
+pub none_given : (w : WorldValue) (k : ℕ) → slice_get (pool w.config w.run) k ≡ None →
+    IsStepAnswer w (Give k) (Err fault.NoSuchPacket)
+none_given w k none = early_answer w (Give k) fault.NoSuchPacket (ap (given w) none)
+
+pub lied_outside : (w : WorldValue) (p : PacketValue) →
+    (nat_lt p.from w.config.roles.sizes.nodes && nat_lt p.to w.config.roles.sizes.nodes) ≡ false →
+    IsStepAnswer w (Lie p) (Err fault.NotCorrect)
+lied_outside w p outside =
+    early_answer w (Lie p) fault.NotCorrect
+    (ap (λ b. if not b then Err fault.NotCorrect else unless_forged w p) outside)
+
+pub opened_nowhere : (w : WorldValue) (to : ℕ) (bytes : List ℕ) → opened_at w to bytes ≡ None →
+    IsStepAnswer w (Bytes to bytes) (Err fault.NotCorrect)
+opened_nowhere w to bytes none = early_answer w (Bytes to bytes) fault.NotCorrect (ap (of_opened w) none)
+
+pub opened_badly : (w : WorldValue) (to : ℕ) (bytes : List ℕ) (f : LinkFault) → opened_at w to bytes ≡ Some (Err f) →
+    IsStepAnswer w (Bytes to bytes) (Err (fault.Link f))
+opened_badly w to bytes f bad = early_answer w (Bytes to bytes) (fault.Link f) (ap (of_opened w) bad)
+
+pub forged_refused : (w : WorldValue) (step : Step) (p : PacketValue) → arrival w step ≡ unless_forged w p →
+    is_forged w p ≡ true → IsStepAnswer w step (Err fault.NotSent)
+forged_refused w step p at forged =
+    early_answer w step fault.NotSent (at ∙ ap (λ b. if b then Err fault.NotSent else arrives w p) forged)
+
+pub full_refused : (w : WorldValue) (step : Step) (p : PacketValue) → arrival w step ≡ arrives w p →
+    is_correct_in w p.to ≡ true → is_pool_full w ≡ true → IsStepAnswer w step (Err fault.PoolFull)
+full_refused w step p at correct full =
+    early_answer w step fault.PoolFull
+    (at ∙ two_tests (is_correct_in w p.to) (is_pool_full w) (Err fault.PoolFull) (Ok (Some (p.to, event.Take p)))
+    (Ok None) correct full)
+
+-- What a liar absorbs.
+
+liar_absorbs : (w : WorldValue) (p : PacketValue) → is_correct_in w p.to ≡ false → arrives w p ≡ Ok None
+liar_absorbs w p liar = ap (λ b. if b then (
+    if is_pool_full w then Err fault.PoolFull else Ok (Some (p.to, event.Take p))
+    ) else Ok None) liar
+
+pub absorbed_due : (w : WorldValue) (step : Step) (p : PacketValue) → arrival w step ≡ arrives w p →
+    is_correct_in w p.to ≡ false → step_due w step ≡ Ok Absorbed
+absorbed_due w step p at liar = absorbed_answer w step (at ∙ liar_absorbs w p liar)
+
+pub absorbed_stays : (w : WorldValue) (step : Step) (p : PacketValue) → arrival w step ≡ arrives w p →
+    is_correct_in w p.to ≡ false → w ≡ after_step w step
+absorbed_stays w step p at liar = absorbed_after w step (at ∙ liar_absorbs w p liar)
+
+-- What is told of an event that was recorded.
+
+pub reply_told : (w : WorldValue) (r reply : Reply) (first nodes count : ℕ) → r ≡ reply →
+    first ≡ length (pool w.config w.run) → nodes ≡ w.config.roles.sizes.nodes →
+    count ≡ (if is_some (sent_by r) then nodes else 0) → Node r first count ≡ of_reply w reply
+reply_told w r reply first nodes count same number all counted =
+    let many = counted ∙ (λ i. if is_some (sent_by (same i)) then all i else 0) in
+    λ i. Node (same i) (number i) (many i)
