@@ -3,10 +3,9 @@ use Rattle.std.proofs.Common.{◌≡◌, ℕ, ◌+◌, ◌<◌, ◌≤◌, Bool,
 use Rattle.std.specs.Prelude.{slice_get, option_map, IsTrue}
 use Rattle.std.proofs.lemmas.List.{take_more}
 use Rattle.std.proofs.lemmas.Option.{slice_get-map, slice_get_within, get_or_from_slice_get}
-use Rattle.role_node.specs.Answers.{is_recorded}
+use Rattle.role_node.specs.Answers.{EntryValue, is_recorded}
 use Rattle.role_node.specs.Nodes.{NodeValue, due_at, with_event, IsLegalNode, AreRepliesOf}
 use Rattle.role_node.specs.Kept.{event_of}
-use Rattle.role_node.specs.declared.event.Entry.{Entry}
 use Rattle.role_node.specs.declared.event.Event.{Event}
 use Rattle.role_node.specs.declared.event.Reply.{Reply}
 use Rattle.role_node.specs.declared.faults.NodeFault.{NodeFault}
@@ -31,7 +30,7 @@ says_recorded node r event call recorded outcome =
     ap is_recorded_outcome (outcome ∙ ap (outcome_due node) call) ∙ recorded_outcome (due_at node event) ∙ recorded
 
 -- where the call's event is recorded, its receipt is true exactly where it tells the entry
-pub recorded_here : (node : NodeValue) (entry : Option Entry) (r : Receipt) (event : Event) → r.call ≡ Step event →
+pub recorded_here : (node : NodeValue) (entry : Option EntryValue) (r : Receipt) (event : Event) → r.call ≡ Step event →
     IsNext node entry → is_recorded (due_at node event) ≡ true →
     (IsEntryOf entry event r.outcome → IsTrueHere node (event_in entry) r)
     × (IsTrueHere node (event_in entry) r → IsEntryOf entry event r.outcome)
@@ -59,7 +58,7 @@ recorded_here node (Some entry) r event call next recorded =
     )
 
 -- the entry at a place is the one that was due there
-pub next_entry : (node : NodeValue) (entries : List Entry) (place : ℕ) (entry : Entry) → map event_of entries
+pub next_entry : (node : NodeValue) (entries : List EntryValue) (place : ℕ) (entry : EntryValue) → map event_of entries
     ≡ node.history →
     AreRepliesOf node entries → IsLegalNode node → slice_get entries place ≡ Some entry →
     IsNext (node_at node place) (Some entry)

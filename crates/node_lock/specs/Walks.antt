@@ -2,9 +2,8 @@
 use Rattle.std.specs.Prelude.{◌≡◌, ℕ, ◌<◌, ◌≤◌, IsTrue, List, map, Option, Some, None, IsSome, Ok, All, Contains, count_by, ⊤}
 use Rattle.std.specs.List.Sorted.{IsNonDecreasingBy}
 use Rattle.std.specs.Borrow.{Bor}
-use Rattle.role_node.specs.Answers.{is_recorded}
+use Rattle.role_node.specs.Answers.{EntryValue, is_recorded}
 use Rattle.role_node.specs.Nodes.{NodeValue, due_at}
-use Rattle.role_node.specs.declared.event.Entry.{Entry}
 use Rattle.role_node.specs.declared.event.Event.{Event}
 use Rattle.node_lock.specs.Audits.{IsEventOf, recorded_at}
 use Rattle.node_lock.specs.Receipts.{outcome_due, is_recorded_outcome}
@@ -27,12 +26,12 @@ pub record IsRest (receipts : List Receipt) (place : ℕ) (rest : List Receipt) 
   pub among : (r : Receipt) → Contains rest r → Contains receipts r
 
 -- the event of an entry
-abbrev pub event_in : Option Entry → Option Event
+abbrev pub event_in : Option EntryValue → Option Event
 event_in None = None
 event_in (Some entry) = Some entry.event
 
 -- the entry's reply is due after the node's history, and its event is recorded
-abbrev pub IsNext : NodeValue → Option Entry → Type 0
+abbrev pub IsNext : NodeValue → Option EntryValue → Type 0
 IsNext node None = ⊤
 IsNext node (Some entry) = (due_at node entry.event ≡ Ok entry.reply) × IsTrue (is_recorded (Ok entry.reply))
 
@@ -42,7 +41,7 @@ pub record IsTrueHere (node : NodeValue) (at : Option Event) (r : Receipt) : Typ
   pub event : IsTrue (is_recorded_outcome r.outcome) → IsEventOf at r.call
 
 -- the entry is of this event, and its reply is the outcome
-abbrev pub IsEntryOf : Option Entry → Event → Outcome → Type 0
+abbrev pub IsEntryOf : Option EntryValue → Event → Outcome → Type 0
 IsEntryOf None event outcome = ⊥
 IsEntryOf (Some entry) event outcome = (entry.event ≡ event) × (Replied entry.reply ≡ outcome)
 

@@ -87,10 +87,11 @@ fn replayed(
     let mut done = 0;
     for place in 0..end {
         let (here, _) = split_at_place(&sorted[done..], place);
-        if let Err(fault) = check_place(replay, &Some(entry_at(node, place)), here, place) {
+        let entry = entry_at(node, place);
+        if let Err(fault) = check_place(replay, &Some(entry), here, place) {
             return Err(fault);
         }
-        advance(replay, entry_at(node, place).event)?;
+        advance(replay, entry.event())?;
         done += here.len();
     }
     let (here, past) = split_at_place(&sorted[done..], end);
@@ -227,7 +228,7 @@ fn is_recorded_here(entry: &Option<Entry>, event: &Event, outcome: &Outcome) -> 
     ensures { IsTrue result ↔ IsEntryOf entry.now event.now outcome.now }
 {
     match entry {
-        Some(entry) => entry.event == *event && Outcome::Reply(entry.reply).equals(outcome),
+        Some(entry) => entry.event() == *event && Outcome::Reply(entry.reply()).equals(outcome),
         None => false,
     }
 }

@@ -228,7 +228,7 @@ fn replay(node: &mut Node, entries: &[Entry]) -> Result<(), AllocError>
     ensures me { node.new.me ≡ node.old.me }
 {
     for entry in entries {
-        let event = entry.event;
+        let event = entry.event();
         if !node.records(&event) {
             break;
         }

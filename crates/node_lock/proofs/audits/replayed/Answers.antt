@@ -30,7 +30,7 @@ returns-in-Err-clause-err c =
     } in
     fault_found c.args.node.now c.args.receipts.now c.loop-place.place _ _ _ split c.loop-place.invariant.right
     c.in-Err.fault
-    c.loop-place.replay (Some c.entry_at.result.event) c.loop-place.invariant.replay c.entry_at.ensures.event
+    c.loop-place.replay (Some c.entry_at-entry.result.event) c.loop-place.invariant.replay c.entry_at-entry.ensures.event
     c.in-Err.ensures.err
 
 pub loop-place-preserved : goal.loop-place-preserved
@@ -46,7 +46,7 @@ loop-place-preserved c =
     let within : c.loop-place.place ≤ length c.args.node.now.history = omega arith in
     let right =
     right_found c.args.node.now c.args.receipts.now c.loop-place.place _ _ _ split within
-    c.loop-place.replay (Some c.entry_at.result.event) c.loop-place.invariant.replay c.entry_at.ensures.event
+    c.loop-place.replay (Some c.entry_at-entry.result.event) c.loop-place.invariant.replay c.entry_at-entry.ensures.event
     c.in_default.ensures.ok in
     let P : List Receipt → Type 0 = λ rs. IsRest c.args.receipts.now (c.loop-place.place + 1) rs in
     record {
@@ -63,10 +63,11 @@ loop-place-preserved c =
           c.split_at_place.ensures.here c.split_at_place.ensures.later);
       replay =
           c.in_ok-advance.ensures
-          ∙ ap (λ (n : NodeValue). with_event n c.entry_at-in-loop-place.result.event)
+          ∙ ap (with_event c.check_place.new.replay) c.event.ensures
+          ∙ ap (λ (n : NodeValue). with_event n c.entry_at-entry.result.event)
           (c.in_default.ensures.same ∙ c.loop-place.invariant.replay)
-          ∙ one_further c.args.node.now c.loop-place.place c.entry_at-in-loop-place.result.event
-          c.entry_at-in-loop-place.ensures.event;
+          ∙ one_further c.args.node.now c.loop-place.place c.entry_at-entry.result.event
+          c.entry_at-entry.ensures.event;
     }
 
 pub returns-in-Err-check_place-clause-err : goal.returns-in-Err-check_place-clause-err
