@@ -1,25 +1,27 @@
 -- What comes to a node, as the code finds it: the tests one after another say where a step arrives.
 use Rattle.std.proofs.Common.{◌≡◌, ℕ, Bool, true, false, ◌&&◌, List, Option, Some, None, Result, Ok, Err, refl, ap, ◌∙◌}
-use Rattle.std.specs.Prelude.{if◌then◌else◌, not, nat_lt, is_some, length, slice_get}
+use Rattle.std.specs.Prelude.{if◌then◌else◌, not, nat_lt, slice_get}
 use Rattle.link_frames.specs.Packets.{PacketValue, SentByOwner, message_of}
 use Rattle.link_frames.specs.declared.opening.LinkFault.{LinkFault}
 use Rattle.role_commands.specs.declared.command.Command.{Command}
 use Rattle.role_sessions.specs.declared.event.ClientEvent.{ClientEvent}
 use Rattle.role_node.specs.declared.event.Event.{Event}
 use Rattle.role_node.specs.declared.event.Event.TheVariants as event
-use Rattle.role_node.specs.declared.event.Reply.{Reply}
-use Rattle.byz_world.specs.Runs.{has_sent}
-use Rattle.byz_world.specs.Pools.{pool, sent_by}
+use Rattle.role_node.specs.Answers.{EntryValue, outlook, reply_to}
+use Rattle.bracha_instance.specs.declared.instance.Effect.TheVariants as effect
+use Rattle.byz_world.specs.Runs.{has_sent, history_of}
+use Rattle.byz_world.specs.Pools.{pool}
 use Rattle.byz_world.specs.Worlds.{WorldValue, is_correct_in, IsClusterRunOf}
 use Rattle.byz_world.specs.Steps.{Arrival, arrival, arrives, given, unless_forged, opened_at, of_opened}
 use Rattle.byz_world.specs.Steps.{is_pool_full, is_forged, of_reply, step_due, after_step, IsStepAnswer}
-use Rattle.byz_world.specs.Inside.{MayArrive, MayHappen}
+use Rattle.byz_world.specs.Inside.{MayArrive, MayHappen, told_of}
 use Rattle.byz_world.specs.declared.step.Step.{Step}
 use Rattle.byz_world.specs.declared.step.Step.TheVariants.{Issue, Give, Lie, Bytes, Client}
-use Rattle.byz_world.specs.declared.step.StepReply.TheVariants.{Absorbed, Node}
+use Rattle.byz_world.specs.declared.step.Came.TheVariants as came
+use Rattle.byz_world.specs.declared.step.StepReply.TheVariants.{Absorbed}
 use Rattle.byz_world.specs.declared.faults.WorldFault.TheVariants as fault
 use Rattle.byz_world.proofs.Stepping.{MayBe, taken_may, given_may, unforged}
-use Rattle.byz_world.proofs.Stepping.{early_answer, absorbed_answer, absorbed_after}
+use Rattle.byz_world.proofs.Stepping.{early_answer, absorbed_answer, absorbed_after, recorded_answer}
 
 -- What may be taken.
 
@@ -111,11 +113,11 @@ pub absorbed_stays : (w : WorldValue) (step : Step) (p : PacketValue) → arriva
     is_correct_in w p.to ≡ false → w ≡ after_step w step
 absorbed_stays w step p at liar = absorbed_after w step (at ∙ liar_absorbs w p liar)
 
--- What is told of an event that was recorded.
+-- What is told of an event that counts.
 
-pub reply_told : (w : WorldValue) (r reply : Reply) (first nodes count : ℕ) → r ≡ reply →
-    first ≡ length (pool w.config w.run) → nodes ≡ w.config.roles.sizes.nodes →
-    count ≡ (if is_some (sent_by r) then nodes else 0) → Node r first count ≡ of_reply w reply
-reply_told w r reply first nodes count same number all counted =
-    let many = counted ∙ (λ i. if is_some (sent_by (same i)) then all i else 0) in
-    λ i. Node (same i) (number i) (many i)
+pub recorded_told : (w : WorldValue) (step : Step) (at : ℕ) (e : Event) (entry : EntryValue) →
+    arrival w step ≡ Ok (Some (at, e)) → outlook w.config at (history_of at w.run) e ≡ Ok effect.Counted →
+    entry.reply ≡ reply_to w.config.roles at (history_of at w.run) e →
+    IsStepAnswer w step (told_of w (Ok (came.Recorded entry)))
+recorded_told w step at e entry arrives' counts due =
+    recorded_answer w step at e (Ok (of_reply w entry.reply)) arrives' counts (ap (of_reply w) due) tt

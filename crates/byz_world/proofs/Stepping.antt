@@ -74,7 +74,7 @@ recorded_answer w step at e (Err f) arrives' counts ok memory =
     let P : WorldFault → Type 0 = λ x. IsStepAnswer w step (Err x) in subst P (sym memory)
     (adds_where w step at e arrives' counts)
 
-pub recorded_after : (w w' : WorldValue) (step : Step) (at : ℕ) (e : Event) (r : Result StepReply WorldFault) →
+pub recorded_after : {A : Type 0} (w w' : WorldValue) (step : Step) (at : ℕ) (e : Event) (r : Result A WorldFault) →
     arrival w step ≡ Ok (Some (at, e)) → outlook_at w at e ≡ Ok effect.Counted →
     OnOk r (w' ≡ with_run w (w.run ++ (at, e) ∷ [])) → OnOk r (w' ≡ after_step w step)
 recorded_after w w' step at e (Ok x) arrives' counts ok =

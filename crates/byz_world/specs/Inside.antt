@@ -1,5 +1,5 @@
 -- What holds of a world's fields. Serves the code, and no public contract.
-use Rattle.std.specs.Prelude.{◌≡◌, ⊤, ℕ, ◌≤◌, ◌==◌, Bool, true, false, IsTrue, Result, Ok, Err, List, [], ◌∷◌, ◌++◌, length, count_by, slice_get, Option, Some, None, option_map, option_and_then}
+use Rattle.std.specs.Prelude.{◌≡◌, ⊤, ℕ, ◌≤◌, ◌==◌, Bool, true, false, IsTrue, Result, Ok, Err, List, [], ◌∷◌, ◌++◌, length, count_by, slice_get, is_some, if◌then◌else◌, Option, Some, None, option_map, option_and_then}
 use Rattle.quorum_sizes.specs.NodeSets.{Nodes}
 use Rattle.role_node.specs.Configs.{ConfigValue, most_events}
 use Rattle.role_node.specs.Nodes.{NodeValue}
@@ -14,7 +14,15 @@ use Rattle.std.specs.List.{list_all}
 use Rattle.byz_world.specs.Runs.{Run, is_correct, has_sent, IsClusterRun}
 use Rattle.byz_world.specs.Pools.{Sent, listed, messages, pool}
 use Rattle.byz_world.specs.Worlds.{WorldValue, node_due}
+use Rattle.role_node.specs.declared.event.Reply.{Reply}
+use Rattle.role_node.specs.declared.event.Reply.TheVariants as reply
+use Rattle.byz_world.specs.Pools.{sent_by}
 use Rattle.byz_world.specs.Steps.{is_pool_full, Arrival}
+use Rattle.byz_world.specs.declared.step.Came.{Came}
+use Rattle.byz_world.specs.declared.step.Came.TheVariants as came
+use Rattle.byz_world.specs.declared.step.StepReply.{StepReply}
+use Rattle.byz_world.specs.declared.step.StepReply.TheVariants as told
+use Rattle.byz_world.specs.declared.faults.WorldFault.{WorldFault}
 
 -- a node for each name, none for a liar's
 abbrev pub Members : Type 0
@@ -96,3 +104,17 @@ has_taken node sent = has_taken_packet node (packet_due sent.0 node.me sent.1)
 abbrev pub has_taken_all : List Sent → Option NodeValue → Bool
 has_taken_all sent None = true
 has_taken_all sent (Some node) = list_all (has_taken node) sent
+
+-- the answer by what came of a step, where the pool had so many packets before it
+abbrev pub replied_by : ℕ → ℕ → Reply → StepReply
+replied_by first nodes r = told.Node r first (if is_some (sent_by r) then nodes else 0)
+
+abbrev pub told_by : ℕ → ℕ → Came → StepReply
+told_by first nodes came.Absorbed = told.Absorbed
+told_by first nodes came.Idle = replied_by first nodes reply.Idle
+told_by first nodes (came.Recorded entry) = replied_by first nodes entry.reply
+
+-- .. in a world, with the refusals
+abbrev pub told_of : WorldValue → Result Came WorldFault → Result StepReply WorldFault
+told_of w (Ok c) = Ok (told_by (length (pool w.config w.run)) w.config.roles.sizes.nodes c)
+told_of w (Err f) = Err f

@@ -18,7 +18,7 @@ use bracha_instance::Effect;
 use link_frames::{Kind, Message, Packet};
 use quorum_sizes::{NodeName, NodeSet};
 use role_commands::Command;
-use role_node::{Answer, AskFault, Config, Event, Node, NodeFault, Question, Reply};
+use role_node::{Answer, AskFault, Config, Entry, Event, Node, NodeFault, Question};
 use role_sessions::Verdict;
 use std::alloc::{AllocError, Global};
 
@@ -70,12 +70,12 @@ pub(crate) fn record_at(
     members: &mut Vec<Option<Node>>,
     name: NodeName,
     event: &Event,
-) -> Result<Reply, NodeFault>
+) -> Result<Entry, NodeFault>
     requires member { IsSome (member_in members.old.items name) }
     requires counts { (node : NodeValue) → member_in members.old.items name ≡ Some node →
         outlook node.config node.me node.history event.now ≡ Ok Counted }
     ensures reply { (node : NodeValue) → member_in members.old.items name ≡ Some node →
-        IfOk result (λ reply. reply ≡ reply_to node.config.roles node.me node.history event.now) }
+        IfOk result (λ entry. entry.reply ≡ reply_to node.config.roles node.me node.history event.now) }
     ensures ok { (node : NodeValue) → member_in members.old.items name ≡ Some node →
         OnOk result (members.new.items ≡
         slice_set members.old.items name (Some (with_event node event.now))) }

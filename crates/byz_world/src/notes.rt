@@ -1,9 +1,11 @@
 //! What the nodes of a world send, and the order in which they record.
 
-ghost use Rattle.std.specs.Prelude.{◌≡◌, ◌<◌, ◌++◌, ◌∷◌, [], is_some, option_map, if◌then◌else◌};
+ghost use Rattle.std.specs.Prelude.{◌≡◌, ◌<◌, ◌++◌, ◌∷◌, [], option_map};
 ghost use Rattle.std.specs.Vec.{vec_len, vec_capacity};
 ghost use Rattle.byz_world.specs.Pools.{listed, sent_by};
+ghost use Rattle.byz_world.specs.Inside.{told_by};
 
+use crate::step::{Came, StepReply};
 use link_frames::Message;
 use quorum_sizes::NodeName;
 use role_node::Reply;
@@ -19,6 +21,23 @@ pub(crate) fn sent_by(reply: &Reply) -> Option<Message>
     }
 }
 
+/// What a step answers by what came of it, where so many packets were sent before it and there are so many nodes.
+pub(crate) fn told(came: &Came, first: u32, nodes: u8) -> StepReply
+    ensures { result ≡ told_by first nodes came.now }
+{
+    let reply = match came {
+        Came::Absorbed => return StepReply::Absorbed,
+        Came::Idle => Reply::Idle,
+        Came::Recorded(entry) => entry.reply(),
+    };
+    let count = if sent_by(&reply).is_some() { nodes } else { 0 };
+    StepReply::Node {
+        reply,
+        first,
+        count,
+    }
+}
+
 /// Adds a name where there is room.
 pub(crate) fn note_name(order: &mut Vec<NodeName>, name: NodeName)
     requires { vec_len order.old < vec_capacity order.old }
@@ -27,22 +46,16 @@ pub(crate) fn note_name(order: &mut Vec<NodeName>, name: NodeName)
     let _ = order.push(name);
 }
 
-/// Adds the message that a node sends, if any, where there is room. How many packets that is: one to each node.
+/// Adds the message that a node sends, if any, where there is room.
 pub(crate) fn note_sent(
     sent: &mut Vec<(NodeName, Message)>,
     from: NodeName,
     message: Option<Message>,
-    nodes: u8,
-) -> u8
+)
     requires { vec_len sent.old < vec_capacity sent.old }
-    ensures items { sent.new.items ≡ sent.old.items ++ listed (option_map (λ m. (from, m)) message) }
-    ensures count { result ≡ (if is_some message then nodes else 0) }
+    ensures { sent.new.items ≡ sent.old.items ++ listed (option_map (λ m. (from, m)) message) }
 {
-    match message {
-        Some(message) => {
-            let _ = sent.push((from, message));
-            nodes
-        }
-        None => 0,
+    if let Some(message) = message {
+        let _ = sent.push((from, message));
     }
 }

@@ -1,7 +1,7 @@
 use link_frames::Packet;
 use quorum_sizes::NodeName;
 use role_commands::{Command, Items};
-use role_node::{ClientEvent, Reply};
+use role_node::{ClientEvent, Entry, Reply};
 
 /// What may happen next to a cluster.
 #[derive(Drop, Debug)]
@@ -32,4 +32,15 @@ pub enum StepReply {
         /// How many packets it sent: none, or one to each node.
         count: u8,
     },
+}
+
+/// What comes of a step that is not refused.
+#[derive(Clone, Copy)]
+pub(crate) enum Came {
+    /// The packet went to a liar.
+    Absorbed,
+    /// The node has taken the packet before.
+    Idle,
+    /// The node has recorded this.
+    Recorded(Entry),
 }

@@ -12,11 +12,11 @@ ghost use Rattle.byz_world.specs.Runs.{history_of, has_sent};
 ghost use Rattle.byz_world.specs.LabKeys.{ring_due};
 ghost use Rattle.byz_world.specs.Pools.{pool, sent_by};
 ghost use Rattle.byz_world.specs.Worlds.{new_world, is_correct_in, node_due};
-ghost use Rattle.byz_world.specs.Steps.{arrival, opened_at, unless_forged, arrives, is_forged, is_pool_full, of_reply, with_run, after_step, after_steps, IsStepAnswer};
+ghost use Rattle.byz_world.specs.Steps.{arrival, opened_at, unless_forged, arrives, is_forged, is_pool_full, with_run, adds, after_step, after_steps, IsStepAnswer};
 ghost use Rattle.byz_world.specs.Agreement.{agree_due};
 ghost use Rattle.byz_world.specs.Resting.{IsAtRest};
 ghost use Rattle.byz_world.specs.Asking.{IsMade, IsQuestionAnswer, decision_due};
-ghost use Rattle.byz_world.specs.Inside.{MayHappen, MayArrive};
+ghost use Rattle.byz_world.specs.Inside.{MayHappen, MayArrive, told_of};
 ghost use Rattle.byz_world.specs.Steps.{IsSound};
 ghost use Rattle.byz_world.specs.Worlds.{IsClusterRunOf};
 ghost use Rattle.byz_world.specs.declared.step.Step.{Step};
@@ -26,13 +26,13 @@ ghost use Rattle.byz_world.specs.declared.faults.WorldFault.TheVariants as fault
 use crate::faults::WorldFault;
 use crate::keys::{keys_of, new_keys};
 use crate::members::{ask_at, check_at, has_said, member, new_members, record_at, takes_all};
-use crate::notes::{note_name, note_sent, sent_by};
-use crate::step::{Step, StepReply};
+use crate::notes::{note_name, note_sent, sent_by, told};
+use crate::step::{Came, Step, StepReply};
 use bracha_instance::Effect;
 use link_frames::{LinkFault, Message, Packet, PairKeys, open_frame};
 use quorum_sizes::{NodeName, NodeSet, Sizes};
 use role_commands::Command;
-use role_node::{Answer, AskFault, ClientEvent, Config, Event, Node, NodeFault, Question, Reply};
+use role_node::{Answer, AskFault, ClientEvent, Config, Entry, Event, Node, NodeFault, Question};
 use role_sessions::Verdict;
 use std::alloc::{AllocError, Global};
 use std::marker::Model;
@@ -115,9 +115,15 @@ impl World {
         Ok(world)
     }
 
-    /// A step that is passed over where it is refused.
-    fn pass(&mut self, step: &Step) -> Result<(), AllocError>
+    /// Does a step whose answer nobody asks for. Where it is refused it is passed over.
+    ///
+    /// # Errors
+    ///
+    /// Only for want of memory, where the step would add to the run. The world stays as it was.
+    pub fn pass(&mut self, step: &Step) -> Result<(), AllocError>
         ensures after { OnOk result (self.new ≡ after_step self.old step.now) }
+        ensures err { OnErr result (self.new ≡ self.old) }
+        ensures memory { OnErr result (IsTrue (adds self.old step.now)) }
         ensures run { IsClusterRunOf self.new }
     {
         match self.answer(step) {
@@ -142,11 +148,14 @@ impl World {
         ensures err { OnErr result (self.new ≡ self.old) }
         ensures run { IsClusterRunOf self.new }
     {
-        self.answer(&step)
+        let first = self.sent_len();
+        let nodes = self.sizes().n();
+        let came = self.answer(&step)?;
+        Ok(told(&came, first, nodes))
     }
 
-    fn answer(&mut self, step: &Step) -> Result<StepReply, WorldFault>
-        ensures due { IsStepAnswer self.old step.now result }
+    fn answer(&mut self, step: &Step) -> Result<Came, WorldFault>
+        ensures due { IsStepAnswer self.old step.now (told_of self.old result) }
         ensures ok { OnOk result (self.new ≡ after_step self.old step.now) }
         ensures err { OnErr result (self.new ≡ self.old) }
         ensures run { IsClusterRunOf self.new }
@@ -161,8 +170,8 @@ impl World {
     }
 
     /// A correct node publishes a command.
-    fn issue(&mut self, name: NodeName, command: Command) -> Result<StepReply, WorldFault>
-        ensures due { IsStepAnswer self.old (Issue name command) result }
+    fn issue(&mut self, name: NodeName, command: Command) -> Result<Came, WorldFault>
+        ensures due { IsStepAnswer self.old (Issue name command) (told_of self.old result) }
         ensures ok { OnOk result (self.new ≡ after_step self.old (Issue name command)) }
         ensures err { OnErr result (self.new ≡ self.old) }
         ensures run { IsClusterRunOf self.new }
@@ -177,8 +186,8 @@ impl World {
     }
 
     /// The packet of this number comes to its receiver.
-    fn give(&mut self, number: u32) -> Result<StepReply, WorldFault>
-        ensures due { IsStepAnswer self.old (Give number) result }
+    fn give(&mut self, number: u32) -> Result<Came, WorldFault>
+        ensures due { IsStepAnswer self.old (Give number) (told_of self.old result) }
         ensures ok { OnOk result (self.new ≡ after_step self.old (Give number)) }
         ensures err { OnErr result (self.new ≡ self.old) }
         ensures run { IsClusterRunOf self.new }
@@ -191,8 +200,8 @@ impl World {
     }
 
     /// A packet comes to its receiver that anybody may have sent.
-    fn lie(&mut self, packet: &Packet) -> Result<StepReply, WorldFault>
-        ensures due { IsStepAnswer self.old (Lie packet.now) result }
+    fn lie(&mut self, packet: &Packet) -> Result<Came, WorldFault>
+        ensures due { IsStepAnswer self.old (Lie packet.now) (told_of self.old result) }
         ensures ok { OnOk result (self.new ≡ after_step self.old (Lie packet.now)) }
         ensures err { OnErr result (self.new ≡ self.old) }
         ensures run { IsClusterRunOf self.new }
@@ -204,8 +213,8 @@ impl World {
     }
 
     /// Bytes come to a correct node.
-    fn receive(&mut self, to: NodeName, bytes: &[u8]) -> Result<StepReply, WorldFault>
-        ensures due { IsStepAnswer self.old (Bytes to bytes.now) result }
+    fn receive(&mut self, to: NodeName, bytes: &[u8]) -> Result<Came, WorldFault>
+        ensures due { IsStepAnswer self.old (Bytes to bytes.now) (told_of self.old result) }
         ensures ok { OnOk result (self.new ≡ after_step self.old (Bytes to bytes.now)) }
         ensures err { OnErr result (self.new ≡ self.old) }
         ensures run { IsClusterRunOf self.new }
@@ -219,8 +228,8 @@ impl World {
     }
 
     /// A client acts at a correct node.
-    fn act(&mut self, name: NodeName, act: ClientEvent) -> Result<StepReply, WorldFault>
-        ensures due { IsStepAnswer self.old (Client name act) result }
+    fn act(&mut self, name: NodeName, act: ClientEvent) -> Result<Came, WorldFault>
+        ensures due { IsStepAnswer self.old (Client name act) (told_of self.old result) }
         ensures ok { OnOk result (self.new ≡ after_step self.old (Client name act)) }
         ensures err { OnErr result (self.new ≡ self.old) }
         ensures run { IsClusterRunOf self.new }
@@ -232,9 +241,9 @@ impl World {
     }
 
     /// A packet comes to its receiver, unless it is forged.
-    fn unless_forged(&mut self, packet: Packet) -> Result<StepReply, WorldFault>
+    fn unless_forged(&mut self, packet: Packet) -> Result<Came, WorldFault>
         ensures due { (step : Step) → arrival self.old step ≡ unless_forged self.old packet →
-            IsStepAnswer self.old step result }
+            IsStepAnswer self.old step (told_of self.old result) }
         ensures ok { (step : Step) → arrival self.old step ≡ unless_forged self.old packet →
             OnOk result (self.new ≡ after_step self.old step) }
         ensures err { OnErr result (self.new ≡ self.old) }
@@ -247,10 +256,10 @@ impl World {
     }
 
     /// A packet that may be taken comes to its receiver. A liar absorbs it.
-    fn arrive(&mut self, packet: Packet) -> Result<StepReply, WorldFault>
+    fn arrive(&mut self, packet: Packet) -> Result<Came, WorldFault>
         requires { MayArrive self.old (arrives self.old packet) }
         ensures due { (step : Step) → arrival self.old step ≡ arrives self.old packet →
-            IsStepAnswer self.old step result }
+            IsStepAnswer self.old step (told_of self.old result) }
         ensures ok { (step : Step) → arrival self.old step ≡ arrives self.old packet →
             OnOk result (self.new ≡ after_step self.old step) }
         ensures err { OnErr result (self.new ≡ self.old) }
@@ -258,7 +267,7 @@ impl World {
     {
         let to = packet.to();
         if !self.is_correct(to) {
-            return Ok(StepReply::Absorbed);
+            return Ok(Came::Absorbed);
         }
         if self.is_full() {
             return Err(WorldFault::PoolFull);
@@ -314,22 +323,18 @@ impl World {
     }
 
     /// Has a node answer an event.
-    fn happen(&mut self, name: NodeName, event: &Event) -> Result<StepReply, WorldFault>
+    fn happen(&mut self, name: NodeName, event: &Event) -> Result<Came, WorldFault>
         requires { MayHappen self.old name event.now }
         ensures due { (step : Step) → arrival self.old step ≡ Ok (Some (name, event.now)) →
-            IsStepAnswer self.old step result }
+            IsStepAnswer self.old step (told_of self.old result) }
         ensures ok { (step : Step) → arrival self.old step ≡ Ok (Some (name, event.now)) →
             OnOk result (self.new ≡ after_step self.old step) }
         ensures err { OnErr result (self.new ≡ self.old) }
         ensures run { IsClusterRunOf self.new }
     {
         match self.look(name, event) {
-            Ok(Effect::Counted) => self.record(name, event),
-            Ok(Effect::Idle) => Ok(StepReply::Node {
-                reply: Reply::Idle,
-                first: self.sent_len(),
-                count: 0,
-            }),
+            Ok(Effect::Counted) => Ok(Came::Recorded(self.record(name, event)?)),
+            Ok(Effect::Idle) => Ok(Came::Idle),
             Err(fault) => Err(WorldFault::Node(fault)),
         }
     }
@@ -347,30 +352,24 @@ impl World {
     }
 
     /// Has a node record an event that counts, and keeps what it sends. Room is made before.
-    fn record(&mut self, name: NodeName, event: &Event) -> Result<StepReply, WorldFault>
+    fn record(&mut self, name: NodeName, event: &Event) -> Result<Entry, WorldFault>
         requires may { MayHappen self.old name event.now }
         requires counts { outlook self.old.config name (history_of name self.old.run) event.now ≡ Ok Counted }
-        ensures reply { IfOk result (λ reply. reply ≡
-            of_reply self.old (reply_to self.old.config.roles name (history_of name self.old.run) event.now)) }
+        ensures reply { IfOk result (λ entry.
+            entry.reply ≡ reply_to self.old.config.roles name (history_of name self.old.run) event.now) }
         ensures ok { OnOk result (self.new ≡ with_run self.old (self.old.run ++ (name, event.now) ∷ [])) }
         ensures err { OnErr result (self.new ≡ self.old) }
         ensures memory { IfErr result (λ refusal. refusal ≡ fault.Memory) }
         ensures run { IsClusterRunOf self.new }
     {
-        let first = self.sent_len();
-        let nodes = self.sizes().n();
         self.order.try_reserve(1)?;
         self.sent.try_reserve(1)?;
-        let Ok(reply) = record_at(&mut self.members, name, event) else {
+        let Ok(entry) = record_at(&mut self.members, name, event) else {
             return Err(WorldFault::Memory);
         };
         note_name(&mut self.order, name);
-        let count = note_sent(&mut self.sent, name, sent_by(&reply), nodes);
-        Ok(StepReply::Node {
-            reply,
-            first,
-            count,
-        })
+        note_sent(&mut self.sent, name, sent_by(&entry.reply()));
+        Ok(entry)
     }
 
     /// The answer to a question at a correct node. Nothing is recorded.

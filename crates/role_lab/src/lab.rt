@@ -131,7 +131,7 @@ impl Lab {
         ensures { OnOk result (lab_in self.new ≡ after_doing (lab_in self.old) (Give packet)) }
     {
         self.given.mark(packet)?;
-        pass(&mut self.world, Step::Give { packet })
+        self.world.pass(&Step::Give { packet })
     }
 
     fn rests(&self) -> bool
@@ -153,16 +153,6 @@ impl Lab {
             Some(node) => reached_text(alloc, node.reach(owner)),
             None => format!(in alloc; "{}", WorldFault::NotCorrect),
         }
-    }
-}
-
-/// Does a step, whatever its answer is.
-fn pass(world: &mut World, step: Step) -> Result<(), AllocError>
-    ensures { OnOk result (world.new ≡ after_step world.old step) }
-{
-    match world.step(step) {
-        Ok(_) => Ok(()),
-        Err(fault) => unless_memory(fault),
     }
 }
 

@@ -1,4 +1,4 @@
-ghost use Rattle.std.specs.Prelude.{◌≡◌, ◌<◌, map, slice_get, IfOk, IfErr, OnErr, Ok};
+ghost use Rattle.std.specs.Prelude.{◌≡◌, ◌<◌, map, slice_get, IfOk, IfErr, OnOk, OnErr, Ok};
 ghost use Rattle.bracha_instance.specs.declared.instance.Effect.TheVariants.{Counted};
 ghost use Rattle.role_node.specs.Access.{stream_at, reach_at, sessions_at, verdict_at, sent_at};
 ghost use Rattle.role_node.specs.Questions.{ask_due, IsAsked, IsAnswerTo};
@@ -80,7 +80,7 @@ impl Node {
     {
         match self.look(&event)? {
             Effect::Idle => Ok(Reply::Idle),
-            Effect::Counted => self.record(&event),
+            Effect::Counted => Ok(self.record(&event)?.reply()),
         }
     }
 
@@ -106,15 +106,17 @@ impl Node {
     }
 
     /// Records an event that counts, as [`apply`](Self::apply) does where [`look`](Self::look) answers that it does.
+    /// The entry that is recorded.
     ///
     /// # Errors
     ///
     /// Only want of memory. The node stays as it was.
-    pub fn record(&mut self, event: &Event) -> Result<Reply, NodeFault>
+    pub fn record(&mut self, event: &Event) -> Result<Entry, NodeFault>
         requires { outlook self.old.config self.old.me self.old.history event.now ≡ Ok Counted }
-        ensures reply { IfOk result (λ reply.
-            reply ≡ reply_to self.old.config.roles self.old.me self.old.history event.now) }
-        ensures ok { IfOk result (λ reply. self.new ≡ with_event self.old event.now) }
+        ensures event { IfOk result (λ entry. entry.event ≡ event.now) }
+        ensures reply { IfOk result (λ entry.
+            entry.reply ≡ reply_to self.old.config.roles self.old.me self.old.history event.now) }
+        ensures ok { OnOk result (self.new ≡ with_event self.old event.now) }
         ensures err { OnErr result (self.new ≡ self.old) }
         ensures memory { IfErr result (λ fault. fault ≡ Memory) }
         ensures config { self.new.config ≡ self.old.config }
@@ -124,7 +126,7 @@ impl Node {
         self.entries.try_reserve(1)?;
         let entry = self.state.answer(self.me, event)?;
         push_within_capacity(&mut self.entries, entry);
-        Ok(entry.reply())
+        Ok(entry)
     }
 
     /// The decision on an access: the first denial that holds, and where none does the first role, in the order of

@@ -1,34 +1,30 @@
 use Rattle.std.proofs.Common.{[], ◌∷◌, ◌++◌, ap, ◌∙◌}
-use Rattle.std.specs.Prelude.{if◌then◌else◌, is_some, option_map}
-use Rattle.byz_world.specs.Pools.{listed}
-use Rattle.byz_world.proofs.Recording.{IsRecorded, is_recorded_in, member_is}
-use Rattle.byz_world.proofs.Arriving.{reply_told}
+use Rattle.std.specs.Prelude.{option_map}
+use Rattle.byz_world.specs.Pools.{listed, sent_by}
+use Rattle.byz_world.proofs.Recording.{IsRecorded, is_recorded_in}
 use Rattle.byz_world.proofs.world.World.record.Goals as goal
 
-recorded : (c : goal.After-note_sent-count) →
-    IsRecorded c.self.inside.config c.self.inside.liars c.args.self.now c.args.name c.args.event.now c.in-Ok.reply
-    c.record_at.new.members.items c.note_name.new.order.items c.note_sent-count.new.sent.items
+recorded : (c : goal.After-note_sent) →
+    IsRecorded c.self.inside.config c.self.inside.liars c.args.self.now c.args.name c.args.event.now c.in-Ok.entry.reply
+    c.record_at.new.members.items c.note_name.new.order.items c.note_sent.new.sent.items
 recorded c =
     let a = c.self.inside in
     is_recorded_in a.config a.liars a.members.items a.order.items a.sent.items c.args.self.now c.args.name
-    c.args.event.now c.in-Ok.reply
-    c.record_at.new.members.items c.note_name.new.order.items c.note_sent-count.new.sent.items c.self.invariant.world
+    c.args.event.now c.in-Ok.entry.reply
+    c.record_at.new.members.items c.note_name.new.order.items c.note_sent.new.sent.items c.self.invariant.world
     c.self.view_is
     c.requires.may c.requires.counts (λ node here. c.in-Ok.ensures.reply node here)
     (λ node here. c.in-Ok.ensures.ok node here)
     (c.note_name.ensures ∙ ap (λ names. names ++ c.args.name ∷ []) c.try_reserve.ensures.items)
-    (c.note_sent-count.ensures.items
-    ∙ (λ i. c.try_reserve-2.ensures.items i ++ listed (option_map (λ m. (c.args.name, m)) (c.sent_by.ensures i))))
+    (c.note_sent.ensures
+    ∙ (λ i. c.try_reserve-2.ensures.items i
+    ++ listed (option_map (λ m. (c.args.name, m)) ((c.sent_by.ensures ∙ ap sent_by c.reply.ensures) i))))
 
 pub invariant_of-self-2 : goal.invariant_of-self-2
 invariant_of-self-2 c = record { world = (recorded c).grown.is; keys = c.self.invariant.keys }
 
 pub returns-clause-reply : goal.returns-clause-reply
-returns-clause-reply c =
-    reply_told c.args.self.now c.in-Ok.reply _ c.sent_len-first.result c.n-nodes.result c.note_sent-count.result
-    (recorded c).reply_is c.sent_len-first.ensures.value
-    (c.n-nodes.ensures.value ∙ ap (λ s. s.nodes) c.sizes.ensures.value)
-    (c.note_sent-count.ensures.count ∙ ap (λ m. if is_some m then c.n-nodes.result else 0) c.sent_by.ensures)
+returns-clause-reply c = (recorded c).reply_is
 
 pub returns-clause-ok : goal.returns-clause-ok
 returns-clause-ok c =
