@@ -66,6 +66,7 @@ impl Model for Instance {
 }
 
 /// What was due, or else this command where it is due now.
+#[inline(always)]
 pub(crate) fn first_of(before: Option<Command>, due: bool, command: Command) -> Option<Command>
     ensures { result ≡ option_or before (only_if due command) }
 {
@@ -77,6 +78,7 @@ pub(crate) fn first_of(before: Option<Command>, due: bool, command: Command) -> 
 }
 
 /// What there is now and was not before.
+#[inline(always)]
 pub(crate) fn newly_of(before: Option<Command>, now: Option<Command>) -> Option<Command>
     ensures { result ≡ newly before now }
 {
@@ -87,6 +89,7 @@ pub(crate) fn newly_of(before: Option<Command>, now: Option<Command>) -> Option<
 }
 
 /// The message for what was newly echoed or readied.
+#[inline(always)]
 pub(crate) fn message_for(
     echoed: Option<Command>,
     readied: Option<Command>,
@@ -139,6 +142,7 @@ impl Instance {
     /// # Errors
     ///
     /// `AllocError`, where there is no memory for one more vote. It changes nothing.
+    #[inline(always)]
     pub fn take(
         &mut self,
         sizes: &Sizes,
@@ -187,6 +191,7 @@ impl Instance {
         })
     }
 
+    #[inline(always)]
     fn count(
         &mut self,
         sizes: &Sizes,
@@ -216,6 +221,7 @@ impl Instance {
     }
 
     /// Counts a node's first ECHO. After a delivery it can make nothing ready.
+    #[inline(always)]
     fn count_echo(
         &mut self,
         sizes: &Sizes,
@@ -237,6 +243,7 @@ impl Instance {
     }
 
     /// Counts a node's first READY. After a delivery it can cause nothing.
+    #[inline(always)]
     fn count_ready(
         &mut self,
         sizes: &Sizes,
@@ -265,6 +272,7 @@ impl Instance {
     /// Whether that node's message of that kind was taken: [`take`](Self::take) would answer that it is idle.
     ///
     /// Takes no memory.
+    #[inline(always)]
     pub fn voted(&self, kind: Kind, from: NodeName) -> bool
         ensures seen { result ≡ has_voted self.now kind from }
         ensures vote { (s : Counts) (takes : List Take) (owner : ℕ) (command : Command) →

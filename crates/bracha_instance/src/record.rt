@@ -66,6 +66,7 @@ impl Record {
     }
 
     /// Takes a message, as [`Instance::take`](crate::Instance::take) does.
+    #[inline(always)]
     pub fn take(&mut self, kind: Kind, from: NodeName, command: Command) -> Taken
         ensures state { let t : Take = record { kind = kind; from = from; command = command } in
             (s : Counts) (takes : List Take) →
@@ -115,6 +116,7 @@ impl Record {
     }
 
     /// Whether that node's message of that kind was taken: [`take`](Self::take) would answer that it is idle.
+    #[inline(always)]
     pub fn voted(&self, kind: Kind, from: NodeName) -> bool
         ensures seen { result ≡ has_voted self.now kind from }
         ensures vote { (s : Counts) (takes : List Take) (owner : ℕ) (command : Command) →

@@ -43,6 +43,7 @@ impl Model for Tallies {
 }
 
 impl Tally {
+    #[inline(always)]
     fn support(&self) -> Support
         ensures echoes { result.echoes ≡ sets.len self.now.echoes }
         ensures readies { result.readies ≡ sets.len self.now.readies }
@@ -55,6 +56,7 @@ impl Tally {
 }
 
 /// Whether two commands are the same.
+#[inline(always)]
 fn is_same(a: &Command, b: &Command) -> bool
     ensures { result ≡ same_command a.now b.now }
 {
@@ -62,15 +64,20 @@ fn is_same(a: &Command, b: &Command) -> bool
 }
 
 /// The place of the command's tally.
+#[inline(always)]
 fn place_of(tallies: &[Tally], command: &Command) -> Option<usize>
     ensures { result ≡ position (is_tally_of command.now) tallies.now }
 {
+    if is_same(command, &tallies.first()?.command) {
+        return Some(0);
+    }
     tallies
         .iter()
         .position(|tally| is_same(command, &tally.command))
 }
 
 /// The place of the command's tally, which is made where there is none.
+#[inline(always)]
 fn tally_of(tallies: &mut Vec<Tally>, command: Command) -> Result<usize, AllocError>
     ensures place { IfOk result (λ at. IsFirst command tallies.new.items at) }
     ensures tallies { OnOk result (tallies.new.items ≡ with_tally (λ t. t) command tallies.old.items) }
@@ -91,6 +98,7 @@ fn tally_of(tallies: &mut Vec<Tally>, command: Command) -> Result<usize, AllocEr
 }
 
 /// Adds a name to the ECHOs for a command. How many nodes support it then.
+#[inline(always)]
 fn add_echo(
     tallies: &mut Vec<Tally>,
     name: NodeName,
@@ -107,6 +115,7 @@ fn add_echo(
 }
 
 /// Adds a name to the READYs for a command. How many nodes support it then.
+#[inline(always)]
 fn add_ready(
     tallies: &mut Vec<Tally>,
     name: NodeName,
@@ -137,6 +146,7 @@ impl Tallies {
     /// # Errors
     ///
     /// `AllocError`, which changes nothing.
+    #[inline(always)]
     pub fn count_echo(&mut self, name: NodeName, command: Command) -> Result<Support, AllocError>
         requires { maps.get self.old.echoes name ≡ None }
         ensures ok { OnOk result (self.new ≡ with_echo self.old name command) }
@@ -152,6 +162,7 @@ impl Tallies {
     /// # Errors
     ///
     /// `AllocError`, which changes nothing.
+    #[inline(always)]
     pub fn count_ready(&mut self, name: NodeName, command: Command) -> Result<Support, AllocError>
         requires { maps.get self.old.readies name ≡ None }
         ensures ok { OnOk result (self.new ≡ with_ready self.old name command) }

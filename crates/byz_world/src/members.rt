@@ -56,6 +56,7 @@ fn new_member(
 }
 
 /// The node of this name, if it does not lie.
+#[inline(always)]
 pub(crate) fn member(members: &[Option<Node>], name: NodeName) -> Option<&Node>
     ensures { option_copied result ≡ member_in members.now name }
 {
@@ -66,6 +67,7 @@ pub(crate) fn member(members: &[Option<Node>], name: NodeName) -> Option<&Node>
 }
 
 /// Has a node record an event that counts there.
+#[inline(always)]
 pub(crate) fn record_at(
     members: &mut Vec<Option<Node>>,
     name: NodeName,

@@ -11,6 +11,7 @@ use quorum_sizes::NodeName;
 use role_node::Reply;
 
 /// The message that a reply has the node send to all.
+#[inline(always)]
 pub(crate) fn sent_by(reply: &Reply) -> Option<Message>
     ensures { result ≡ sent_by reply.now }
 {
@@ -39,14 +40,16 @@ pub(crate) fn told(came: &Came, first: u32, nodes: u8) -> StepReply
 }
 
 /// Adds a name where there is room.
+#[inline(always)]
 pub(crate) fn note_name(order: &mut Vec<NodeName>, name: NodeName)
     requires { vec_len order.old < vec_capacity order.old }
     ensures { order.new.items ≡ order.old.items ++ name ∷ [] }
 {
-    let _ = order.push(name);
+    order.push_reserved(name);
 }
 
 /// Adds the message that a node sends, if any, where there is room.
+#[inline(always)]
 pub(crate) fn note_sent(
     sent: &mut Vec<(NodeName, Message)>,
     from: NodeName,
@@ -56,6 +59,6 @@ pub(crate) fn note_sent(
     ensures { sent.new.items ≡ sent.old.items ++ listed (option_map (λ m. (from, m)) message) }
 {
     if let Some(message) = message {
-        let _ = sent.push((from, message));
+        sent.push_reserved((from, message));
     }
 }

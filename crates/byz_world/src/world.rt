@@ -154,6 +154,7 @@ impl World {
         Ok(told(&came, first, nodes))
     }
 
+    #[inline(always)]
     fn answer(&mut self, step: &Step) -> Result<Came, WorldFault>
         ensures due { IsStepAnswer self.old step.now (told_of self.old result) }
         ensures ok { OnOk result (self.new ≡ after_step self.old step.now) }
@@ -170,6 +171,7 @@ impl World {
     }
 
     /// A correct node publishes a command.
+    #[inline(never)]
     fn issue(&mut self, name: NodeName, command: Command) -> Result<Came, WorldFault>
         ensures due { IsStepAnswer self.old (Issue name command) (told_of self.old result) }
         ensures ok { OnOk result (self.new ≡ after_step self.old (Issue name command)) }
@@ -186,6 +188,7 @@ impl World {
     }
 
     /// The packet of this number comes to its receiver.
+    #[inline(always)]
     fn give(&mut self, number: u32) -> Result<Came, WorldFault>
         ensures due { IsStepAnswer self.old (Give number) (told_of self.old result) }
         ensures ok { OnOk result (self.new ≡ after_step self.old (Give number)) }
@@ -200,6 +203,7 @@ impl World {
     }
 
     /// A packet comes to its receiver that anybody may have sent.
+    #[inline(never)]
     fn lie(&mut self, packet: &Packet) -> Result<Came, WorldFault>
         ensures due { IsStepAnswer self.old (Lie packet.now) (told_of self.old result) }
         ensures ok { OnOk result (self.new ≡ after_step self.old (Lie packet.now)) }
@@ -213,6 +217,7 @@ impl World {
     }
 
     /// Bytes come to a correct node.
+    #[inline(never)]
     fn receive(&mut self, to: NodeName, bytes: &[u8]) -> Result<Came, WorldFault>
         ensures due { IsStepAnswer self.old (Bytes to bytes.now) (told_of self.old result) }
         ensures ok { OnOk result (self.new ≡ after_step self.old (Bytes to bytes.now)) }
@@ -228,6 +233,7 @@ impl World {
     }
 
     /// A client acts at a correct node.
+    #[inline(never)]
     fn act(&mut self, name: NodeName, act: ClientEvent) -> Result<Came, WorldFault>
         ensures due { IsStepAnswer self.old (Client name act) (told_of self.old result) }
         ensures ok { OnOk result (self.new ≡ after_step self.old (Client name act)) }
@@ -241,6 +247,7 @@ impl World {
     }
 
     /// A packet comes to its receiver, unless it is forged.
+    #[inline(never)]
     fn unless_forged(&mut self, packet: Packet) -> Result<Came, WorldFault>
         ensures due { (step : Step) → arrival self.old step ≡ unless_forged self.old packet →
             IsStepAnswer self.old step (told_of self.old result) }
@@ -256,6 +263,7 @@ impl World {
     }
 
     /// A packet that may be taken comes to its receiver. A liar absorbs it.
+    #[inline(always)]
     fn arrive(&mut self, packet: Packet) -> Result<Came, WorldFault>
         requires { MayArrive self.old (arrives self.old packet) }
         ensures due { (step : Step) → arrival self.old step ≡ arrives self.old packet →
@@ -286,6 +294,7 @@ impl World {
     }
 
     /// Whether the pool has no room for what a node may send.
+    #[inline(always)]
     fn is_full(&self) -> bool
         ensures { result ≡ is_pool_full self.now }
     {
@@ -323,6 +332,7 @@ impl World {
     }
 
     /// Has a node answer an event.
+    #[inline(always)]
     fn happen(&mut self, name: NodeName, event: &Event) -> Result<Came, WorldFault>
         requires { MayHappen self.old name event.now }
         ensures due { (step : Step) → arrival self.old step ≡ Ok (Some (name, event.now)) →
@@ -340,6 +350,7 @@ impl World {
     }
 
     /// The first refusal of a node, or whether the event counts there.
+    #[inline(always)]
     fn look(&self, name: NodeName, event: &Event) -> Result<Effect, NodeFault>
         requires { IsTrue (is_correct_in self.now name) }
         ensures due { result ≡ outlook self.now.config name (history_of name self.now.run) event.now }
@@ -352,6 +363,7 @@ impl World {
     }
 
     /// Has a node record an event that counts, and keeps what it sends. Room is made before.
+    #[inline(always)]
     fn record(&mut self, name: NodeName, event: &Event) -> Result<Entry, WorldFault>
         requires may { MayHappen self.old name event.now }
         requires counts { outlook self.old.config name (history_of name self.old.run) event.now ≡ Ok Counted }
@@ -435,6 +447,7 @@ impl World {
         member(&self.members, name)
     }
 
+    #[inline(always)]
     fn is_correct(&self, name: NodeName) -> bool
         ensures value { result ≡ is_correct_in self.now name }
         ensures run { IsClusterRunOf self.now }
@@ -443,6 +456,7 @@ impl World {
     }
 
     /// The packet of this number that a correct node has sent.
+    #[inline(always)]
     pub fn sent(&self, number: u32) -> Option<Packet>
         ensures { result ≡ slice_get (pool self.now.config self.now.run) number }
     {
@@ -455,6 +469,7 @@ impl World {
     }
 
     /// How many packets the correct nodes have sent.
+    #[inline(always)]
     pub fn sent_len(&self) -> u32
         ensures value { result ≡ length (pool self.now.config self.now.run) }
         ensures limit { result ≤ self.now.config.limit }

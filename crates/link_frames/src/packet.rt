@@ -44,6 +44,7 @@ impl Model for Packet {
 
 impl Packet {
     /// The packet of a message, or `None` where the message is a SEND of which `from` is not the owner.
+    #[inline(always)]
     pub fn new(from: NodeName, to: NodeName, message: Message) -> Option<Packet>
         ensures value { result ≡ packet_due from to message }
         ensures found { IfSome result (λ p. (p ≡ packet_of from to message) × IsPacket p) }
@@ -99,6 +100,7 @@ impl Packet {
 
     /// Its message. What the packet keeps is known of it: a SEND comes from its owner, and the numbers
     /// are within their widths.
+    #[inline(always)]
     pub fn message(&self) -> Message
         ensures value { result ≡ message_of self.now }
         ensures kept { IsPacket self.now }

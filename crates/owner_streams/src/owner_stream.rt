@@ -50,6 +50,7 @@ impl OwnerStream {
     }
 
     /// Takes a packet of this owner. An `Err` changes nothing that the places hold.
+    #[inline(always)]
     pub(crate) fn take(&mut self, sizes: &Sizes, packet: &Packet) -> Result<StreamStep, StreamFault>
         requires from { packet.now.from < sizes.now.nodes }
         requires kept { IsOwnerStream sizes.now self.old }
@@ -88,6 +89,7 @@ impl OwnerStream {
     }
 
     /// Takes a packet at its place. No other place is changed, and there is room for a whole window of records.
+    #[inline(always)]
     fn take_at(&mut self, sizes: &Sizes, packet: &Packet) -> Result<Taken, AllocError>
         requires from { packet.now.from < sizes.now.nodes }
         requires window { packet.now.place < reach_in self.old + window }
@@ -111,6 +113,7 @@ impl OwnerStream {
 
     /// Moves what is delivered at the front of the window to the records, where something was delivered. Only then
     /// can there be any.
+    #[inline(always)]
     fn advance_if(&mut self, is_delivered: bool)
         requires room { reach_in self.old + window ≤ vec_capacity self.old.below }
         requires run { (place : ℕ) → place < reach_in self.old → IsSome (delivered_in (held self.old place)) }
@@ -166,6 +169,7 @@ impl OwnerStream {
     }
 
     /// The effect that a packet of this owner would have, or its refusal.
+    #[inline(always)]
     pub(crate) fn look(&self, packet: &Packet) -> Result<Effect, StreamFault>
         requires { reach_in self.now ≤ place_count }
         ensures seen { result ≡ look_in self.now packet.now }
@@ -186,6 +190,7 @@ impl OwnerStream {
     }
 
     /// Whether a packet changes nothing at its place.
+    #[inline(always)]
     fn voted(&self, packet: &Packet) -> bool
         ensures seen { result ≡ voted_in (held self.now packet.now.place) packet.now.kind packet.now.from }
         ensures vote { (s : Counts) (takes : List Take) (owner : ℕ) →
@@ -206,6 +211,7 @@ impl OwnerStream {
     }
 
     /// How far the stream reaches.
+    #[inline(always)]
     pub(crate) fn reach(&self) -> u32
         requires { reach_in self.now ≤ place_count }
         ensures { result ≡ reach_in self.now }
@@ -250,6 +256,7 @@ impl OwnerStream {
     }
 
     /// The instance at a place that the stream doesn't reach beyond.
+    #[inline(always)]
     fn instance_at(&self, place: usize) -> Option<&Instance>
         requires { reach_in self.now ≤ place }
         ensures { option_copied result ≡ held self.now place }
@@ -261,6 +268,7 @@ impl OwnerStream {
     }
 
     /// The record of a place that the stream reaches beyond.
+    #[inline(always)]
     fn record_at(&self, place: usize) -> &Record
         requires { place < reach_in self.now }
         ensures { held self.now place ≡ Some result.now }
@@ -270,6 +278,7 @@ impl OwnerStream {
 }
 
 /// The instance in a slot.
+#[inline(always)]
 fn instance_in(ring: &[Option<Instance>], slot: usize) -> Option<&Instance>
     ensures { option_copied result ≡ slot_at ring.now slot }
 {
@@ -282,7 +291,7 @@ fn push_record(records: &mut Vec<Record>, record: Record)
     ensures items { records.new.items ≡ records.old.items ++ «record» ∷ [] }
     ensures capacity { vec_capacity records.old ≤ vec_capacity records.new }
 {
-    let _within = records.push(record);
+    records.push_reserved(record);
 }
 
 /// Frees a slot.
@@ -294,6 +303,7 @@ fn free_slot(ring: &mut Vec<Option<Instance>>, slot: usize)
 }
 
 /// Takes a packet in its record. No other record is changed.
+#[inline(always)]
 fn take_record(records: &mut Vec<Record>, place: usize, packet: &Packet) -> Taken
     requires { place < length records.old.items }
     ensures len { length records.new.items ≡ length records.old.items }
@@ -308,6 +318,7 @@ fn take_record(records: &mut Vec<Record>, place: usize, packet: &Packet) -> Take
 }
 
 /// Takes a packet in its slot. No other slot is changed.
+#[inline(always)]
 fn take_slot(
     ring: &mut Vec<Option<Instance>>,
     slot: usize,
@@ -329,6 +340,7 @@ fn take_slot(
 }
 
 /// Makes room for so many slots. What the slots hold stays.
+#[inline(always)]
 fn make_room(slots: &mut Vec<Option<Instance>>, count: usize) -> Result<(), AllocError>
     ensures same { (slot : ℕ) → slot_at slots.new.items slot ≡ slot_at slots.old.items slot }
     ensures room { OnOk result (count ≤ vec_len slots.new) }
@@ -340,6 +352,7 @@ fn make_room(slots: &mut Vec<Option<Instance>>, count: usize) -> Result<(), Allo
 }
 
 /// Takes a packet in its instance, which is made where there is none.
+#[inline(always)]
 fn take_in(
     slot: &mut Option<Instance>,
     alloc: Global,

@@ -66,6 +66,7 @@ impl Streams {
     ///
     /// [`StreamFault::Beyond`], exactly where the place is not below the owner's reach and [`WINDOW`](crate::WINDOW);
     /// else [`StreamFault::Memory`], only where the message would count. Each changes nothing.
+    #[inline(always)]
     pub fn take(&mut self, packet: &Packet) -> Result<StreamStep, StreamFault>
         requires from { packet.now.from < self.old.sizes.nodes }
         requires owner { packet.now.owner < self.old.sizes.nodes }
@@ -91,6 +92,7 @@ impl Streams {
     /// # Errors
     ///
     /// [`StreamFault::Beyond`], as `take`.
+    #[inline(always)]
     pub fn look(&self, packet: &Packet) -> Result<Effect, StreamFault>
         requires from { packet.now.from < self.now.sizes.nodes }
         requires owner { packet.now.owner < self.now.sizes.nodes }

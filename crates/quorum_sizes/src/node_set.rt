@@ -47,6 +47,7 @@ impl NodeSet {
     }
 
     /// Adds a name. Whether it was new.
+    #[inline(always)]
     pub fn insert(&mut self, name: NodeName) -> bool
         ensures set { self.new ≡ sets.insert self.old name }
         ensures fresh { result ≡ not (sets.contains self.old name) }
@@ -58,6 +59,7 @@ impl NodeSet {
     }
 
     /// Whether the name is in the set.
+    #[inline(always)]
     pub fn contains(&self, name: NodeName) -> bool
         ensures { result ≡ sets.contains self.now name }
     {
@@ -65,6 +67,7 @@ impl NodeSet {
     }
 
     /// How many names there are.
+    #[inline(always)]
     pub fn len(&self) -> usize
         ensures { result ≡ sets.len self.now }
     {

@@ -67,6 +67,7 @@ impl Policy {
     /// # Errors
     ///
     /// Only for want of memory, where there is less room than that. The relations stay as they were.
+    #[inline(always)]
     pub fn make_room(&mut self) -> Result<(), AllocError>
         ensures ok { OnOk result (least_room ≤ self.new.room) }
         ensures full { OnErr result (self.old.room < least_room) }

@@ -32,6 +32,7 @@ impl<A: Ord + Copy + Drop, B: Ord + Copy + Drop> Relation<A, B> {
     /// # Errors
     ///
     /// Only for want of memory, where there is less room than that. The pairs stay as they were.
+    #[inline(always)]
     pub fn make_room(&mut self, least: usize) -> Result<(), AllocError>
         ensures ok { OnOk result (least ≤ room_of self.new) }
         ensures full { OnErr result (room_of self.old < least) }

@@ -10,12 +10,13 @@ pub fn spare<T>(items: &Vec<T>) -> usize
 }
 
 /// Puts the item at the end, where there must be room for it. It takes no memory.
+#[inline(always)]
 pub fn push_within_capacity<T: Drop>(items: &mut Vec<T>, item: T)
     requires { vec_len items.old < vec_capacity items.old }
     ensures items { items.new.items ≡ items.old.items ++ item ∷ [] }
     ensures capacity { vec_capacity items.old ≤ vec_capacity items.new }
 {
-    let _within = items.push(item);
+    items.push_reserved(item);
 }
 
 /// Puts the item at this place, where there must be room for it. It takes no memory.

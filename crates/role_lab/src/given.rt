@@ -7,6 +7,9 @@ ghost use Rattle.role_lab.specs.Labs.{with_number};
 
 use std::alloc::{AllocError, Global};
 
+/// Flags are added so many at a time.
+const PADDED: usize = 4096;
+
 /// The numbers that were given, a flag each, and the least that may not be given yet.
 #[derive(Drop)]
 pub struct Given {
@@ -66,13 +69,14 @@ fn set_flag(flags: &mut Vec<bool>, number: usize) -> Result<(), AllocError>
     Ok(())
 }
 
-/// Adds unset flags until there are so many.
+/// Adds unset flags until there are so many, some thousands at a time.
 fn pad(flags: &mut Vec<bool>, count: usize) -> Result<(), AllocError>
+    requires { count ≤ 2 ^ 32 }
     ensures same { flagged flags.new.items ≡ flagged flags.old.items }
     ensures many { OnOk result (count ≤ length flags.new.items) }
 {
     if count > flags.len() {
-        flags.resize(count, false)?;
+        flags.resize((count / PADDED + 1) * PADDED, false)?;
     }
     Ok(())
 }

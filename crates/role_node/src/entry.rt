@@ -72,6 +72,7 @@ impl Entry {
     }
 
     /// The entry of a packet that counts, from what it caused.
+    #[inline(always)]
     pub(crate) fn taken(packet: &Packet, step: &StreamStep) -> Self
         requires own { IsOwn packet.now.command step.now }
         requires onward { step.now.from ≤ step.now.to }
@@ -124,6 +125,7 @@ impl Entry {
     }
 
     /// The reply.
+    #[inline(always)]
     pub fn reply(&self) -> Reply
         ensures { result ≡ self.now.reply }
     {
@@ -152,6 +154,7 @@ impl Entry {
 }
 
 /// The message of this kind, if any, for a packet's command.
+#[inline(always)]
 fn message_said(packet: &Packet, kind: Option<Kind>) -> Option<Message>
     ensures { result ≡ option_map (said_for packet.now) kind }
 {

@@ -93,6 +93,7 @@ impl Node {
 
     /// The first refusal of the event, or whether it counts, as [`apply`](Self::apply) would answer, want of memory
     /// apart. It takes no memory.
+    #[inline(always)]
     pub fn look(&self, event: &Event) -> Result<Effect, NodeFault>
         ensures due { result ≡ outlook self.now.config self.now.me self.now.history event.now }
         ensures legal { IsLegalNode self.now }
@@ -111,6 +112,7 @@ impl Node {
     /// # Errors
     ///
     /// Only want of memory. The node stays as it was.
+    #[inline(always)]
     pub fn record(&mut self, event: &Event) -> Result<Entry, NodeFault>
         requires { outlook self.old.config self.old.me self.old.history event.now ≡ Ok Counted }
         ensures event { IfOk result (λ entry. entry.event ≡ event.now) }

@@ -53,6 +53,7 @@ impl State {
     }
 
     /// The first refusal of the event, room in the history apart, or whether it counts. It takes no memory.
+    #[inline(always)]
     pub(crate) fn look(&self, me: NodeName, event: &Event) -> Result<Effect, NodeFault>
         requires sizes { self.now.streams.sizes ≡ self.now.policy.table.sizes }
         requires me { me < self.now.streams.sizes.nodes }
@@ -84,6 +85,7 @@ impl State {
         Ok(Effect::Counted)
     }
 
+    #[inline(always)]
     fn may_take(&self, me: NodeName, packet: &Packet) -> Result<Effect, NodeFault>
         requires { self.now.streams.sizes ≡ self.now.policy.table.sizes }
         ensures { (roles : Table) (history : List Event) → IsStateAfter roles history self.now →
@@ -121,6 +123,7 @@ impl State {
 
     /// Changes the state as an event that counts does, and gives its entry. All room is made before the first
     /// change that is seen.
+    #[inline(always)]
     pub(crate) fn answer(&mut self, me: NodeName, event: &Event) -> Result<Entry, NodeFault>
         requires range { IsInRange self.old event.now }
         requires reached { IsReached self.old }
@@ -154,6 +157,7 @@ impl State {
         }))
     }
 
+    #[inline(always)]
     fn take(&mut self, packet: &Packet) -> Result<Entry, NodeFault>
         requires from { packet.now.from < self.old.streams.sizes.nodes }
         requires owner { packet.now.owner < self.old.streams.sizes.nodes }

@@ -4,4 +4,4 @@ use Rattle.role_lab.proofs.given.pad.Goals as goal
 
 pub returns-in_ok-resize-clause-same : goal.returns-in_ok-resize-clause-same
 returns-in_ok-resize-clause-same c =
-    flagged-resized c.args.flags.now.items c.args.count _ _ (omega arith) c.in_ok-resize.ensures.items
+    flagged-resized c.args.flags.now.items _ _ _ (omega arith) c.in_ok-resize.ensures.items
