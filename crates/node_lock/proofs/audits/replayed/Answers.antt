@@ -30,7 +30,8 @@ returns-in-Err-clause-err c =
     } in
     fault_found c.args.node.now c.args.receipts.now c.loop-place.place _ _ _ split c.loop-place.invariant.right
     c.in-Err.fault
-    c.loop-place.replay (Some c.entry_at-entry.result.event) c.loop-place.invariant.replay c.entry_at-entry.ensures.event
+    c.loop-place.replay (Some c.entry_at-entry.result.event) c.loop-place.invariant.replay
+    c.entry_at-entry.ensures.event
     c.in-Err.ensures.err
 
 pub loop-place-preserved : goal.loop-place-preserved
@@ -46,7 +47,8 @@ loop-place-preserved c =
     let within : c.loop-place.place ≤ length c.args.node.now.history = omega arith in
     let right =
     right_found c.args.node.now c.args.receipts.now c.loop-place.place _ _ _ split within
-    c.loop-place.replay (Some c.entry_at-entry.result.event) c.loop-place.invariant.replay c.entry_at-entry.ensures.event
+    c.loop-place.replay (Some c.entry_at-entry.result.event) c.loop-place.invariant.replay
+    c.entry_at-entry.ensures.event
     c.in_default.ensures.ok in
     let P : List Receipt → Type 0 = λ rs. IsRest c.args.receipts.now (c.loop-place.place + 1) rs in
     record {
