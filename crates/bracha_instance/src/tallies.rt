@@ -60,7 +60,7 @@ impl Tally {
 fn is_same(a: &Command, b: &Command) -> bool
     ensures { result ≡ same_command a.now b.now }
 {
-    a == b
+    *a == *b
 }
 
 /// The place of the command's tally.

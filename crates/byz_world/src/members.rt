@@ -171,5 +171,5 @@ pub(crate) fn has_said(node: &Node, message: &Message) -> bool
 fn is_same(a: &Command, b: &Command) -> bool
     ensures { result ≡ same_command a.now b.now }
 {
-    a == b
+    *a == *b
 }
