@@ -1,4 +1,4 @@
-ghost use Rattle.std.specs.Prelude.{◌≡◌, ◌<◌, IfOk};
+ghost use Rattle.std.specs.Prelude.{◌<◌, IfOk};
 
 use super::*;
 use link_frames::{Kind, Message, Packet, Place};
@@ -85,21 +85,23 @@ enum Step {
     Elsewhere(NodeFault),
     /// A check of operation 5 on object 9 in a session, by a user.
     Check(u64, u32, Verdict),
-    /// User 7 has role 2, active in session 1, which may do operation 5 on object 9.
-    Reviewed,
+    Lists(Question, Listed),
     /// Of node 0's stream: the reach, and the command and the READY sent at a place.
     Stream(u32, Place, Option<Command>, Option<Command>),
     Recorded(usize),
+    /// 64 commands get the places 0 to 63.
+    Window,
+    /// User 7 gets the roles 0 to 64, of which the last does not become active in session 1.
+    ManyRoles,
 }
 
-/// A node, with the sizes of its cluster.
-#[derive(Drop)]
-struct Bench {
-    sizes: Sizes,
-    me: NodeName,
-    node: Node,
-    ghost same: { node.config.roles.sizes ≡ sizes },
-    ghost named: { me < sizes.nodes },
+/// The one thing that is listed.
+#[derive(Clone, Copy)]
+enum Listed {
+    User(u32),
+    Role(u16),
+    Permission(u16, u32),
+    NoSession,
 }
 
 /// A configuration of cluster 1 with so many roles, of which node 1 has the odd ones, if there is a node 1.
@@ -112,125 +114,141 @@ fn config(alloc: Global, n: u8, f: u8, roles: u16, limit: u32) -> Result<Config,
     Ok(Config::new(1, table, limit).ok_or("no configuration")?)
 }
 
-impl Bench {
-    fn new(alloc: Global, config: Config, me: u8) -> Result<Bench, Fail> {
-        let sizes = config.roles().sizes();
-        let me = sizes.name(me).ok_or("no node")?;
-        let node = Node::new(alloc, config, me)?;
-        Ok(Bench { sizes, me, node })
-    }
+fn name(node: &Node, index: u8) -> Result<NodeName, Fail>
+    ensures { IfOk result (λ name. name < node.now.config.roles.sizes.nodes) }
+{
+    Ok(node.config().roles().sizes().name(index).ok_or("no node")?)
+}
 
-    fn name(&self, i: u8) -> Result<NodeName, Fail>
-        ensures { IfOk result (λ name. name < self.now.sizes.nodes) }
-    {
-        Ok(self.sizes.name(i).ok_or("no node")?)
-    }
+fn take(
+    node: &mut Node,
+    from: NodeName,
+    to: NodeName,
+    message: Message,
+) -> Result<Result<Reply, NodeFault>, Fail> {
+    let packet = Packet::new(from, to, message).ok_or("no packet")?;
+    Ok(node.apply(Event::Take(packet)))
+}
 
-    fn take(
-        &mut self,
-        from: NodeName,
-        to: NodeName,
-        message: Message,
-    ) -> Result<Result<Reply, NodeFault>, Fail> {
-        let packet = Packet::new(from, to, message).ok_or("no packet")?;
-        Ok(self.node.apply(Event::Take(packet)))
+/// Takes its own packet of a message, and gives what it sends then.
+fn take_own(node: &mut Node, message: Message) -> Result<Option<Message>, Fail> {
+    match take(node, node.me(), node.me(), message)?? {
+        Reply::Counted { send, .. } => Ok(send),
+        _ => Err("not counted".into()),
     }
+}
 
-    /// Takes its own packet of a message, and gives what it sends then.
-    fn take_own(&mut self, message: Message) -> Result<Option<Message>, Fail> {
-        match self.take(self.me, self.me, message)?? {
-            Reply::Counted { send, .. } => Ok(send),
-            _ => Err("not counted".into()),
-        }
-    }
-
-    /// Issues a command in a cluster of one node, which takes its own three packets.
-    fn publish(&mut self, command: Command) -> Result<bool, Fail> {
-        let Reply::Issued(send) = self.node.apply(Event::Issue(command))? else {
+/// Issues a command in a cluster of one node, which takes its own three packets.
+fn publish(node: &mut Node, command: Command) -> Result<bool, Fail> {
+    let Reply::Issued(send) = node.apply(Event::Issue(command))? else {
+        return Ok(false);
+    };
+    let mut message = Some(send);
+    for _ in 0..3 {
+        let Some(sent) = message else {
             return Ok(false);
         };
-        let mut message = Some(send);
-        for _ in 0..3 {
-            let Some(sent) = message else {
-                return Ok(false);
-            };
-            message = self.take_own(sent)?;
-        }
-        Ok(message == None)
+        message = take_own(node, sent)?;
     }
+    Ok(message == None)
+}
 
-    /// Whether a command that is issued gets this place.
-    fn issues_at(&mut self, place: Place) -> bool {
+fn fills_window(node: &mut Node) -> bool {
+    for place in 0..64 {
         let send = Message {
             kind: Kind::Send,
-            owner: self.me,
+            owner: node.me(),
             place,
             command: FIRST,
         };
-        self.node.apply(Event::Issue(FIRST)) == Ok(Reply::Issued(send))
-    }
-
-    fn ready(&self, owner: u8, place: Place, command: Command) -> Result<Message, Fail> {
-        Ok(Message {
-            kind: Kind::Ready,
-            owner: self.name(owner)?,
-            place,
-            command,
-        })
-    }
-
-    /// Whether the answer is the one that is due.
-    fn is_due(&mut self, step: &Step) -> Result<bool, Fail> {
-        match step {
-            Step::Publish(command) => self.publish(*command),
-            Step::Issue(command, fault) => {
-                let event = Event::Issue(*command);
-                Ok(!self.node.records(&event) && self.node.apply(event) == Err(*fault))
-            }
-            Step::Client(act, due) => Ok(self.node.apply(Event::Client(*act)) == due.answer(None)),
-            Step::Ready(from, owner, place, command, due) => {
-                let message = self.ready(*owner, *place, *command)?;
-                let answer = self.take(self.name(*from)?, self.me, message)?;
-                Ok(answer == due.answer(Some(message)))
-            }
-            Step::Elsewhere(fault) => {
-                let message = self.ready(0, 0, FIRST)?;
-                Ok(self.take(self.me, self.name(2)?, message)? == Err(*fault))
-            }
-            Step::Check(session, user, due) => Ok(self.node.check(*session, *user, 5, 9) == *due),
-            Step::Reviewed => self.is_reviewed(),
-            Step::Stream(reach, place, command, ready) => {
-                let owner = self.name(0)?;
-                Ok(
-                    self.node.reach(owner) == *reach
-                        && self.node.command(owner, *place) == *command
-                        && self.node.again(owner, *place).ready == *ready,
-                )
-            }
-            Step::Recorded(count) => Ok(self.node.history().len() == *count),
+        if node.apply(Event::Issue(FIRST)) != Ok(Reply::Issued(send)) {
+            return false;
         }
     }
+    true
+}
 
-    fn is_reviewed(&mut self) -> Result<bool, Fail> {
-        let users = self.node.ask(Question::AssignedUsers(2))?;
-        let roles = self.node.ask(Question::SessionRoles(1))?;
-        let may = self.node.ask(Question::SessionPermissions(1))?;
-        let closed = self.node.ask(Question::SessionRoles(2));
-        Ok(
-            matches!(&users, Answer::Users(users) if users.as_slice() == [7].as_slice())
-                && matches!(&roles, Answer::Roles(roles) if roles.as_slice() == [2].as_slice())
-                && matches!(&may, Answer::Permissions(may) if may.as_slice() == [(5, 9)].as_slice())
-                && matches!(&closed, Err(AskFault::NoSession)),
-        )
-    }
-
-    fn run(&mut self, rt: &impl Abort, steps: &[Step]) -> Result<(), Fail> {
-        for step in steps {
-            let is_due = self.is_due(step)?;
-            assert!(rt; is_due);
+fn activates_many_roles(node: &mut Node) -> Result<bool, Fail> {
+    for role in 0..65 {
+        let activate = ClientEvent::Activate {
+            session: 1,
+            user: 7,
+            role,
+        };
+        let due = if role < 64 {
+            Ok(Reply::Done)
+        } else {
+            Err(NodeFault::Session(SessionFault::TooManyRoles))
+        };
+        let is_published = publish(node, Command::Assign { user: 7, role })?;
+        if !is_published || node.apply(Event::Client(activate)) != due {
+            return Ok(false);
         }
-        Ok(())
     }
+    Ok(true)
+}
+
+fn ready(node: &Node, owner: u8, place: Place, command: Command) -> Result<Message, Fail> {
+    Ok(Message {
+        kind: Kind::Ready,
+        owner: name(node, owner)?,
+        place,
+        command,
+    })
+}
+
+fn is_listed(answer: &Result<Answer, AskFault>, due: Listed) -> bool {
+    match (answer, due) {
+        (Ok(Answer::Users(users)), Listed::User(user)) => users.as_slice() == [user].as_slice(),
+        (Ok(Answer::Roles(roles)), Listed::Role(role)) => roles.as_slice() == [role].as_slice(),
+        (Ok(Answer::Permissions(permissions)), Listed::Permission(operation, object)) => {
+            permissions.as_slice() == [(operation, object)].as_slice()
+        }
+        (Err(AskFault::NoSession), Listed::NoSession) => true,
+        _ => false,
+    }
+}
+
+/// Whether the answer is the one that is due.
+fn is_due(node: &mut Node, step: &Step) -> Result<bool, Fail> {
+    match step {
+        Step::Publish(command) => publish(node, *command),
+        Step::Issue(command, fault) => {
+            let event = Event::Issue(*command);
+            Ok(!node.records(&event) && node.apply(event) == Err(*fault))
+        }
+        Step::Client(act, due) => Ok(node.apply(Event::Client(*act)) == due.answer(None)),
+        Step::Ready(from, owner, place, command, due) => {
+            let message = ready(node, *owner, *place, *command)?;
+            let answer = take(node, name(node, *from)?, node.me(), message)?;
+            Ok(answer == due.answer(Some(message)))
+        }
+        Step::Elsewhere(fault) => {
+            let message = ready(node, 0, 0, FIRST)?;
+            Ok(take(node, node.me(), name(node, 2)?, message)? == Err(*fault))
+        }
+        Step::Check(session, user, due) => Ok(node.check(*session, *user, 5, 9) == *due),
+        Step::Lists(question, due) => Ok(is_listed(&node.ask(*question), *due)),
+        Step::Stream(reach, place, command, ready) => {
+            let owner = name(node, 0)?;
+            Ok(
+                node.reach(owner) == *reach
+                    && node.command(owner, *place) == *command
+                    && node.again(owner, *place).ready == *ready,
+            )
+        }
+        Step::Recorded(count) => Ok(node.history().len() == *count),
+        Step::Window => Ok(fills_window(node)),
+        Step::ManyRoles => activates_many_roles(node),
+    }
+}
+
+fn run(rt: &impl Abort, node: &mut Node, steps: &[Step]) -> Result<(), Fail> {
+    for step in steps {
+        let is_due = is_due(node, step)?;
+        assert!(rt; is_due);
+    }
+    Ok(())
 }
 
 /// From the start on.
@@ -241,7 +259,8 @@ fn play(
     me: u8,
     steps: &[Step],
 ) -> Result<(), Fail> {
-    Bench::new(alloc, config, me)?.run(rt, steps)
+    let me = config.roles().sizes().name(me).ok_or("no node")?;
+    run(rt, &mut Node::new(alloc, config, me)?, steps)
 }
 
 static NO_GAP: [Step; 8] = [
@@ -281,7 +300,8 @@ fn late_votes_count_without_effect(rt: HostRuntime) -> Result<(), Fail> {
     play(&rt, rt.alloc(), config(rt.alloc(), 7, 1, 4, 100)?, 0, &LATE)
 }
 
-static REFUSED: [Step; 5] = [
+static REFUSED: [Step; 6] = [
+    Step::Window,
     Step::Issue(FOREIGN, NodeFault::NotMine),
     Step::Issue(FIRST, NodeFault::Busy),
     Step::Elsewhere(NodeFault::Misrouted),
@@ -295,22 +315,12 @@ static REFUSED: [Step; 5] = [
     Step::Recorded(64),
 ];
 
-/// 64 commands get the places 0 to 63, and the next is refused.
-fn refusals_of(rt: &impl Abort, alloc: Global, config: Config) -> Result<(), Fail> {
-    let mut bench = Bench::new(alloc, config, 0)?;
-    for place in 0..64 {
-        let is_next = bench.issues_at(place);
-        assert!(rt; is_next);
-    }
-    bench.run(rt, &REFUSED)
-}
-
 #[test]
 fn refusals(rt: HostRuntime) -> Result<(), Fail> {
     let told = config(rt.alloc(), 4, 1, 4, 100)?;
     let copy = told.copy(rt.alloc())?;
-    refusals_of(&rt, rt.alloc(), told)?;
-    refusals_of(&rt, rt.alloc(), copy)
+    play(&rt, rt.alloc(), told, 0, &REFUSED)?;
+    play(&rt, rt.alloc(), copy, 0, &REFUSED)
 }
 
 static FULL: [Step; 6] = [
@@ -327,7 +337,7 @@ fn a_full_history(rt: HostRuntime) -> Result<(), Fail> {
     play(&rt, rt.alloc(), config(rt.alloc(), 4, 1, 4, 2)?, 0, &FULL)
 }
 
-static DENIALS: [Step; 15] = [
+static DENIALS: [Step; 18] = [
     Step::Publish(FIRST),
     Step::Client(OPEN, Due::Opens(1)),
     Step::Check(9, 7, Verdict::Deny(Rule::NoSession)),
@@ -342,7 +352,10 @@ static DENIALS: [Step; 15] = [
     Step::Check(1, 7, Verdict::Allow(2)),
     Step::Check(1, 7, Verdict::Allow(2)),
     Step::Client(ACTIVATE, Due::Refused(ACTIVE)),
-    Step::Reviewed,
+    Step::Lists(Question::AssignedUsers(2), Listed::User(7)),
+    Step::Lists(Question::SessionRoles(1), Listed::Role(2)),
+    Step::Lists(Question::SessionPermissions(1), Listed::Permission(5, 9)),
+    Step::Lists(Question::SessionRoles(2), Listed::NoSession),
 ];
 
 #[test]
@@ -356,30 +369,17 @@ fn denials_in_order(rt: HostRuntime) -> Result<(), Fail> {
     )
 }
 
+static MANY_ROLES: [Step; 2] = [Step::Client(OPEN, Due::Opens(1)), Step::ManyRoles];
+
 #[test]
 fn too_many_active_roles(rt: HostRuntime) -> Result<(), Fail> {
-    let mut bench = Bench::new(rt.alloc(), config(rt.alloc(), 1, 0, 65, 1000)?, 0)?;
-    bench.run(&rt, &[Step::Client(OPEN, Due::Opens(1))])?;
-    for role in 0..65 {
-        let activate = ClientEvent::Activate {
-            session: 1,
-            user: 7,
-            role,
-        };
-        let due = if role < 64 {
-            Due::Done
-        } else {
-            Due::Refused(NodeFault::Session(SessionFault::TooManyRoles))
-        };
-        bench.run(
-            &rt,
-            &[
-                Step::Publish(Command::Assign { user: 7, role }),
-                Step::Client(activate, due),
-            ],
-        )?;
-    }
-    Ok(())
+    play(
+        &rt,
+        rt.alloc(),
+        config(rt.alloc(), 1, 0, 65, 1000)?,
+        0,
+        &MANY_ROLES,
+    )
 }
 
 #[test]
