@@ -2,6 +2,7 @@ use super::*;
 use quorum_sizes::Sizes;
 use role_commands::{Command, RoleTable};
 use std::alloc::{AllocError, Global};
+use std::process::Abort;
 use std::test::Fail;
 
 /// Four nodes; roles 2 and 3 are of node 0, and role 9 is of node 1.
@@ -13,15 +14,41 @@ fn roles(alloc: Global) -> Result<RoleTable, Fail> {
     Ok(roles)
 }
 
-/// The policy to which these commands of nodes were applied.
-fn policy_after(alloc: Global, commands: &[(u8, Command)]) -> Result<Policy, Fail> {
-    let mut policy = Policy::new(alloc, roles(alloc)?);
-    for (node, command) in commands {
-        let node = policy.roles().sizes().name(*node).ok_or("no name")?;
-        policy.make_room()?;
-        policy.apply(node, *command);
+/// What a policy lists.
+#[derive(Clone, Copy)]
+enum Listing {
+    /// The users who have the role.
+    Users(u16, &'static [u32]),
+    /// The roles of the user.
+    Roles(u32, &'static [u16]),
+    /// The permissions of the role.
+    RolePermissions(u16, &'static [(u16, u32)]),
+    /// The permissions of the user.
+    UserPermissions(u32, &'static [(u16, u32)]),
+    /// The operations of the role on the object.
+    RoleOperations(u16, u32, &'static [u16]),
+    /// The operations of the user on the object.
+    UserOperations(u32, u32, &'static [u16]),
+}
+
+/// Whether the policy lists just that.
+fn lists(policy: &Policy, listing: &Listing) -> Result<bool, AllocError> {
+    match listing {
+        Listing::Users(role, due) => Ok(policy.assigned_users(*role)?.as_slice() == *due),
+        Listing::Roles(user, due) => Ok(policy.assigned_roles(*user)?.as_slice() == *due),
+        Listing::RolePermissions(role, due) => Ok(
+            policy.role_permissions(*role)?.as_slice() == *due,
+        ),
+        Listing::UserPermissions(user, due) => Ok(
+            policy.user_permissions(*user)?.as_slice() == *due,
+        ),
+        Listing::RoleOperations(role, object, due) => {
+            Ok(policy.role_operations(*role, *object)?.as_slice() == *due)
+        }
+        Listing::UserOperations(user, object, due) => {
+            Ok(policy.user_operations(*user, *object)?.as_slice() == *due)
+        }
     }
-    Ok(policy)
 }
 
 fn assign(user: u32, role: u16) -> Command {
@@ -34,6 +61,22 @@ fn grant(role: u16, operation: u16, object: u32) -> Command {
         operation,
         object,
     }
+}
+
+/// The policy to which these commands of nodes were applied.
+fn policy_after(alloc: Global, commands: &[(u8, Command)]) -> Result<Policy, Fail> {
+    let mut policy = Policy::new(alloc, roles(alloc)?);
+    apply_all(&mut policy, commands)?;
+    Ok(policy)
+}
+
+fn apply_all(policy: &mut Policy, commands: &[(u8, Command)]) -> Result<(), Fail> {
+    for (node, command) in commands {
+        let node = policy.roles().sizes().name(*node).ok_or("no name")?;
+        policy.make_room()?;
+        policy.apply(node, *command);
+    }
+    Ok(())
 }
 
 /// Node 1 is not the owner of role 2.
@@ -49,89 +92,53 @@ fn example(alloc: Global) -> Result<Policy, Fail> {
     )
 }
 
-/// Whether these are the users who have the role.
-fn lists_users(policy: &Policy, role: u16, users: &[u32]) -> Result<bool, AllocError> {
-    Ok(policy.assigned_users(role)?.as_slice() == users)
+fn list_all(rt: &impl Abort, policy: &Policy, listings: &[Listing]) -> Result<(), Fail> {
+    for listing in listings {
+        let is_listed = lists(policy, listing)?;
+        assert!(rt; is_listed);
+    }
+    Ok(())
 }
 
-/// Whether these are the roles of the user.
-fn lists_roles(policy: &Policy, user: u32, roles: &[u16]) -> Result<bool, AllocError> {
-    Ok(policy.assigned_roles(user)?.as_slice() == roles)
-}
-
-/// Whether these are the permissions of the role.
-fn lists_role_permissions(
-    policy: &Policy,
-    role: u16,
-    permissions: &[(u16, u32)],
-) -> Result<bool, AllocError> {
-    Ok(policy.role_permissions(role)?.as_slice() == permissions)
-}
-
-/// Whether these are the permissions of the user.
-fn lists_user_permissions(
-    policy: &Policy,
-    user: u32,
-    permissions: &[(u16, u32)],
-) -> Result<bool, AllocError> {
-    Ok(policy.user_permissions(user)?.as_slice() == permissions)
-}
-
-/// Whether these are the operations of the role on the object.
-fn lists_role_operations(
-    policy: &Policy,
-    role: u16,
-    object: u32,
-    operations: &[u16],
-) -> Result<bool, AllocError> {
-    Ok(policy.role_operations(role, object)?.as_slice() == operations)
-}
-
-/// Whether these are the operations of the user on the object.
-fn lists_user_operations(
-    policy: &Policy,
-    user: u32,
-    object: u32,
-    operations: &[u16],
-) -> Result<bool, AllocError> {
-    Ok(policy.user_operations(user, object)?.as_slice() == operations)
-}
+static OF_THE_OWNER: [Listing; 7] = [
+    Listing::Users(2, &[7]),
+    Listing::Roles(7, &[2]),
+    Listing::Users(4, &[]),
+    Listing::RolePermissions(2, &[(5, 9)]),
+    Listing::UserPermissions(7, &[(5, 9)]),
+    Listing::RoleOperations(2, 9, &[5]),
+    Listing::UserOperations(7, 9, &[5]),
+];
 
 #[test]
 fn commands_of_the_owner(rt: HostRuntime) -> Result<(), Fail> {
-    let policy = example(rt.alloc())?;
-    assert!(rt; lists_users(&policy, 2, &[7])?);
-    assert!(rt; lists_roles(&policy, 7, &[2])?);
-    assert!(rt; lists_users(&policy, 4, &[])?);
-    Ok(())
+    list_all(&rt, &example(rt.alloc())?, &OF_THE_OWNER)
 }
 
-#[test]
-fn permissions_of_the_owner(rt: HostRuntime) -> Result<(), Fail> {
-    let policy = example(rt.alloc())?;
-    assert!(rt; lists_role_permissions(&policy, 2, &[(5, 9)])?);
-    assert!(rt; lists_user_permissions(&policy, 7, &[(5, 9)])?);
-    assert!(rt; lists_role_operations(&policy, 2, 9, &[5])?);
-    assert!(rt; lists_user_operations(&policy, 7, 9, &[5])?);
-    Ok(())
-}
-
-#[test]
-fn pairs_are_found(rt: HostRuntime) -> Result<(), Fail> {
-    let policy = example(rt.alloc())?;
+fn find_pairs(rt: &impl Abort, policy: &Policy) {
     assert!(rt; policy.is_assigned(7, 2));
     assert!(rt; policy.is_granted(2, 5, 9));
     assert!(rt; !policy.is_granted(2, 6, 9));
     assert!(rt; policy.roles().owner(9).is_some());
     assert_eq!(rt; policy.first_granting(7, &[3, 2], 5, 9), Some(2));
     assert_eq!(rt; policy.first_granting(8, &[3, 2], 5, 9), None);
-    Ok(())
 }
 
 #[test]
-fn pairs_taken_away(rt: HostRuntime) -> Result<(), Fail> {
-    let policy = policy_after(
-        rt.alloc(),
+fn pairs_are_found(rt: HostRuntime) -> Result<(), Fail> {
+    find_pairs(&rt, &example(rt.alloc())?);
+    Ok(())
+}
+
+static LEFT: [Listing; 3] = [
+    Listing::Users(2, &[8]),
+    Listing::Roles(7, &[]),
+    Listing::RolePermissions(2, &[(5, 10)]),
+];
+
+fn with_pairs_taken_away(alloc: Global) -> Result<Policy, Fail> {
+    policy_after(
+        alloc,
         &[
             (0, assign(7, 2)),
             (0, assign(8, 2)),
@@ -147,17 +154,24 @@ fn pairs_taken_away(rt: HostRuntime) -> Result<(), Fail> {
                 },
             ),
         ],
-    )?;
-    assert!(rt; lists_users(&policy, 2, &[8])?);
-    assert!(rt; lists_roles(&policy, 7, &[])?);
-    assert!(rt; lists_role_permissions(&policy, 2, &[(5, 10)])?);
-    Ok(())
+    )
 }
 
 #[test]
-fn listings_in_order(rt: HostRuntime) -> Result<(), Fail> {
-    let policy = policy_after(
-        rt.alloc(),
+fn pairs_taken_away(rt: HostRuntime) -> Result<(), Fail> {
+    list_all(&rt, &with_pairs_taken_away(rt.alloc())?, &LEFT)
+}
+
+static ASCENDING: [Listing; 4] = [
+    Listing::Users(3, &[7, 70_000]),
+    Listing::Roles(7, &[2, 3]),
+    Listing::UserPermissions(7, &[(5, 8), (5, 9), (6, 1)]),
+    Listing::UserOperations(7, 9, &[5]),
+];
+
+fn out_of_order(alloc: Global) -> Result<Policy, Fail> {
+    policy_after(
+        alloc,
         &[
             (0, assign(70_000, 3)),
             (0, assign(7, 3)),
@@ -167,23 +181,28 @@ fn listings_in_order(rt: HostRuntime) -> Result<(), Fail> {
             (0, grant(2, 5, 9)),
             (0, grant(2, 5, 8)),
         ],
-    )?;
-    assert!(rt; lists_users(&policy, 3, &[7, 70_000])?);
-    assert!(rt; lists_roles(&policy, 7, &[2, 3])?);
-    assert!(rt; lists_user_permissions(&policy, 7, &[(5, 8), (5, 9), (6, 1)])?);
-    assert!(rt; lists_user_operations(&policy, 7, 9, &[5])?);
-    Ok(())
+    )
 }
 
 #[test]
-fn room_lasts(rt: HostRuntime) -> Result<(), Fail> {
-    let mut policy = Policy::new(rt.alloc(), roles(rt.alloc())?);
+fn listings_in_order(rt: HostRuntime) -> Result<(), Fail> {
+    list_all(&rt, &out_of_order(rt.alloc())?, &ASCENDING)
+}
+
+/// The room that is left of one that was made before four commands.
+fn room_left(policy: &mut Policy) -> Result<usize, Fail> {
     let node = policy.roles().sizes().name(0).ok_or("no name")?;
     policy.make_room()?;
     policy.apply(node, assign(7, 2));
     policy.apply(node, grant(2, 5, 9));
     policy.apply(node, assign(7, 2));
     policy.apply(node, grant(2, 6, 9));
-    assert!(rt; policy.room() >= 60);
+    Ok(policy.room())
+}
+
+#[test]
+fn room_lasts(rt: HostRuntime) -> Result<(), Fail> {
+    let left = room_left(&mut policy_after(rt.alloc(), &[])?)?;
+    assert!(rt; left >= 60);
     Ok(())
 }
