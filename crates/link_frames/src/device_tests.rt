@@ -1,5 +1,5 @@
 use super::*;
-use std::io;
+use std::alloc::Global;
 use std::io::{ErrorKind, Read, Write};
 use std::test::Fail;
 
@@ -13,9 +13,9 @@ fn answers_are_handed_on(rt: HostRuntime) -> Result<(), Fail> {
         ErrorKind::Interrupted,
         ErrorKind::TimedOut,
     ] {
-        assert!(rt; reader.read(&mut buf).is_err_and(|e| e.kind() == kind));
+        assert!(rt; matches!(reader.read(&mut buf), Err(e) if e.kind() == kind));
     }
-    assert!(rt; reader.read(&mut buf).is_ok_and(|n| n == 4));
+    assert!(rt; matches!(reader.read(&mut buf), Ok(4)));
     assert!(rt; buf == *b"abcd");
     assert!(rt; reader.reads() == 4 && reader.faults() == 3 && reader.breaks() == 1);
     Ok(())
@@ -25,28 +25,38 @@ fn answers_are_handed_on(rt: HostRuntime) -> Result<(), Fail> {
 fn a_writer_goes_wrong(rt: HostRuntime) -> Result<(), Fail> {
     let mut writer = Faulty::new(Vec::new(rt.alloc()), Mishap::Short, 1, 1);
     for (text, due) in [(b"ab", 2), (b"cd", 1)] {
-        assert!(rt; writer.write(text).is_ok_and(|n| n == due));
+        assert!(rt; matches!(writer.write(text), Ok(n) if n == due));
     }
     assert!(rt; writer.flush().is_ok() && writer.made() == 2);
     assert_eq!(rt; writer.inner().as_slice(), b"abc".as_slice());
     Ok(())
 }
 
-#[test]
-fn interruptions_are_waited_out(rt: HostRuntime) -> Result<(), Fail> {
+/// Mishaps of so many calls, and whether a reader and a writer get through them.
+static MISHAPS: [(Mishap, u64, bool, bool); 4] = [
+    (Mishap::Interrupt, 1024, true, true),
+    (Mishap::Interrupt, 1025, false, false),
+    (Mishap::Fail, 1, false, false),
+    (Mishap::Nothing, 1, true, false),
+];
+
+fn is_read(mishap: Mishap, calls: u64) -> bool {
     let mut buf = [0u8; 4];
-    for (mishap, calls, is_read, is_written) in [
-        (Mishap::Interrupt, 1024, true, true),
-        (Mishap::Interrupt, 1025, false, false),
-        (Mishap::Fail, 1, false, false),
-        (Mishap::Nothing, 1, true, false),
-    ] {
-        let mut reader = Watched::new(Faulty::new(b"abc".as_slice(), mishap, 0, calls));
-        assert_eq!(rt; read_patiently(&mut reader, &mut buf).is_ok(), is_read);
-        let mut writer = Watched::new(Faulty::new(Vec::new(rt.alloc()), mishap, 0, calls));
-        assert_eq!(rt; write_whole(&mut writer, b"abc").is_ok(), is_written);
+    let mut reader = Watched::new(Faulty::new(b"abc".as_slice(), mishap, 0, calls));
+    read_patiently(&mut reader, &mut buf).is_ok()
+}
+
+fn is_written(alloc: Global, mishap: Mishap, calls: u64) -> bool {
+    let mut writer = Watched::new(Faulty::new(Vec::new(alloc), mishap, 0, calls));
+    write_whole(&mut writer, b"abc").is_ok()
+}
+
+#[test]
+fn interruptions_are_waited_out(rt: HostRuntime) {
+    for (mishap, calls, reads, writes) in &MISHAPS {
+        assert_eq!(rt; is_read(*mishap, *calls), *reads);
+        assert_eq!(rt; is_written(rt.alloc(), *mishap, *calls), *writes);
     }
-    Ok(())
 }
 
 /// Uses up the next line. How many bytes it had, and nothing of one that is too long or where there is none.
@@ -55,21 +65,17 @@ fn use_next<R: Read>(
     reader: &mut Watched<R>,
     limit: usize,
 ) -> Result<Option<usize>, AheadFault> {
-    match ahead.peek(reader, limit)? {
-        Next::Line(count) => {
-            ahead.take(count + 1);
-            Ok(Some(count))
-        }
-        Next::Last(count) => {
-            ahead.take(count);
-            Ok(Some(count))
-        }
+    let (used, count) = match ahead.peek(reader, limit)? {
+        Next::Line(count) => (count + 1, Some(count)),
+        Next::Last(count) => (count, Some(count)),
         Next::TooLong => {
             ahead.pass_line(reader)?;
-            Ok(None)
+            (0, None)
         }
-        Next::End => Ok(None),
-    }
+        Next::End => (0, None),
+    };
+    ahead.take(used);
+    Ok(count)
 }
 
 #[test]

@@ -4,6 +4,7 @@ use super::*;
 use quorum_sizes::{NodeName, Sizes};
 use role_commands::Command;
 use std::alloc::Global;
+use std::process::Abort;
 use std::test::Fail;
 
 #[test]
@@ -32,8 +33,7 @@ fn hmac_of_rfc_4231(rt: HostRuntime) {
 /// The laboratory key of two nodes.
 fn lab_key(a: u8, b: u8) -> [u8; 32] {
     let mut key = [0; 32];
-    key[0] = a.min(b);
-    key[1] = a.max(b);
+    (key[0], key[1]) = if a < b { (a, b) } else { (b, a) };
     key
 }
 
@@ -72,21 +72,32 @@ fn cut(frame: &[u8; 52], n: usize) -> &[u8]
     &frame[..n]
 }
 
-/// The frame with some bits of a byte turned.
-fn flipped(frame: &[u8; 52], at: usize, mask: u8) -> [u8; 52]
-    requires { at < 52 }
-{
+/// The frame with another byte there.
+fn replaced(frame: &[u8; 52], at: usize, value: u8) -> [u8; 52] {
     let mut other = *frame;
-    other[at] ^= mask;
+    if let Some(byte) = other.get_mut(at) {
+        *byte = value;
+    }
     other
 }
 
-fn altered(fields: &[u8; 20], at: usize, value: u8) -> [u8; 20]
-    requires { at < 20 }
-{
+fn altered(fields: &[u8; 20], at: usize, value: u8) -> [u8; 20] {
     let mut other = *fields;
-    other[at] = value;
+    if let Some(byte) = other.get_mut(at) {
+        *byte = value;
+    }
     other
+}
+
+fn seal_and_open(rt: &impl Abort, alloc: Global, sizes: &Sizes, packet: &Packet) -> Result<(), Fail>
+    requires from { packet.now.from < sizes.now.nodes }
+    requires to { packet.now.to < sizes.now.nodes }
+{
+    let frame = seal(&lab_keys(alloc, sizes, packet.from())?, 1, packet);
+    assert!(rt; frame == tagged(0, 1, &FIELDS));
+    let opened = open_frame(&lab_keys(alloc, sizes, packet.to())?, sizes, 1, &frame);
+    assert!(rt; opened == Ok(*packet));
+    Ok(())
 }
 
 #[test]
@@ -102,56 +113,64 @@ fn what_is_sealed_is_opened(rt: HostRuntime) -> Result<(), Fail> {
     };
     let packet = Packet::new(sender, receiver, message).ok_or("no packet")?;
     assert!(rt; packet.message() == message && packet.to() == receiver);
-    let keys = lab_keys(rt.alloc(), &sizes, sender)?;
-    let frame = seal(&keys, 1, &packet);
-    assert_eq!(rt; frame, tagged(0, 1, &FIELDS));
-    let keys = lab_keys(rt.alloc(), &sizes, receiver)?;
-    assert!(rt; open_frame(&keys, &sizes, 1, &frame) == Ok(packet));
-    Ok(())
+    seal_and_open(&rt, rt.alloc(), &sizes, &packet)
+}
+
+/// What is refused with another byte in a frame whose tag stays.
+static BEFORE_THE_TAG: [(usize, u8, LinkFault); 4] = [
+    (0, 2, LinkFault::Version),
+    (4, 2, LinkFault::Cluster),
+    (6, 2, LinkFault::NotForMe),
+    (5, 9, LinkFault::NoSuchNode),
+];
+
+fn refuse_before_the_tag(rt: &impl Abort, keys: &PairKeys, sizes: &Sizes)
+    requires { keys.now.sizes ≡ sizes.now }
+{
+    let frame = tagged(0, 1, &FIELDS);
+    assert!(rt; open_frame(keys, sizes, 1, cut(&frame, 51)) == Err(LinkFault::Length));
+    for (at, value, fault) in &BEFORE_THE_TAG {
+        let other = replaced(&frame, *at, *value);
+        assert!(rt; open_frame(keys, sizes, 1, &other) == Err(*fault));
+    }
+    for at in 7..52 {
+        for mask in [1, 2, 4, 8, 16, 32, 64, 128] {
+            let other = replaced(&frame, at, frame[at] ^ mask);
+            assert!(rt; open_frame(keys, sizes, 1, &other) == Err(LinkFault::BadTag));
+        }
+    }
 }
 
 #[test]
 fn refusals_before_the_tag(rt: HostRuntime) -> Result<(), Fail> {
     let sizes = Sizes::new(4, 1)?;
     let me = sizes.name(1).ok_or("no name")?;
-    let keys = lab_keys(rt.alloc(), &sizes, me)?;
-    let frame = tagged(0, 1, &FIELDS);
-    assert!(rt; open_frame(&keys, &sizes, 1, cut(&frame, 51)) == Err(LinkFault::Length));
-    for (at, value, fault) in [
-        (0, 2, LinkFault::Version),
-        (4, 2, LinkFault::Cluster),
-        (6, 2, LinkFault::NotForMe),
-        (5, 9, LinkFault::NoSuchNode),
-    ] {
-        let mut other = frame;
-        if let Some(byte) = other.get_mut(at) {
-            *byte = value;
-        }
-        assert_eq!(rt; open_frame(&keys, &sizes, 1, &other), Err(fault));
-    }
-    for at in 7..52 {
-        for mask in [1, 2, 4, 8, 16, 32, 64, 128] {
-            let other = flipped(&frame, at, mask);
-            assert!(rt; open_frame(&keys, &sizes, 1, &other) == Err(LinkFault::BadTag));
-        }
-    }
+    refuse_before_the_tag(&rt, &lab_keys(rt.alloc(), &sizes, me)?, &sizes);
     Ok(())
+}
+
+/// What is refused with another byte in the fields, under a tag by this node.
+static BEHIND_THE_TAG: [(u8, usize, u8, LinkFault); 4] = [
+    (0, 7, 4, LinkFault::BadKind),
+    (0, 8, 4, LinkFault::BadOwner),
+    (0, 19, 1, LinkFault::BadCommand),
+    (2, 5, 2, LinkFault::SendNotByOwner),
+];
+
+fn refuse_behind_the_tag(rt: &impl Abort, keys: &PairKeys, sizes: &Sizes)
+    requires { keys.now.sizes ≡ sizes.now }
+{
+    for (from, at, value, fault) in &BEHIND_THE_TAG {
+        let frame = tagged(*from, 1, &altered(&FIELDS, *at, *value));
+        assert!(rt; open_frame(keys, sizes, 1, &frame) == Err(*fault));
+    }
 }
 
 #[test]
 fn refusals_behind_the_tag(rt: HostRuntime) -> Result<(), Fail> {
     let sizes = Sizes::new(4, 1)?;
     let me = sizes.name(1).ok_or("no name")?;
-    let keys = lab_keys(rt.alloc(), &sizes, me)?;
-    for (from, fields, fault) in [
-        (0, altered(&FIELDS, 7, 4), LinkFault::BadKind),
-        (0, altered(&FIELDS, 8, 4), LinkFault::BadOwner),
-        (0, altered(&FIELDS, 19, 1), LinkFault::BadCommand),
-        (2, altered(&FIELDS, 5, 2), LinkFault::SendNotByOwner),
-    ] {
-        let frame = tagged(from, 1, &fields);
-        assert_eq!(rt; open_frame(&keys, &sizes, 1, &frame), Err(fault));
-    }
+    refuse_behind_the_tag(&rt, &lab_keys(rt.alloc(), &sizes, me)?, &sizes);
     Ok(())
 }
 
