@@ -5,9 +5,12 @@ use role_commands::{Command, Items, RoleTable};
 use role_node::{Answer, Config, MOST_EVENTS, Question, Reply};
 use role_sessions::ClientEvent;
 use std::alloc::Global;
+use std::process::Abort;
 use std::test::Fail;
 
 const ASSIGN: Command = Command::Assign { user: 7, role: 2 };
+
+const OTHER: Command = Command::Assign { user: 8, role: 2 };
 
 /// Four nodes of which one may lie, and role 2 of node 0.
 fn config(alloc: Global, limit: u32) -> Result<Config, Fail> {
@@ -20,16 +23,14 @@ fn name(index: u8) -> Result<NodeName, Fail> {
     Ok(Sizes::new(4, 1)?.name(index).ok_or("no node")?)
 }
 
-/// An ECHO of a command at node 0's first place, to node 1.
-fn echo(from: u8, command: Command) -> Result<Step, Fail> {
-    let message = Message {
-        kind: Kind::Echo,
-        owner: name(0)?,
-        place: 0,
-        command,
-    };
-    let packet = Packet::new(name(from)?, name(1)?, message).ok_or("no packet")?;
-    Ok(Step::Lie { packet })
+fn set_of(nodes: &[u8]) -> Result<NodeSet, Fail> {
+    let mut set = NodeSet::new();
+    for node in nodes {
+        if !set.insert(name(*node)?) {
+            return Err("a node twice".into());
+        }
+    }
+    Ok(set)
 }
 
 /// The frame of the SEND of that command at node 0's first place, from node 0 to node 1, in cluster 1 with laboratory
@@ -41,152 +42,199 @@ const FRAME: [u8; 52] = [
     0x98, 0x87, 0x25, 0x5a,
 ];
 
-/// Bytes that arrive at node 1.
-fn arriving(alloc: Global, bytes: &[u8]) -> Result<Step, Fail> {
+/// What happens in a cluster in which node 0 publishes `ASSIGN`.
+#[derive(Clone, Copy)]
+enum Act {
+    Issue,
+    Give(u32),
+    /// An ECHO of a command at node 0's first place, from this node to node 1.
+    Echo(u8, Command),
+    /// The frame arrives at node 1, with these bits of its last byte turned.
+    Frame(u8),
+    /// User 7 opens a session at node 0.
+    Open,
+}
+
+/// What is due to an act. So many packets were sent before it.
+#[derive(Clone, Copy)]
+enum Due {
+    Sends(u32),
+    Counts(u32),
+    Idle(u32),
+    Opens(u64, u32),
+    Absorbed,
+    Refused(WorldFault),
+}
+
+fn echo(from: u8, command: Command) -> Result<Step, Fail> {
+    let message = Message {
+        kind: Kind::Echo,
+        owner: name(0)?,
+        place: 0,
+        command,
+    };
+    let packet = Packet::new(name(from)?, name(1)?, message).ok_or("no packet")?;
+    Ok(Step::Lie { packet })
+}
+
+fn arriving(alloc: Global, turned: u8) -> Result<Step, Fail> {
+    let mut frame = FRAME;
+    frame[51] ^= turned;
     Ok(Step::Bytes {
         to: name(1)?,
-        bytes: Items::new(bytes.to_vec(alloc)?),
+        bytes: Items::new(frame.to_vec(alloc)?),
     })
 }
 
-#[test]
-fn frames(rt: HostRuntime) -> Result<(), Fail> {
-    let alloc = rt.alloc();
-    let mut world = World::new(alloc, config(alloc, MOST_EVENTS)?, NodeSet::new())?;
-    let unsent = world.step(arriving(alloc, &FRAME)?);
-    assert_eq!(rt; unsent, Err(WorldFault::NotSent));
-    let _ = world.step(Step::Issue {
-        node: name(0)?,
-        command: ASSIGN,
-    })?;
-    let mut turned = FRAME;
-    turned[51] ^= 1;
-    let forged = world.step(arriving(alloc, &turned)?);
-    assert_eq!(rt; forged, Err(WorldFault::Link(LinkFault::BadTag)));
-    let taken = world.step(arriving(alloc, &FRAME)?)?;
-    let is_echoed = matches!(
-        taken,
-        StepReply::Node {
-            first: 4,
-            count: 4,
-            ..
-        }
-    );
-    assert!(rt; is_echoed);
-    let again = StepReply::Node {
-        reply: Reply::Idle,
-        first: 8,
-        count: 0,
+fn step_of(alloc: Global, act: Act) -> Result<Step, Fail> {
+    match act {
+        Act::Issue => Ok(Step::Issue {
+            node: name(0)?,
+            command: ASSIGN,
+        }),
+        Act::Give(packet) => Ok(Step::Give { packet }),
+        Act::Echo(from, command) => echo(from, command),
+        Act::Frame(turned) => arriving(alloc, turned),
+        Act::Open => Ok(Step::Client {
+            node: name(0)?,
+            event: ClientEvent::Open { user: 7 },
+        }),
+    }
+}
+
+fn is_due(answer: Result<StepReply, WorldFault>, due: Due) -> bool {
+    let (first, count, reply) = match answer {
+        Ok(
+            StepReply::Node {
+                reply,
+                first,
+                count,
+            },
+        ) => (first, count, reply),
+        Ok(StepReply::Absorbed) => return matches!(due, Due::Absorbed),
+        Err(fault) => return matches!(due, Due::Refused(refused) if refused == fault),
     };
-    assert_eq!(rt; world.step(Step::Give { packet: 1 })?, again);
+    match due {
+        Due::Sends(sent) => first == sent && count == 4,
+        Due::Counts(sent) => {
+            first == sent && count == 0 && matches!(reply, Reply::Counted { send: None, .. })
+        }
+        Due::Idle(sent) => first == sent && count == 0 && reply == Reply::Idle,
+        Due::Opens(id, sent) => first == sent && count == 0 && reply == Reply::Session(id),
+        Due::Absorbed | Due::Refused(_) => false,
+    }
+}
+
+fn walk(
+    rt: &impl Abort,
+    alloc: Global,
+    world: &mut World,
+    acts: &[(Act, Due)],
+) -> Result<(), Fail> {
+    for (act, due) in acts {
+        let is_due = is_due(world.step(step_of(alloc, *act)?), *due);
+        assert!(rt; is_due);
+    }
     Ok(())
 }
 
+/// From the start on.
+fn play(
+    rt: &impl Abort,
+    alloc: Global,
+    limit: u32,
+    liars: &[u8],
+    acts: &[(Act, Due)],
+) -> Result<(), Fail> {
+    let liars = set_of(liars)?;
+    let mut world = World::new(alloc, config(alloc, limit)?, liars)?;
+    walk(rt, alloc, &mut world, acts)
+}
+
+static FRAMES: [(Act, Due); 5] = [
+    (Act::Frame(0), Due::Refused(WorldFault::NotSent)),
+    (Act::Issue, Due::Sends(0)),
+    (
+        Act::Frame(1),
+        Due::Refused(WorldFault::Link(LinkFault::BadTag)),
+    ),
+    (Act::Frame(0), Due::Sends(4)),
+    (Act::Give(1), Due::Idle(8)),
+];
+
+#[test]
+fn frames(rt: HostRuntime) -> Result<(), Fail> {
+    play(&rt, rt.alloc(), MOST_EVENTS, &[], &FRAMES)
+}
+
+static FULL_POOL: [(Act, Due); 3] = [
+    (Act::Issue, Due::Sends(0)),
+    (Act::Give(0), Due::Refused(WorldFault::PoolFull)),
+    (Act::Open, Due::Opens(1, 4)),
+];
+
 #[test]
 fn full_pool(rt: HostRuntime) -> Result<(), Fail> {
-    let mut world = World::new(rt.alloc(), config(rt.alloc(), 4)?, NodeSet::new())?;
-    let node = name(0)?;
-    let issued = world.step(Step::Issue {
-        node,
-        command: ASSIGN,
-    })?;
-    assert!(rt;
-        matches!(
-            issued,
-            StepReply::Node {
-                first: 0,
-                count: 4,
-                ..
-            }
-        )
-    );
-    assert_eq!(rt;
-        world.step(Step::Give { packet: 0 }),
-        Err(WorldFault::PoolFull)
-    );
-    let opened = world.step(Step::Client {
-        node,
-        event: ClientEvent::Open { user: 7 },
-    })?;
-    let session = StepReply::Node {
-        reply: Reply::Session(1),
-        first: 4,
-        count: 0,
-    };
-    assert_eq!(rt; opened, session);
-    Ok(())
+    play(&rt, rt.alloc(), 4, &[], &FULL_POOL)
+}
+
+static ONE_VOTE: [(Act, Due); 8] = [
+    (Act::Issue, Due::Sends(0)),
+    (Act::Give(1), Due::Sends(4)),
+    (Act::Give(1), Due::Idle(8)),
+    (Act::Echo(3, ASSIGN), Due::Counts(8)),
+    (Act::Echo(3, OTHER), Due::Idle(8)),
+    (Act::Echo(2, OTHER), Due::Refused(WorldFault::NotSent)),
+    (Act::Give(3), Due::Absorbed),
+    (Act::Give(99), Due::Refused(WorldFault::NoSuchPacket)),
+];
+
+#[test]
+fn votes_once(rt: HostRuntime) -> Result<(), Fail> {
+    play(&rt, rt.alloc(), MOST_EVENTS, &[3], &ONE_VOTE)
 }
 
 #[test]
 fn two_liars(rt: HostRuntime) -> Result<(), Fail> {
-    let mut liars = NodeSet::new();
-    assert!(rt; liars.insert(name(1)?) && liars.insert(name(3)?));
+    let liars = set_of(&[1, 3])?;
     let made = World::new(rt.alloc(), config(rt.alloc(), 4)?, liars);
-    assert_eq!(rt; made.err(), Some(WorldFault::TooManyLiars));
+    assert!(rt; made.err() == Some(WorldFault::TooManyLiars));
+    Ok(())
+}
+
+/// Node 0 publishes, and each packet of its pool is given once.
+fn all_given(alloc: Global, packets: u32) -> Result<Vec<Step>, Fail> {
+    let mut steps = Vec::new(alloc);
+    steps.push(step_of(alloc, Act::Issue)?)?;
+    for packet in 0..packets {
+        steps.push(Step::Give { packet })?;
+    }
+    Ok(steps)
+}
+
+/// Whether user 7 alone has role 2 at the node.
+fn is_assigned(world: &mut World, node: NodeName) -> bool {
+    let answer = world.ask(node, Question::AssignedUsers(2));
+    matches!(&answer, Ok(Answer::Users(users)) if users.as_slice() == [7].as_slice())
+}
+
+/// What is due where all took what node 0 published, but node 3, which lies.
+fn settled(rt: &impl Abort, world: &mut World) -> Result<(), Fail> {
+    let (publisher, taker, liar) = (name(0)?, name(2)?, name(3)?);
+    assert!(rt; world.at_rest() && world.sent_len() == 28);
+    assert!(rt; world.sent(27).is_some() && world.sent(28).is_none());
+    assert!(rt; world.node(taker).is_some());
+    assert!(rt; world.agree(publisher, taker, publisher) == Some(1));
+    assert!(rt; is_assigned(world, taker));
+    assert!(rt; world.check(liar, 1, 7, 5, 9).is_none());
     Ok(())
 }
 
 #[test]
 fn one_silent_liar(rt: HostRuntime) -> Result<(), Fail> {
-    let mut liars = NodeSet::new();
-    assert!(rt; liars.insert(name(3)?));
-    let mut steps = Vec::new(rt.alloc());
-    steps.push(Step::Issue {
-        node: name(0)?,
-        command: ASSIGN,
-    })?;
-    for packet in 0..28 {
-        steps.push(Step::Give { packet })?;
-    }
+    let liars = set_of(&[3])?;
+    let steps = all_given(rt.alloc(), 28)?;
     let config = config(rt.alloc(), MOST_EVENTS)?;
     let mut world = World::run(rt.alloc(), config, liars, steps.as_slice())?;
-    assert!(rt; world.at_rest());
-    assert_eq!(rt; world.sent_len(), 28);
-    assert!(rt; world.sent(27).is_some() && world.sent(28).is_none());
-    assert!(rt; world.node(name(2)?).is_some());
-    assert_eq!(rt; world.agree(name(0)?, name(2)?, name(0)?), Some(1));
-    match world.ask(name(2)?, Question::AssignedUsers(2))? {
-        Answer::Users(users) => assert_eq!(rt; users.as_slice(), [7].as_slice()),
-        _ => assert!(rt; false),
-    }
-    assert_eq!(rt; world.check(name(3)?, 1, 7, 5, 9), None);
-    Ok(())
-}
-
-#[test]
-fn votes_once(rt: HostRuntime) -> Result<(), Fail> {
-    let mut liars = NodeSet::new();
-    assert!(rt; liars.insert(name(3)?));
-    let mut world = World::new(rt.alloc(), config(rt.alloc(), MOST_EVENTS)?, liars)?;
-    let other = Command::Assign { user: 8, role: 2 };
-    let _ = world.step(Step::Issue {
-        node: name(0)?,
-        command: ASSIGN,
-    })?;
-    let given = world.step(Step::Give { packet: 1 })?;
-    assert!(rt;
-        matches!(
-            given,
-            StepReply::Node {
-                first: 4,
-                count: 4,
-                ..
-            }
-        )
-    );
-    let idle = StepReply::Node {
-        reply: Reply::Idle,
-        first: 8,
-        count: 0,
-    };
-    assert_eq!(rt; world.step(Step::Give { packet: 1 })?, idle);
-    assert!(rt; world.step(echo(3, ASSIGN)?)? != idle);
-    assert_eq!(rt; world.step(echo(3, other)?)?, idle);
-    assert_eq!(rt; world.step(echo(2, other)?), Err(WorldFault::NotSent));
-    assert_eq!(rt; world.step(Step::Give { packet: 3 })?, StepReply::Absorbed);
-    assert_eq!(rt;
-        world.step(Step::Give { packet: 99 }),
-        Err(WorldFault::NoSuchPacket)
-    );
-    Ok(())
+    settled(&rt, &mut world)
 }
