@@ -1,7 +1,8 @@
 use super::*;
 use link_frames::Kind;
-use quorum_sizes::Sizes;
+use quorum_sizes::{NodeName, Sizes};
 use role_commands::Command;
+use std::process::Abort;
 use std::test::Fail;
 
 const ASSIGN: Command = Command::Assign { user: 7, role: 2 };
@@ -24,20 +25,27 @@ const COUNTED: Taken = Taken {
     delivered: None,
 };
 
-fn sends(kind: Kind) -> Taken {
-    Taken {
-        effect: Effect::Counted,
-        broadcast: Some((kind, ASSIGN)),
-        delivered: None,
-    }
-}
+const ECHOES: Taken = Taken {
+    effect: Effect::Counted,
+    broadcast: Some((Kind::Echo, ASSIGN)),
+    delivered: None,
+};
 
-fn delivers() -> Taken {
-    Taken {
-        effect: Effect::Counted,
-        broadcast: None,
-        delivered: Some(ASSIGN),
-    }
+const READIES: Taken = Taken {
+    effect: Effect::Counted,
+    broadcast: Some((Kind::Ready, ASSIGN)),
+    delivered: None,
+};
+
+const DELIVERS: Taken = Taken {
+    effect: Effect::Counted,
+    broadcast: None,
+    delivered: Some(ASSIGN),
+};
+
+/// A node of four.
+fn name(index: u8) -> Result<NodeName, Fail> {
+    Ok(Sizes::new(4, 1)?.name(index).ok_or("no such node")?)
 }
 
 fn taken(instance: &mut Instance, kind: Kind, from: u8, command: Command) -> Result<Taken, Fail> {
@@ -46,26 +54,23 @@ fn taken(instance: &mut Instance, kind: Kind, from: u8, command: Command) -> Res
     Ok(instance.take(&sizes, kind, name, command)?)
 }
 
-#[test]
-fn from_send_to_delivery(rt: HostRuntime) -> Result<(), Fail> {
-    let mut instance = Instance::new(rt.alloc());
-    for (kind, from, command, due) in [
-        (Kind::Send, 0, ASSIGN, sends(Kind::Echo)),
-        (Kind::Echo, 0, ASSIGN, COUNTED),
-        (Kind::Echo, 1, ASSIGN, COUNTED),
-        (Kind::Echo, 1, GRANT, IDLE),
-        (Kind::Echo, 2, ASSIGN, sends(Kind::Ready)),
-        (Kind::Ready, 0, ASSIGN, COUNTED),
-        (Kind::Ready, 1, ASSIGN, COUNTED),
-        (Kind::Ready, 2, ASSIGN, delivers()),
-        (Kind::Ready, 3, ASSIGN, COUNTED),
-        (Kind::Ready, 3, ASSIGN, IDLE),
-    ] {
-        assert_eq!(rt;
-            taken(&mut instance, kind, from, command)?,
-            due,
-            "{kind:?} from {from}"
-        );
+static TO_DELIVERY: [(Kind, u8, Command, Taken); 10] = [
+    (Kind::Send, 0, ASSIGN, ECHOES),
+    (Kind::Echo, 0, ASSIGN, COUNTED),
+    (Kind::Echo, 1, ASSIGN, COUNTED),
+    (Kind::Echo, 1, GRANT, IDLE),
+    (Kind::Echo, 2, ASSIGN, READIES),
+    (Kind::Ready, 0, ASSIGN, COUNTED),
+    (Kind::Ready, 1, ASSIGN, COUNTED),
+    (Kind::Ready, 2, ASSIGN, DELIVERS),
+    (Kind::Ready, 3, ASSIGN, COUNTED),
+    (Kind::Ready, 3, ASSIGN, IDLE),
+];
+
+fn deliver(rt: &impl Abort, instance: &mut Instance) -> Result<(), Fail> {
+    for (kind, from, command, due) in &TO_DELIVERY {
+        let taken = taken(instance, *kind, *from, *command)?;
+        assert!(rt; taken == *due, "{kind:?} from {from}");
     }
     assert!(rt; instance.echoed() == Some(ASSIGN) && instance.readied() == Some(ASSIGN));
     assert!(rt; instance.delivered() == Some(ASSIGN));
@@ -73,60 +78,78 @@ fn from_send_to_delivery(rt: HostRuntime) -> Result<(), Fail> {
 }
 
 #[test]
+fn from_send_to_delivery(rt: HostRuntime) -> Result<(), Fail> {
+    deliver(&rt, &mut Instance::new(rt.alloc()))
+}
+
+static LATE_SEND: [(Kind, u8, Taken); 4] = [
+    (Kind::Ready, 1, COUNTED),
+    (Kind::Ready, 2, READIES),
+    (Kind::Ready, 3, DELIVERS),
+    (Kind::Send, 0, ECHOES),
+];
+
+fn echo_late(rt: &impl Abort, instance: &mut Instance) -> Result<(), Fail> {
+    for (kind, from, due) in &LATE_SEND {
+        let taken = taken(instance, *kind, *from, ASSIGN)?;
+        assert!(rt; taken == *due, "{kind:?} from {from}");
+        let name = name(*from)?;
+        assert!(rt; instance.voted(*kind, name) && !instance.voted(Kind::Echo, name));
+    }
+    Ok(())
+}
+
+#[test]
 fn a_late_send_causes_an_echo(rt: HostRuntime) -> Result<(), Fail> {
-    let mut instance = Instance::new(rt.alloc());
-    for (kind, from, due) in [
-        (Kind::Ready, 1, COUNTED),
-        (Kind::Ready, 2, sends(Kind::Ready)),
-        (Kind::Ready, 3, delivers()),
-        (Kind::Send, 0, sends(Kind::Echo)),
-    ] {
-        assert_eq!(rt;
-            taken(&mut instance, kind, from, ASSIGN)?,
-            due,
-            "{kind:?} from {from}"
-        );
-        let name = Sizes::new(4, 1)?.name(from).ok_or("no such node")?;
-        assert!(rt; instance.voted(kind, name) && !instance.voted(Kind::Echo, name));
+    echo_late(&rt, &mut Instance::new(rt.alloc()))
+}
+
+/// How many votes are kept after each message.
+static KEPT: [(Kind, u8, Command, u16); 9] = [
+    (Kind::Send, 0, ASSIGN, 0),
+    (Kind::Echo, 0, ASSIGN, 1),
+    (Kind::Echo, 1, ASSIGN, 1),
+    (Kind::Echo, 1, GRANT, 1),
+    (Kind::Echo, 2, ASSIGN, 1),
+    (Kind::Echo, 3, GRANT, 2),
+    (Kind::Ready, 0, ASSIGN, 2),
+    (Kind::Ready, 1, ASSIGN, 2),
+    (Kind::Ready, 2, ASSIGN, 0),
+];
+
+fn keep(rt: &impl Abort, instance: &mut Instance) -> Result<(), Fail> {
+    for (kind, from, command, kept) in &KEPT {
+        assert!(rt; instance.record().is_none());
+        taken(instance, *kind, *from, *command)?;
+        assert!(rt; instance.kept() == *kept, "{kind:?} from {from}");
     }
     Ok(())
 }
 
 #[test]
 fn votes_are_kept_until_the_delivery(rt: HostRuntime) -> Result<(), Fail> {
-    let mut instance = Instance::new(rt.alloc());
-    for (kind, from, command, kept) in [
-        (Kind::Send, 0, ASSIGN, 0),
-        (Kind::Echo, 0, ASSIGN, 1),
-        (Kind::Echo, 1, ASSIGN, 1),
-        (Kind::Echo, 1, GRANT, 1),
-        (Kind::Echo, 2, ASSIGN, 1),
-        (Kind::Echo, 3, GRANT, 2),
-        (Kind::Ready, 0, ASSIGN, 2),
-        (Kind::Ready, 1, ASSIGN, 2),
-        (Kind::Ready, 2, ASSIGN, 0),
-    ] {
-        assert!(rt; instance.record().is_none());
-        taken(&mut instance, kind, from, command)?;
-        assert_eq!(rt; instance.kept(), kept, "{kind:?} from {from}");
-    }
-    Ok(())
+    keep(&rt, &mut Instance::new(rt.alloc()))
 }
+
+fn record_of_three(instance: &mut Instance) -> Result<Record, Fail> {
+    for from in 0..3 {
+        taken(instance, Kind::Ready, from, ASSIGN)?;
+    }
+    Ok(instance.record().ok_or("nothing is delivered")?)
+}
+
+static TO_A_RECORD: [(Kind, Command, Taken); 3] = [
+    (Kind::Ready, GRANT, COUNTED),
+    (Kind::Ready, GRANT, IDLE),
+    (Kind::Send, ASSIGN, ECHOES),
+];
 
 #[test]
 fn a_record_takes_what_comes_late(rt: HostRuntime) -> Result<(), Fail> {
-    let mut instance = Instance::new(rt.alloc());
-    for from in 0..3 {
-        taken(&mut instance, Kind::Ready, from, ASSIGN)?;
-    }
-    let mut record = instance.record().ok_or("nothing is delivered")?;
-    let name = Sizes::new(4, 1)?.name(3).ok_or("no such node")?;
-    for (kind, command, due) in [
-        (Kind::Ready, GRANT, COUNTED),
-        (Kind::Ready, GRANT, IDLE),
-        (Kind::Send, ASSIGN, sends(Kind::Echo)),
-    ] {
-        assert_eq!(rt; record.take(kind, name, command), due);
+    let mut record = record_of_three(&mut Instance::new(rt.alloc()))?;
+    let name = name(3)?;
+    for (kind, command, due) in &TO_A_RECORD {
+        assert!(rt; record.take(*kind, name, *command) == *due);
     }
     assert!(rt; record.voted(Kind::Ready, name));
     assert!(rt; record.echoed() == Some(ASSIGN) && record.readied() == Some(ASSIGN));
