@@ -31,6 +31,10 @@ enum Step {
     Check(u64, u32, Verdict),
     /// Role 2, which may do operation 5 on object 9, is all that user 7's session 1 has active.
     Listed,
+    /// Each user below 4096 opens a session.
+    ManySessions,
+    /// User 7 gets the roles 0 to 64, of which the last does not become active in session 1.
+    ManyRoles,
 }
 
 /// A policy with its sessions, whose kept answers are right.
@@ -102,6 +106,8 @@ impl Bench {
                 Ok(self.sessions.check(&self.policy, *session, *user, 5, 9) == *due)
             }
             Step::Listed => Ok(self.is_listed()? && self.may()),
+            Step::ManySessions => Ok(self.opens_many()),
+            Step::ManyRoles => self.activates_many(),
         }
     }
 
@@ -119,6 +125,30 @@ impl Bench {
             && self.sessions.may_close(1, 7) == Ok(())
     }
 
+    fn opens_many(&mut self) -> bool {
+        for user in 0..4096 {
+            if self.open(user).is_err() {
+                return false;
+            }
+        }
+        true
+    }
+
+    fn activates_many(&mut self) -> Result<bool, Fail> {
+        for role in 0..65 {
+            self.apply(Command::Assign { user: 7, role })?;
+            let due = if role < 64 {
+                Ok(())
+            } else {
+                Err(SessionFault::TooManyRoles)
+            };
+            if self.sessions.activate(&self.policy, 1, 7, role) != due {
+                return Ok(false);
+            }
+        }
+        Ok(true)
+    }
+
     fn run(&mut self, rt: &impl Abort, steps: &[Step]) -> Result<(), Fail> {
         for step in steps {
             let is_due = self.is_due(step)?;
@@ -128,9 +158,9 @@ impl Bench {
     }
 }
 
-/// From no session on, over a policy of 4 roles.
-fn play(rt: &impl Abort, alloc: Global, steps: &[Step]) -> Result<(), Fail> {
-    Bench::new(alloc, 4)?.run(rt, steps)
+/// From no session on, over a policy of so many roles.
+fn play(rt: &impl Abort, alloc: Global, roles: u16, steps: &[Step]) -> Result<(), Fail> {
+    Bench::new(alloc, roles)?.run(rt, steps)
 }
 
 static LIFE: [Step; 14] = [
@@ -152,7 +182,7 @@ static LIFE: [Step; 14] = [
 
 #[test]
 fn a_session_from_its_opening_on(rt: HostRuntime) -> Result<(), Fail> {
-    play(&rt, rt.alloc(), &LIFE)
+    play(&rt, rt.alloc(), 4, &LIFE)
 }
 
 static DENIALS: [Step; 18] = [
@@ -178,7 +208,7 @@ static DENIALS: [Step; 18] = [
 
 #[test]
 fn denials_in_order(rt: HostRuntime) -> Result<(), Fail> {
-    play(&rt, rt.alloc(), &DENIALS)
+    play(&rt, rt.alloc(), 4, &DENIALS)
 }
 
 static TWO_ROLES: [Step; 14] = [
@@ -204,10 +234,11 @@ static TWO_ROLES: [Step; 14] = [
 
 #[test]
 fn the_first_granting_role_is_named(rt: HostRuntime) -> Result<(), Fail> {
-    play(&rt, rt.alloc(), &TWO_ROLES)
+    play(&rt, rt.alloc(), 4, &TWO_ROLES)
 }
 
-static FULL: [Step; 3] = [
+static MOST_SESSIONS: [Step; 4] = [
+    Step::ManySessions,
     Step::Open(7, Err(SessionFault::TooManySessions)),
     Step::Close(1, 0, Ok(())),
     Step::Open(7, Ok(4097)),
@@ -215,27 +246,14 @@ static FULL: [Step; 3] = [
 
 #[test]
 fn most_sessions(rt: HostRuntime) -> Result<(), Fail> {
-    let mut bench = Bench::new(rt.alloc(), 0)?;
-    for user in 0..4096 {
-        bench.open(user)?;
-    }
-    bench.run(&rt, &FULL)
+    play(&rt, rt.alloc(), 0, &MOST_SESSIONS)
 }
+
+static MOST_ROLES: [Step; 2] = [Step::Open(7, Ok(1)), Step::ManyRoles];
 
 #[test]
 fn most_active_roles(rt: HostRuntime) -> Result<(), Fail> {
-    let mut bench = Bench::new(rt.alloc(), 65)?;
-    bench.open(7)?;
-    for role in 0..65 {
-        bench.apply(Command::Assign { user: 7, role })?;
-        let due = if role < 64 {
-            Ok(())
-        } else {
-            Err(SessionFault::TooManyRoles)
-        };
-        bench.run(&rt, &[Step::Activate(1, 7, role, due)])?;
-    }
-    Ok(())
+    play(&rt, rt.alloc(), 65, &MOST_ROLES)
 }
 
 #[test]
