@@ -6,20 +6,59 @@ use link_frames::{Kind, Message, Packet, Place};
 use quorum_sizes::{NodeName, Sizes};
 use role_commands::Command;
 use std::alloc::Global;
+use std::process::Abort;
 use std::test::Fail;
 
 const FIRST: Command = Command::Assign { user: 7, role: 2 };
 
 const SECOND: Command = Command::Assign { user: 8, role: 2 };
 
-fn counted(from: u32, to: u32) -> StreamStep {
-    StreamStep {
-        effect: Effect::Counted,
-        broadcast: None,
-        delivered: None,
-        from,
-        to,
+const BEYOND: StreamFault = StreamFault::Beyond { place: 64, end: 64 };
+
+/// What a message causes.
+#[derive(Clone, Copy)]
+enum Due {
+    /// Nothing, at this reach.
+    Idles(u32),
+    /// It counts, at this reach.
+    Counts(u32),
+    /// The same command is sent in a message of this kind, at this reach.
+    Sends(Kind, u32),
+    /// It is delivered, and the stream grows from the one reach to the other.
+    Delivers(u32, u32),
+    Refused(StreamFault),
+}
+
+impl Due {
+    fn answer(self, command: Command) -> Result<StreamStep, StreamFault> {
+        let (effect, broadcast, delivered, from, to) = match self {
+            Due::Idles(reach) => (Effect::Idle, None, None, reach, reach),
+            Due::Counts(reach) => (Effect::Counted, None, None, reach, reach),
+            Due::Sends(kind, reach) => (Effect::Counted, Some((kind, command)), None, reach, reach),
+            Due::Delivers(from, to) => (Effect::Counted, None, Some(command), from, to),
+            Due::Refused(fault) => return Err(fault),
+        };
+        Ok(StreamStep {
+            effect,
+            broadcast,
+            delivered,
+            from,
+            to,
+        })
     }
+}
+
+/// What the streams are put through, with what is due.
+#[derive(Clone, Copy)]
+enum Act {
+    /// A message of this kind comes from this node, at a place with a command.
+    Take(Kind, u8, Place, Command, Due),
+    /// What a READY from node 3 would be at a place.
+    Look(Place, Result<Effect, StreamFault>),
+    Reach(u32),
+    Command(Place, Option<Command>),
+    /// The commands of the ECHO and the READY that are sent again at a place.
+    Again(Place, Option<Command>, Option<Command>),
 }
 
 /// The streams of a node among four, of which one may lie. Node 0 is the owner of all packets.
@@ -58,102 +97,86 @@ impl Four {
         Ok(Packet::new(from, owner, message).ok_or("no packet")?)
     }
 
-    fn take(
-        &mut self,
-        kind: Kind,
-        from: u8,
-        place: Place,
-        command: Command,
-    ) -> Result<Result<StreamStep, StreamFault>, Fail> {
-        let packet = self.packet(kind, from, place, command)?;
-        Ok(self.streams.take(&packet))
+    /// Whether the answer is the one that is due.
+    fn is_due(&mut self, act: &Act) -> Result<bool, Fail> {
+        match act {
+            Act::Take(kind, from, place, command, due) => {
+                let packet = self.packet(*kind, *from, *place, *command)?;
+                Ok(self.streams.take(&packet) == due.answer(*command))
+            }
+            Act::Look(place, due) => {
+                let packet = self.packet(Kind::Ready, 3, *place, FIRST)?;
+                Ok(self.streams.look(&packet) == *due)
+            }
+            Act::Reach(due) => Ok(self.streams.reach(self.owner) == *due),
+            Act::Command(place, due) => Ok(self.streams.command(self.owner, *place) == *due),
+            Act::Again(place, echo, ready) => {
+                let again = self.streams.again(self.owner, *place);
+                Ok(again.echo == *echo && again.ready == *ready)
+            }
+        }
     }
 
-    fn look(
-        &self,
-        kind: Kind,
-        from: u8,
-        place: Place,
-    ) -> Result<Result<Effect, StreamFault>, Fail> {
-        let packet = self.packet(kind, from, place, FIRST)?;
-        Ok(self.streams.look(&packet))
-    }
-
-    /// What READYs from 0, 2 and 3 cause.
-    fn three_readies(&mut self, place: Place, command: Command) -> Result<[StreamStep; 3], Fail> {
-        let first = self.take(Kind::Ready, 0, place, command)??;
-        let second = self.take(Kind::Ready, 2, place, command)??;
-        let third = self.take(Kind::Ready, 3, place, command)??;
-        Ok([first, second, third])
-    }
-
-    fn reach(&self) -> u32 {
-        self.streams.reach(self.owner)
-    }
-
-    fn command(&self, place: Place) -> Option<Command> {
-        self.streams.command(self.owner, place)
-    }
-
-    fn again(&self, place: Place) -> Again {
-        self.streams.again(self.owner, place)
+    fn run(&mut self, rt: &impl Abort, acts: &[Act]) -> Result<(), Fail> {
+        for act in acts {
+            let is_due = self.is_due(act)?;
+            assert!(rt; is_due);
+        }
+        Ok(())
     }
 }
+
+/// From empty streams on.
+fn play(rt: &impl Abort, alloc: Global, acts: &[Act]) -> Result<(), Fail> {
+    Four::new(alloc)?.run(rt, acts)
+}
+
+static GAP: [Act; 12] = [
+    Act::Take(Kind::Ready, 0, 1, SECOND, Due::Counts(0)),
+    Act::Take(Kind::Ready, 2, 1, SECOND, Due::Sends(Kind::Ready, 0)),
+    Act::Take(Kind::Ready, 3, 1, SECOND, Due::Delivers(0, 0)),
+    Act::Reach(0),
+    Act::Command(1, None),
+    Act::Take(Kind::Ready, 0, 0, FIRST, Due::Counts(0)),
+    Act::Take(Kind::Ready, 2, 0, FIRST, Due::Sends(Kind::Ready, 0)),
+    Act::Take(Kind::Ready, 3, 0, FIRST, Due::Delivers(0, 2)),
+    Act::Reach(2),
+    Act::Command(2, None),
+    Act::Command(0, Some(FIRST)),
+    Act::Command(1, Some(SECOND)),
+];
 
 #[test]
 fn a_gap_is_waited_for(rt: HostRuntime) -> Result<(), Fail> {
-    let mut four = Four::new(rt.alloc())?;
-    let [first, second, third] = four.three_readies(1, SECOND)?;
-    assert!(rt; first == counted(0, 0) && second.broadcast == Some((Kind::Ready, SECOND)));
-    assert!(rt; third.delivered == Some(SECOND) && third.from == 0 && third.to == 0);
-    assert!(rt; four.reach() == 0 && four.command(1).is_none());
-
-    let [_, _, third] = four.three_readies(0, FIRST)?;
-    assert!(rt; third.delivered == Some(FIRST) && third.from == 0 && third.to == 2);
-    assert!(rt; four.reach() == 2 && four.command(2).is_none());
-    assert!(rt; four.command(0) == Some(FIRST) && four.command(1) == Some(SECOND));
-    Ok(())
+    play(&rt, rt.alloc(), &GAP)
 }
+
+static WINDOW: [Act; 5] = [
+    Act::Look(64, Err(BEYOND)),
+    Act::Take(Kind::Ready, 3, 64, FIRST, Due::Refused(BEYOND)),
+    Act::Look(63, Ok(Effect::Counted)),
+    Act::Take(Kind::Ready, 3, 63, FIRST, Due::Counts(0)),
+    Act::Look(63, Ok(Effect::Idle)),
+];
 
 #[test]
 fn the_window_is_64_places(rt: HostRuntime) -> Result<(), Fail> {
-    let mut four = Four::new(rt.alloc())?;
-    let beyond = StreamFault::Beyond { place: 64, end: 64 };
-    for (place, seen, due) in [
-        (64, Err(beyond), Err(beyond)),
-        (63, Ok(Effect::Counted), Ok(counted(0, 0))),
-    ] {
-        assert_eq!(rt; four.look(Kind::Ready, 3, place)?, seen);
-        assert_eq!(rt; four.take(Kind::Ready, 3, place, FIRST)?, due);
-    }
-    assert!(rt; four.look(Kind::Ready, 3, 63)? == Ok(Effect::Idle));
-    Ok(())
+    play(&rt, rt.alloc(), &WINDOW)
 }
+
+static LATE: [Act; 9] = [
+    Act::Take(Kind::Ready, 0, 0, FIRST, Due::Counts(0)),
+    Act::Take(Kind::Ready, 2, 0, FIRST, Due::Sends(Kind::Ready, 0)),
+    Act::Take(Kind::Ready, 3, 0, FIRST, Due::Delivers(0, 1)),
+    Act::Again(0, None, Some(FIRST)),
+    Act::Take(Kind::Ready, 1, 0, SECOND, Due::Counts(1)),
+    Act::Take(Kind::Ready, 1, 0, SECOND, Due::Idles(1)),
+    Act::Take(Kind::Send, 0, 0, FIRST, Due::Sends(Kind::Echo, 1)),
+    Act::Again(0, Some(FIRST), Some(FIRST)),
+    Act::Command(0, Some(FIRST)),
+];
 
 #[test]
 fn late_messages_count(rt: HostRuntime) -> Result<(), Fail> {
-    let mut four = Four::new(rt.alloc())?;
-    four.three_readies(0, FIRST)?;
-    let ready = Again {
-        echo: None,
-        ready: Some(FIRST),
-    };
-    assert!(rt; four.again(0) == ready);
-    for (kind, from, command, effect, broadcast) in [
-        (Kind::Ready, 1, SECOND, Effect::Counted, None),
-        (Kind::Ready, 1, SECOND, Effect::Idle, None),
-        (
-            Kind::Send,
-            0,
-            FIRST,
-            Effect::Counted,
-            Some((Kind::Echo, FIRST)),
-        ),
-    ] {
-        let step = four.take(kind, from, 0, command)??;
-        assert!(rt; step.effect == effect && step.broadcast == broadcast);
-        assert!(rt; step.delivered.is_none() && step.from == 1 && step.to == 1);
-    }
-    assert!(rt; four.again(0).echo == Some(FIRST) && four.command(0) == Some(FIRST));
-    Ok(())
+    play(&rt, rt.alloc(), &LATE)
 }
