@@ -1,5 +1,7 @@
 -- What the code of an instance shows of each of its steps.
-use Rattle.std.proofs.Common.{◌≡◌, ℕ, Bool, true, false, cond, List, [], ◌∷◌, ◌++◌, All, is_some, Option, Some, None, refl, sym, ap, ◌∙◌, ◌==◌, ◌&&◌, find, option_map, zero, suc, zero-le, suc-le-suc, le_of_suc-le-suc, not-suc-le-zero, eq-eqb}
+use Rattle.std.proofs.Common.{◌≡◌, ℕ, Bool, true, false, cond, List, [], ◌∷◌, ◌++◌, All, is_some}
+use Rattle.std.proofs.Common.{Option, Some, None, refl, sym, ap, ◌∙◌, ◌==◌, ◌&&◌, find, option_map}
+use Rattle.std.proofs.Common.{zero, suc, zero-le, suc-le-suc, le_of_suc-le-suc, not-suc-le-zero, eq-eqb}
 use Rattle.quorum_sizes.specs.Sizes.{Counts}
 use Rattle.role_commands.specs.declared.command.Command.{Command}
 use Rattle.link_frames.specs.Kinds.{same_kind}
@@ -8,7 +10,8 @@ use Rattle.link_frames.specs.declared.kind.Kind.TheVariants.{Send, Echo, Ready}
 use Rattle.bracha_instance.specs.declared.instance.Effect.TheVariants.{Idle, Counted}
 use Rattle.bracha_instance.specs.Broadcast.{Take, command_of, is_of_kind, is_vote_of, vote, echoed}
 use Rattle.bracha_instance.specs.States.{State, state}
-use Rattle.bracha_instance.specs.Taking.{SendsAreFrom, effect_of, newly, sent_for, newly_sent, newly_delivered, has_voted}
+use Rattle.bracha_instance.specs.Taking.{SendsAreFrom, effect_of, newly, sent_for}
+use Rattle.bracha_instance.specs.Taking.{newly_sent, newly_delivered, has_voted}
 use Rattle.bracha_instance.specs.Next.{after_kind, after}
 use Rattle.bracha_instance.proofs.Same.{same_kind-true}
 use Rattle.bracha_instance.proofs.Voting.{contains-voters}

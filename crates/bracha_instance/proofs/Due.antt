@@ -1,5 +1,6 @@
 -- When a command may be readied or delivered, and the laws of what is.
-use Rattle.std.proofs.Common.{◌≡◌, ℕ, ◌≤◌, true, false, ◌||◌, nat_le, List, [], ◌∷◌, ◌++◌, map, find, take, Option, Some, None, option_map, IsSome, ap, ◌∙◌, arith}
+use Rattle.std.proofs.Common.{◌≡◌, ℕ, ◌≤◌, true, false, ◌||◌, nat_le, List, [], ◌∷◌, ◌++◌, map}
+use Rattle.std.proofs.Common.{find, take, Option, Some, None, option_map, IsSome, ap, ◌∙◌, arith}
 use Rattle.std.proofs.lemmas.Bool.{lt-leb, leb-true, le-leb, or_right}
 use Rattle.std.proofs.lemmas.List.Folds.{find-append}
 use Rattle.std.specs.Option.{option_or}
@@ -9,9 +10,11 @@ use Rattle.quorum_sizes.specs.Sizes.{Counts, echo_quorum_of, amplify_of, deliver
 use Rattle.role_commands.specs.declared.command.Command.{Command}
 use Rattle.role_commands.specs.Same.{same_command}
 use Rattle.link_frames.specs.declared.kind.Kind.TheVariants.{Send, Echo, Ready}
-use Rattle.bracha_instance.specs.Broadcast.{Take, command_of, is_of_kind, supporters, echoed, readied, delivered, may_ready, may_deliver}
+use Rattle.bracha_instance.specs.Broadcast.{Take, command_of, is_of_kind, supporters, echoed}
+use Rattle.bracha_instance.specs.Broadcast.{readied, delivered, may_ready, may_deliver}
 use Rattle.bracha_instance.specs.States.{votes}
-use Rattle.bracha_instance.specs.Laws.{ReadiesItsOwn, DeliversItsOwn, EchoStays, ReadyStays, DeliveryStays, ReadyWasFirst, DeliveryWasFirst, ReadyComes, DeliveryComes}
+use Rattle.bracha_instance.specs.Laws.{ReadiesItsOwn, DeliversItsOwn, EchoStays, ReadyStays, DeliveryStays}
+use Rattle.bracha_instance.specs.Laws.{ReadyWasFirst, DeliveryWasFirst, ReadyComes, DeliveryComes}
 use Rattle.bracha_instance.specs.Next.{ready_now, deliver_now}
 use Rattle.bracha_instance.proofs.Voting.{map_or, supporters_in-votes, supporters_push-other, supporters-nobody}
 use Rattle.bracha_instance.proofs.FirstDue.{due_push, due_stays, due_was_first, due_comes, not_due}

@@ -1,5 +1,6 @@
 -- The first moment at which something holds of a list that grows.
-use Rattle.std.proofs.Common.{◌≡◌, ℕ, zero, suc, ◌<◌, ◌≤◌, zero-le, suc-le-suc, le_of_suc-le-suc, le_refl, List, [], ◌∷◌, ◌++◌, length, take, take_all, Option, Some, None, refl, sym, ap, ◌∙◌, arith}
+use Rattle.std.proofs.Common.{◌≡◌, ℕ, zero, suc, ◌<◌, ◌≤◌, zero-le, suc-le-suc, le_of_suc-le-suc, le_refl, List}
+use Rattle.std.proofs.Common.{[], ◌∷◌, ◌++◌, length, take, take_all, Option, Some, None, refl, sym, ap, ◌∙◌, arith}
 use Rattle.std.specs.Option.{option_or}
 use Rattle.bracha_instance.specs.Prefixes.{at_first_prefix}
 

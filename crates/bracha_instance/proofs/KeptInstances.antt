@@ -1,5 +1,7 @@
 -- What the code of an instance shows of the votes that it keeps.
-use Rattle.std.proofs.Common.{◌≡◌, ℕ, zero, suc, ◌+◌, ◌*◌, ◌<◌, ◌≤◌, Bool, true, false, cond, ◌||◌, nat_le, List, [], ◌∷◌, length, get_or, is_some, Option, Some, None, refl, sym, ap, ◌∙◌, subst, arith, zero-le, suc-le-suc, ◌==◌, ◌&&◌, find, option_map, eqb-true}
+use Rattle.std.proofs.Common.{◌≡◌, ℕ, zero, suc, ◌+◌, ◌*◌, ◌<◌, ◌≤◌, Bool, true, false, cond, ◌||◌, nat_le}
+use Rattle.std.proofs.Common.{List, [], ◌∷◌, length, get_or, is_some, Option, Some, None, refl, sym, ap, ◌∙◌}
+use Rattle.std.proofs.Common.{subst, arith, zero-le, suc-le-suc, ◌==◌, ◌&&◌, find, option_map, eqb-true}
 use Rattle.std.specs.Prelude.{All, Contains}
 use Rattle.std.specs.List.{list_any}
 use Rattle.std.specs.Option.{option_or}
@@ -19,7 +21,8 @@ use Rattle.bracha_instance.specs.declared.instance.Instance.TheInside.{Inside}
 use Rattle.bracha_instance.specs.declared.tallies.Support.{Support}
 use Rattle.bracha_instance.specs.Prefixes.{at_first_prefix}
 use Rattle.link_frames.specs.Kinds.{same_kind}
-use Rattle.bracha_instance.specs.Broadcast.{Take, Names, command_of, vote, voters, supporters, is_vote_of, echoed, readied, delivered}
+use Rattle.bracha_instance.specs.Broadcast.{Take, Names, command_of, vote, voters, supporters}
+use Rattle.bracha_instance.specs.Broadcast.{is_vote_of, echoed, readied, delivered}
 use Rattle.bracha_instance.specs.States.{Votes, State, votes, kept, state}
 use Rattle.bracha_instance.specs.Kept.{names_of}
 use Rattle.bracha_instance.specs.Next.{supporters_in, ready_now, deliver_now, only_if, after_echo, after_ready}

@@ -1,5 +1,6 @@
 -- Rows of names by command: the votes that they keep, and what one more name changes.
-use Rattle.std.proofs.Common.{◌≡◌, ℕ, ◌==◌, Bool, true, false, cond, ◌||◌, List, [], ◌∷◌, Option, Some, None, refl, sym, ap, ◌∙◌, eqb-true}
+use Rattle.std.proofs.Common.{◌≡◌, ℕ, ◌==◌, Bool, true, false, cond, ◌||◌, List, []}
+use Rattle.std.proofs.Common.{◌∷◌, Option, Some, None, refl, sym, ap, ◌∙◌, eqb-true}
 use Rattle.std.specs.List.{list_any}
 use Rattle.std.specs.Ordering.{nat_cmp, eq_by_cmp}
 use Rattle.std.specs.Cmp.{nat_cmp_total}
@@ -12,7 +13,8 @@ use Rattle.bracha_instance.specs.States.{Votes}
 use Rattle.bracha_instance.specs.Next.{supporters_in}
 use Rattle.bracha_instance.specs.Tallies.{Row, vote_all, votes_in, names_for, RowsAgree}
 use Rattle.bracha_instance.proofs.Same.{same_command-true, same_command-refl}
-use Rattle.bracha_instance.proofs.VoteMaps.{same_votes, get-insert, contains-insert, supporters_in-empty, supporters_in-insert_same, supporters_in-insert_other}
+use Rattle.bracha_instance.proofs.VoteMaps.{same_votes, get-insert, contains-insert, supporters_in-empty}
+use Rattle.bracha_instance.proofs.VoteMaps.{supporters_in-insert_same, supporters_in-insert_other}
 
 -- The votes of some rows.
 

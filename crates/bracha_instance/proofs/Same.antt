@@ -3,7 +3,8 @@ use Rattle.std.proofs.Common.{◌≡◌, true, refl}
 use Rattle.link_frames.specs.Kinds.{same_kind}
 use Rattle.link_frames.specs.declared.kind.Kind.{Kind}
 use Rattle.link_frames.specs.declared.kind.Kind.TheVariants.{Send, Echo, Ready}
-pub use Rattle.role_commands.proofs.Exported.{same_command_is as same_command-true, same_command-self as same_command-refl}
+pub use Rattle.role_commands.proofs.Exported.{same_command_is as same_command-true}
+pub use Rattle.role_commands.proofs.Exported.{same_command-self as same_command-refl}
 
 pub same_kind-true : (j k : Kind) → same_kind j k ≡ true → j ≡ k
 same_kind-true Send Send e = refl

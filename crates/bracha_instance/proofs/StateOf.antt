@@ -1,6 +1,7 @@
 -- The state of a list of messages: its fields, and that one more message is one step.
 -- Layers above can cite these.
-use Rattle.std.proofs.Common.{◌≡◌, ℕ, Bool, true, false, cond, List, [], ◌∷◌, ◌++◌, ◌==◌, ◌&&◌, find, option_map, is_some, Option, Some, None, refl, sym, ap, ◌∙◌}
+use Rattle.std.proofs.Common.{◌≡◌, ℕ, Bool, true, false, cond, List, [], ◌∷◌, ◌++◌, ◌==◌, ◌&&◌}
+use Rattle.std.proofs.Common.{find, option_map, is_some, Option, Some, None, refl, sym, ap, ◌∙◌}
 use Rattle.std.specs.Option.{option_or}
 use Rattle.std.specs.FinMap as maps
 use Rattle.std.specs.FinSet as sets
@@ -9,13 +10,19 @@ use Rattle.role_commands.specs.declared.command.Command.{Command}
 use Rattle.link_frames.specs.Kinds.{same_kind}
 use Rattle.link_frames.specs.declared.kind.Kind.{Kind}
 use Rattle.link_frames.specs.declared.kind.Kind.TheVariants.{Send, Echo, Ready}
-use Rattle.bracha_instance.specs.Broadcast.{Take, command_of, is_of_kind, is_vote_of, is_for, vote, voters, supporters, echoed, readied, delivered, may_ready, may_deliver}
+use Rattle.bracha_instance.specs.Broadcast.{Take, command_of, is_of_kind, is_vote_of, is_for, vote, voters}
+use Rattle.bracha_instance.specs.Broadcast.{supporters, echoed, readied, delivered, may_ready, may_deliver}
 use Rattle.bracha_instance.specs.States.{State, votes, kept, state}
 use Rattle.bracha_instance.specs.Laws.{or_else_if, RepeatChangesNothing}
-use Rattle.bracha_instance.specs.Next.{ready_now, deliver_now, only_if, after_send, after_echo, after_ready, after_kind, after}
+use Rattle.bracha_instance.specs.Next.{ready_now, deliver_now, only_if, after_send}
+use Rattle.bracha_instance.specs.Next.{after_echo, after_ready, after_kind, after}
 use Rattle.bracha_instance.specs.Taking.{has_voted}
-use Rattle.bracha_instance.proofs.Voting.{or_nothing, vote_push-other, vote_push-again, echoed_push, some_stays, contains-voters, supporters_alike, voters_alike, votes_alike, votes_push-first, voters_push}
-use Rattle.bracha_instance.proofs.Due.{may_ready-votes, may_deliver-votes, may_ready-alike, may_deliver-alike, readies_its_own, delivers_its_own, not_ready, not_deliverable, delivered_is_ready}
+use Rattle.bracha_instance.proofs.Voting.{or_nothing, vote_push-other, vote_push-again, echoed_push}
+use Rattle.bracha_instance.proofs.Voting.{some_stays, contains-voters, supporters_alike}
+use Rattle.bracha_instance.proofs.Voting.{voters_alike, votes_alike, votes_push-first, voters_push}
+use Rattle.bracha_instance.proofs.Due.{may_ready-votes, may_deliver-votes, may_ready-alike}
+use Rattle.bracha_instance.proofs.Due.{may_deliver-alike, readies_its_own, delivers_its_own}
+use Rattle.bracha_instance.proofs.Due.{not_ready, not_deliverable, delivered_is_ready}
 use Rattle.bracha_instance.proofs.StateSteps.{IsEchoStep, IsReadyStep, echo_step, ready_step, send_again}
 
 -- what follows from the messages, with all votes

@@ -1,5 +1,7 @@
 -- The tallies of commands: what a change of one shows, and the commands that have a vote.
-use Rattle.std.proofs.Common.{◌≡◌, ℕ, zero, suc, ◌+◌, ◌<◌, ◌≤◌, ◌≢◌, Bool, true, false, cond, not, ◌||◌, List, [], ◌∷◌, ◌++◌, map, length, get_or, Some, None, refl, sym, ap, ◌∙◌, subst, arith, inl, inr, suc-le-suc, zero-le}
+use Rattle.std.proofs.Common.{◌≡◌, ℕ, zero, suc, ◌+◌, ◌<◌, ◌≤◌, ◌≢◌, Bool, true, false, cond}
+use Rattle.std.proofs.Common.{not, ◌||◌, List, [], ◌∷◌, ◌++◌, map, length, get_or, Some, None}
+use Rattle.std.proofs.Common.{refl, sym, ap, ◌∙◌, subst, arith, inl, inr, suc-le-suc, zero-le}
 use Rattle.std.specs.Prelude.{◌⊎◌, nat_lt, All, AllPairs, position, slice_set}
 use Rattle.std.specs.List.{list_any, prefix_len}
 use Rattle.std.specs.FinMap as maps
@@ -17,12 +19,16 @@ use Rattle.role_commands.specs.Same.{same_command}
 use Rattle.bracha_instance.specs.Broadcast.{Names}
 use Rattle.bracha_instance.specs.States.{Votes}
 use Rattle.bracha_instance.specs.Next.{supporters_in}
-use Rattle.bracha_instance.specs.Tallies.{Tallied, no_votes, with_command, with_echo, with_ready, support_of, HasVote, AreVoted, RowsAgree, echo_row, ready_row, names_for, command_in, is_tally_of, IsFirst, with_tally, echoed_by, ready_by, support_in, tallied, AreTallies, votes_in}
+use Rattle.bracha_instance.specs.Tallies.{Tallied, no_votes, with_command, with_echo, with_ready}
+use Rattle.bracha_instance.specs.Tallies.{support_of, HasVote, AreVoted, RowsAgree, echo_row, ready_row}
+use Rattle.bracha_instance.specs.Tallies.{names_for, command_in, is_tally_of, IsFirst, with_tally}
+use Rattle.bracha_instance.specs.Tallies.{echoed_by, ready_by, support_in, tallied, AreTallies, votes_in}
 use Rattle.bracha_instance.specs.declared.tallies.Tally.{Tally}
 use Rattle.bracha_instance.specs.declared.tallies.Support.{Support}
 use Rattle.bracha_instance.proofs.Same.{same_command-true, same_command-refl}
 use Rattle.bracha_instance.proofs.VoteMaps.{supporters_in-empty, supporters_in-insert_other, len_supporters_in-insert}
-use Rattle.bracha_instance.proofs.RowLemmas.{with_row, with_name, unchanged, votes_in-with_name, votes_in-unchanged, RowsAgree-empty, RowsAgree-unchanged, RowsAgree-with_name}
+use Rattle.bracha_instance.proofs.RowLemmas.{with_row, with_name, unchanged, votes_in-with_name, votes_in-unchanged}
+use Rattle.bracha_instance.proofs.RowLemmas.{RowsAgree-empty, RowsAgree-unchanged, RowsAgree-with_name}
 
 -- The place of a tally.
 

@@ -1,5 +1,6 @@
 -- First votes, voters and supporters, as one more message comes.
-use Rattle.std.proofs.Common.{◌≡◌, ℕ, ◌==◌, Bool, true, false, cond, ◌&&◌, ◌||◌, List, [], ◌∷◌, ◌++◌, map, filter, find, is_some, Option, Some, None, option_map, refl, sym, ap, ◌∙◌, eqb-true}
+use Rattle.std.proofs.Common.{◌≡◌, ℕ, ◌==◌, Bool, true, false, cond, ◌&&◌, ◌||◌, List, [], ◌∷◌, ◌++◌, map, filter}
+use Rattle.std.proofs.Common.{find, is_some, Option, Some, None, option_map, refl, sym, ap, ◌∙◌, eqb-true}
 use Rattle.std.proofs.lemmas.Bool.{and_parts}
 use Rattle.std.proofs.lemmas.List.Folds.{find-append}
 use Rattle.std.specs.Option.{option_or}
@@ -13,12 +14,14 @@ use Rattle.role_commands.specs.Same.{same_command}
 use Rattle.link_frames.specs.Kinds.{same_kind}
 use Rattle.link_frames.specs.declared.kind.Kind.{Kind}
 use Rattle.link_frames.specs.declared.kind.Kind.TheVariants.{Send}
-use Rattle.bracha_instance.specs.Broadcast.{Take, command_of, from_of, is_of_kind, is_vote_of, is_for, vote, voters, supporters, echoed}
+use Rattle.bracha_instance.specs.Broadcast.{Take, command_of, from_of, is_of_kind, is_vote_of}
+use Rattle.bracha_instance.specs.Broadcast.{is_for, vote, voters, supporters, echoed}
 use Rattle.bracha_instance.specs.States.{votes}
 use Rattle.bracha_instance.specs.Kept.{names_of}
 use Rattle.bracha_instance.specs.Next.{supporters_in}
 use Rattle.bracha_instance.proofs.Same.{same_kind-true, same_kind-refl}
-use Rattle.bracha_instance.proofs.VoteMaps.{same_names, same_votes, get-insert, contains-insert, contains-names_of, contains-supporters_in}
+use Rattle.bracha_instance.proofs.VoteMaps.{same_names, same_votes, get-insert, contains-insert}
+use Rattle.bracha_instance.proofs.VoteMaps.{contains-names_of, contains-supporters_in}
 
 -- Options.
 

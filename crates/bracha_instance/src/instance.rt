@@ -1,10 +1,12 @@
-ghost use Rattle.std.specs.Prelude.{◌≡◌, ℕ, ◌<◌, ◌≤◌, ◌*◌, ◌||◌, nat_le, List, [], ◌∷◌, ◌++◌, All, false, is_some, IfOk, IfSome, IsSome, OnOk, OnErr, None};
+ghost use Rattle.std.specs.Prelude.{◌≡◌, ℕ, ◌<◌, ◌≤◌, ◌*◌, ◌||◌, nat_le, List, [], ◌∷◌, ◌++◌};
+ghost use Rattle.std.specs.Prelude.{All, false, is_some, IfOk, IfSome, IsSome, OnOk, OnErr, None};
 ghost use Rattle.std.specs.Option.{option_or};
 ghost use Rattle.quorum_sizes.specs.Sizes.{Counts, echo_quorum_of, amplify_of, deliver_of};
 ghost use Rattle.role_commands.specs.declared.command.Command.{Command};
 ghost use Rattle.bracha_instance.specs.Broadcast.{Take, vote};
 ghost use Rattle.bracha_instance.specs.States.{state};
-ghost use Rattle.bracha_instance.specs.Taking.{SendsAreFrom, has_voted, effect_of, newly, sent_for, newly_sent, newly_delivered};
+ghost use Rattle.bracha_instance.specs.Taking.{SendsAreFrom, has_voted, effect_of, newly};
+ghost use Rattle.bracha_instance.specs.Taking.{sent_for, newly_sent, newly_delivered};
 ghost use Rattle.bracha_instance.specs.Next.{only_if, after_send, after_echo, after_ready, after_kind};
 ghost use Rattle.bracha_instance.specs.Supported.{CountsSupported};
 

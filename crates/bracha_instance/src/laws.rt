@@ -1,7 +1,9 @@
 //! The rules of the protocol, as laws about every list of messages that a node took.
 //!
 //! Each function's contract is its law, and its body is empty. `specs/Laws.antt` spells the laws out.
-ghost use Rattle.bracha_instance.specs.Laws.{ReadiesItsOwn, DeliversItsOwn, EchoStays, ReadyStays, DeliveryStays, ReadyWasFirst, DeliveryWasFirst, ReadyComes, DeliveryComes, RepeatChangesNothing};
+ghost use Rattle.bracha_instance.specs.Laws.{ReadiesItsOwn, DeliversItsOwn, EchoStays, ReadyStays};
+ghost use Rattle.bracha_instance.specs.Laws.{DeliveryStays, ReadyWasFirst, DeliveryWasFirst};
+ghost use Rattle.bracha_instance.specs.Laws.{ReadyComes, DeliveryComes, RepeatChangesNothing};
 
 /// One more message makes its own command ready, or none.
 pub fn readies_its_own()

@@ -2,7 +2,8 @@ ghost use Rattle.std.specs.Prelude.{◌≡◌, length, None, Some, position, IfO
 ghost use Rattle.std.specs.FinMap as maps;
 ghost use Rattle.std.specs.FinSet as sets;
 ghost use Rattle.role_commands.specs.Same.{same_command};
-ghost use Rattle.bracha_instance.specs.Tallies.{no_votes, with_echo, with_ready, support_of, AreVoted, is_tally_of, IsFirst, with_tally, echoed_by, ready_by, support_in};
+ghost use Rattle.bracha_instance.specs.Tallies.{no_votes, with_echo, with_ready, support_of, AreVoted};
+ghost use Rattle.bracha_instance.specs.Tallies.{is_tally_of, IsFirst, with_tally, echoed_by, ready_by, support_in};
 
 use quorum_sizes::{NodeName, NodeSet};
 use role_commands::Command;

@@ -1,5 +1,6 @@
 -- What the messages of an instance cause, by counts that compute.
-use Rattle.std.proofs.Common.{◌≡◌, ℕ, zero, suc, ◌+◌, ◌<◌, max, ◌||◌, nat_le, List, [], ◌∷◌, slice_get, Option, Some, ap, ◌∙◌, arith}
+use Rattle.std.proofs.Common.{◌≡◌, ℕ, zero, suc, ◌+◌, ◌<◌, max, ◌||◌, nat_le, List}
+use Rattle.std.proofs.Common.{[], ◌∷◌, slice_get, Option, Some, ap, ◌∙◌, arith}
 use Rattle.std.specs.FinSet as sets
 use Rattle.quorum_sizes.specs.Sizes.{Counts, echo_quorum_of, amplify_of, deliver_of}
 use Rattle.quorum_sizes.proofs.Exported.{count, len-count}
@@ -7,7 +8,8 @@ use Rattle.role_commands.specs.declared.command.Command.{Command}
 use Rattle.link_frames.specs.declared.kind.Kind.{Kind}
 use Rattle.link_frames.specs.declared.kind.Kind.TheVariants.{Echo, Ready}
 use Rattle.bracha_instance.specs.Prefixes.{at_first_prefix}
-use Rattle.bracha_instance.specs.Broadcast.{Take, is_for, vote, supporters, may_ready, may_deliver, command_that, readied, delivered}
+use Rattle.bracha_instance.specs.Broadcast.{Take, is_for, vote, supporters, may_ready}
+use Rattle.bracha_instance.specs.Broadcast.{may_deliver, command_that, readied, delivered}
 use Rattle.bracha_instance.proofs.Exported.{contains-supporters}
 use Rattle.byz_world.proofs.Votes.{vote_found, supporter_voted}
 

@@ -1,5 +1,6 @@
 -- The run of four nodes is at rest: each message that a correct node has sent, each correct node has taken.
-use Rattle.std.proofs.Common.{◌≡◌, ℕ, zero, suc, ◌<◌, Bool, true, ◌==◌, ◌&&◌, List, [], ◌∷◌, length, slice_get, Contains, Option, Some, None, refl, sym, ap, ◌∙◌, subst, arith, ltb-true, eqb-true}
+use Rattle.std.proofs.Common.{◌≡◌, ℕ, zero, suc, ◌<◌, Bool, true, ◌==◌, ◌&&◌, List, [], ◌∷◌, length, slice_get}
+use Rattle.std.proofs.Common.{Contains, Option, Some, None, refl, sym, ap, ◌∙◌, subst, arith, ltb-true, eqb-true}
 use Rattle.std.specs.List.{list_all}
 use Rattle.std.proofs.lemmas.Bool.{and_parts}
 use Rattle.role_commands.specs.declared.command.Command.{Command}

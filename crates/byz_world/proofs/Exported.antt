@@ -6,11 +6,14 @@
 --     pool-length      how many packets the messages of a run are
 --     consistency, integrity, same_policy, at_rest      the laws of every run, or of one at rest
 --     ready_for_one ..      their parts, of a run with what is known of it; `taken_by` is what a node took at a place
-pub use Rattle.byz_world.proofs.Pooled.{sent_is_pooled, pooled_is_sent, IsPooled, has_sent_is, is_has_sent, has_sent_stays, recorded_after}
+pub use Rattle.byz_world.proofs.Pooled.{sent_is_pooled, pooled_is_sent, IsPooled, has_sent_is}
+pub use Rattle.byz_world.proofs.Pooled.{is_has_sent, has_sent_stays, recorded_after}
 pub use Rattle.byz_world.proofs.Numbering.{pool-length}
-pub use Rattle.byz_world.proofs.Pushing.{history_of-append, history_of-none, history_of-own, history_of-other, history_of-push, history_of-push_other, messages-push, messages-none}
+pub use Rattle.byz_world.proofs.Pushing.{history_of-append, history_of-none, history_of-own, history_of-other}
+pub use Rattle.byz_world.proofs.Pushing.{history_of-push, history_of-push_other, messages-push, messages-none}
 pub use Rattle.byz_world.proofs.Growing.{empty_run, cluster_run_push}
 pub use Rattle.byz_world.proofs.Stepping.{after_step_runs, after_steps_runs, may_arrive, refused_after}
-pub use Rattle.byz_world.proofs.Safety.{consistency, integrity, ready_for_one, deliver_one, delivered_was_ready, ready_was_issued, delivered_was_issued, streamed}
+pub use Rattle.byz_world.proofs.Safety.{consistency, integrity, ready_for_one, deliver_one}
+pub use Rattle.byz_world.proofs.Safety.{delivered_was_ready, ready_was_issued, delivered_was_issued, streamed}
 pub use Rattle.byz_world.proofs.Policy.{same_policy, same_stream}
 pub use Rattle.byz_world.proofs.Rest.{ready_by_all, delivered_by_all, issued_reaches_all, at_rest}

@@ -1,11 +1,14 @@
 -- The promise, from the laws of every run and the rules of a decision.
-use Rattle.std.proofs.Common.{◌≡◌, ◌≢◌, ℕ, zero, suc, Bool, true, false, not, ◌==◌, if◌then◌else◌, List, [], ◌∷◌, length, take, find, filter, slice_get, Contains, Option, Some, None, refl, sym, ap, ◌∙◌, subst, ◌≤◌, arith, eqb-true, subst₂, All}
+use Rattle.std.proofs.Common.{◌≡◌, ◌≢◌, ℕ, zero, suc, Bool, true, false, not, ◌==◌, if◌then◌else◌}
+use Rattle.std.proofs.Common.{List, [], ◌∷◌, length, take, find, filter, slice_get, Contains, Option}
+use Rattle.std.proofs.Common.{Some, None, refl, sym, ap, ◌∙◌, subst, ◌≤◌, arith, eqb-true, subst₂, All}
 use Rattle.std.proofs.lemmas.Bool.{not-true, not-false, eqb-false, ltb-false}
 use Rattle.role_commands.specs.declared.command.Command.{Command}
 use Rattle.role_sessions.specs.Sessions.{Session}
 use Rattle.role_sessions.specs.Decisions.{Relations, SessionMay, counted_roles, verdict, allowed}
 use Rattle.role_sessions.specs.declared.verdict.Rule.{Rule}
-use Rattle.role_sessions.specs.declared.verdict.Rule.TheVariants.{NoSession, NotYours, NoActiveRole, NoneAssigned, NotPermitted}
+use Rattle.role_sessions.specs.declared.verdict.Rule.TheVariants.{NoSession, NotYours, NoActiveRole}
+use Rattle.role_sessions.specs.declared.verdict.Rule.TheVariants.{NoneAssigned, NotPermitted}
 use Rattle.role_sessions.specs.declared.verdict.Verdict.{Verdict}
 use Rattle.role_sessions.specs.declared.verdict.Verdict.TheVariants.{Allow, Deny}
 use Rattle.byz_world.specs.Headline.{IsFirstRule, IsRightDecision, Headline}

@@ -1,5 +1,6 @@
 -- The history of a node in a run: how it goes on, and where what the node took comes from.
-use Rattle.std.proofs.Common.{◌≡◌, ℕ, ◌<◌, Bool, true, false, ◌==◌, ◌&&◌, if◌then◌else◌, List, take, slice_get, Some, Result, Err, refl, ap, ◌∙◌, eqb-true, ltb-true, take_all, le_refl, length}
+use Rattle.std.proofs.Common.{◌≡◌, ℕ, ◌<◌, Bool, true, false, ◌==◌, ◌&&◌, if◌then◌else◌, List, take, slice_get}
+use Rattle.std.proofs.Common.{Some, Result, Err, refl, ap, ◌∙◌, eqb-true, ltb-true, take_all, le_refl, length}
 use Rattle.std.specs.List.{filter_map}
 use Rattle.std.proofs.lemmas.Bool.{and_parts}
 use Rattle.std.proofs.lemmas.Option.{cond_some}
@@ -16,7 +17,8 @@ use Rattle.role_node.specs.declared.event.Reply.{Reply}
 use Rattle.role_node.specs.declared.faults.NodeFault.{NodeFault}
 use Rattle.role_node.specs.declared.faults.NodeFault.TheVariants as fault
 use Rattle.byz_world.specs.Runs.{Run, event_at, history_of}
-use Rattle.byz_world.proofs.Lists.{IsIn, IsPicked, picked_from, IsFront, in_front, front_taken, front_picked, slice_get-taken}
+use Rattle.byz_world.proofs.Lists.{IsIn, IsPicked, picked_from, IsFront, in_front}
+use Rattle.byz_world.proofs.Lists.{front_taken, front_picked, slice_get-taken}
 
 -- the messages that a node took at a place of an owner's stream
 abbrev pub taken_by : Run → ℕ → ℕ → ℕ → List Take

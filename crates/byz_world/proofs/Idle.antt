@@ -1,5 +1,6 @@
 -- A packet of the pool that is idle where it is sent to was taken there, and the other way round.
-use Rattle.std.proofs.Common.{◌≡◌, ℕ, ◌+◌, ◌<◌, Bool, true, false, cond, ◌&&◌, ◌==◌, List, ◌++◌, length, take, Option, Some, None, Result, Ok, Err, refl, sym, ap, ◌∙◌, subst, length-append, arith}
+use Rattle.std.proofs.Common.{◌≡◌, ℕ, ◌+◌, ◌<◌, Bool, true, false, cond, ◌&&◌, ◌==◌, List, ◌++◌, length, take}
+use Rattle.std.proofs.Common.{Option, Some, None, Result, Ok, Err, refl, sym, ap, ◌∙◌, subst, length-append, arith}
 use Rattle.std.specs.Prelude.{if◌then◌else◌, nat_le, is_some, slice_get, option_map, Contains}
 use Rattle.std.specs.List.{filter_map}
 use Rattle.std.proofs.lemmas.Bool.{and_from}
@@ -18,7 +19,8 @@ use Rattle.owner_streams.specs.Places.{window, take_of, take_at, takes_at, strea
 use Rattle.owner_streams.specs.Steps.{step_of, step_due, effect_due}
 use Rattle.owner_streams.specs.declared.steps.StreamStep.{StreamStep}
 use Rattle.owner_streams.specs.declared.steps.StreamFault.TheVariants.{Beyond}
-use Rattle.role_node.specs.Answers.{outlook, take_outlook, unless_full, of_effect_due, is_routed, answered, reply_to, answer_due, is_recorded, IsLegal}
+use Rattle.role_node.specs.Answers.{outlook, take_outlook, unless_full, of_effect_due, is_routed}
+use Rattle.role_node.specs.Answers.{answered, reply_to, answer_due, is_recorded, IsLegal}
 use Rattle.role_node.specs.Configs.{ConfigValue}
 use Rattle.role_node.specs.Histories.{packet_in, packets}
 use Rattle.role_node.specs.declared.event.Event.{Event}
@@ -29,7 +31,8 @@ use Rattle.role_node.specs.declared.faults.NodeFault.TheVariants as fault
 use Rattle.byz_world.specs.Runs.{Run, history_of, is_correct, IsClusterRun}
 use Rattle.byz_world.specs.Inside.{is_idle}
 use Rattle.byz_world.proofs.Elements.{contained, number_of}
-use Rattle.byz_world.proofs.Lists.{IsIn, IsFront, IsPicked, picked_from, is_picked, found_there, front_taken, front_picked}
+use Rattle.byz_world.proofs.Lists.{IsIn, IsFront, IsPicked, picked_from, is_picked}
+use Rattle.byz_world.proofs.Lists.{found_there, front_taken, front_picked}
 use Rattle.byz_world.proofs.Histories.{taken_by, taken_whole, IsTakenIn, taken_in, routed}
 use Rattle.byz_world.proofs.Votes.{IsFound, vote_found, said_by, said_stays, sent_before}
 use Rattle.byz_world.proofs.Pooled.{has_sent_is, IsPooled}

@@ -1,5 +1,7 @@
 -- What the correct nodes of a cluster run have sent stands in its pool, and nothing else.
-use Rattle.std.proofs.Common.{◌≡◌, ℕ, suc, ◌+◌, ◌<◌, ◌⊎◌, inl, inr, ⊎_elim, Bool, true, false, ◌==◌, List, [], ◌∷◌, ◌++◌, length, take, Option, Some, None, refl, sym, ap, ◌∙◌, subst, append-nil, append_assoc, arith}
+use Rattle.std.proofs.Common.{◌≡◌, ℕ, suc, ◌+◌, ◌<◌, ◌⊎◌, inl, inr, ⊎_elim, Bool, true, false}
+use Rattle.std.proofs.Common.{◌==◌, List, [], ◌∷◌, ◌++◌, length, take, Option, Some, None}
+use Rattle.std.proofs.Common.{refl, sym, ap, ◌∙◌, subst, append-nil, append_assoc, arith}
 use Rattle.std.specs.Prelude.{if◌then◌else◌, IsTrue, slice_get, Contains, option_map}
 use Rattle.std.specs.List.{range_with_len}
 use Rattle.std.proofs.Math.Seq.{take-append_seam}
@@ -25,9 +27,11 @@ use Rattle.role_node.specs.Configs.{ConfigValue}
 use Rattle.role_node.specs.declared.event.Event.{Event}
 use Rattle.byz_world.specs.Runs.{Run, history_of, is_correct, of_kind, has_sent, IsClusterRun}
 use Rattle.byz_world.specs.Pools.{Sent, listed, sent_by_answer, sends_next, messages_after, messages, packets_of, pool}
-use Rattle.byz_world.proofs.Elements.{at_seam, number_of, contained, contains_listed, listed_contains, contains_flat, flat_contains}
+use Rattle.byz_world.proofs.Elements.{at_seam, number_of, contained, contains_listed}
+use Rattle.byz_world.proofs.Elements.{listed_contains, contains_flat, flat_contains}
 use Rattle.byz_world.proofs.Sending.{said, said_stays, said_newly, answered_is_said}
-use Rattle.byz_world.proofs.Pushing.{history_of-append, history_of-none, history_of-own, history_of-push, history_of-push_other}
+use Rattle.byz_world.proofs.Pushing.{history_of-append, history_of-none, history_of-own}
+use Rattle.byz_world.proofs.Pushing.{history_of-push, history_of-push_other}
 
 -- A message was sent where its command is the one that was sent there.
 

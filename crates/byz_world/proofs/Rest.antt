@@ -1,5 +1,7 @@
 -- A cluster at rest: what correct nodes have sent, all correct nodes have counted, so what one delivers, all do.
-use Rattle.std.proofs.Common.{◌≡◌, ℕ, ◌-◌, ◌<◌, ◌≤◌, Bool, true, false, ◌==◌, ◌&&◌, not, if◌then◌else◌, IsSome, length, take, slice_get, option_map, Option, Some, None, refl, sym, ap, ◌∙◌, arith, take_all, le_refl, ltb-true, eq-eqb}
+use Rattle.std.proofs.Common.{◌≡◌, ℕ, ◌-◌, ◌<◌, ◌≤◌, Bool, true, false, ◌==◌, ◌&&◌, not, if◌then◌else◌}
+use Rattle.std.proofs.Common.{IsSome, length, take, slice_get, option_map, Option, Some, None, refl}
+use Rattle.std.proofs.Common.{sym, ap, ◌∙◌, arith, take_all, le_refl, ltb-true, eq-eqb}
 use Rattle.std.specs.FinSet as sets
 use Rattle.std.specs.Cmp.{nat_cmp_total}
 use Rattle.std.proofs.lemmas.Bool.{and_parts, and_from, or_left, or_right, leb-true, le-leb, not-true, not_from_false}
@@ -11,8 +13,10 @@ use Rattle.link_frames.specs.Packets.{PacketValue, packet_of}
 use Rattle.link_frames.specs.declared.kind.Kind.{Kind}
 use Rattle.link_frames.specs.declared.kind.Kind.TheVariants.{Send, Echo, Ready}
 use Rattle.link_frames.specs.declared.packet.Message.{Message}
-use Rattle.bracha_instance.specs.Broadcast.{command_of, is_of_kind, is_vote_of, vote, supporters, echoed, readied, delivered, may_ready, may_deliver}
-use Rattle.bracha_instance.proofs.Exported.{same_kind-refl, contains-supporters, ready_comes, delivery_comes, delivery_was_first}
+use Rattle.bracha_instance.specs.Broadcast.{command_of, is_of_kind, is_vote_of, vote, supporters}
+use Rattle.bracha_instance.specs.Broadcast.{echoed, readied, delivered, may_ready, may_deliver}
+use Rattle.bracha_instance.proofs.Exported.{same_kind-refl, contains-supporters}
+use Rattle.bracha_instance.proofs.Exported.{ready_comes, delivery_comes, delivery_was_first}
 use Rattle.owner_streams.specs.Places.{take_of, take_at, takes_at}
 use Rattle.owner_streams.proofs.Exported.{stream_is_one_lem}
 use Rattle.role_node.specs.Configs.{ConfigValue}
@@ -26,7 +30,8 @@ use Rattle.byz_world.proofs.Counts.{len_within, len_covered, len_all}
 use Rattle.byz_world.proofs.Lists.{IsIn, is_picked, front_itself, front_taken, found_there}
 use Rattle.byz_world.proofs.Histories.{taken_by}
 use Rattle.byz_world.proofs.Votes.{said_by, said_stays, vote_before, echo_was_issued}
-use Rattle.byz_world.proofs.Safety.{IsCorrect, correct_if, correct_among, supporters_are, supporter_said, whole_front, ready_for_one, deliver_one, ready_was_issued, delivered_was_issued}
+use Rattle.byz_world.proofs.Safety.{IsCorrect, correct_if, correct_among, supporters_are, supporter_said}
+use Rattle.byz_world.proofs.Safety.{whole_front, ready_for_one, deliver_one, ready_was_issued, delivered_was_issued}
 
 some_value : {A : Type 0} (o : Option A) → IsSome o → (x : A) × (o ≡ Some x)
 some_value None is = absurd cc

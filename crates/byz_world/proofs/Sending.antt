@@ -1,5 +1,6 @@
 -- What one more event has a node send: its answer says it, and what was sent before stays.
-use Rattle.std.proofs.Common.{◌≡◌, ℕ, ◌<◌, ◌⊎◌, inl, inr, ⊎_elim, Bool, true, false, cond, ◌&&◌, ◌==◌, List, [], ◌∷◌, ◌++◌, length, Option, Some, None, Result, Ok, Err, refl, sym, ap, ◌∙◌, subst, arith}
+use Rattle.std.proofs.Common.{◌≡◌, ℕ, ◌<◌, ◌⊎◌, inl, inr, ⊎_elim, Bool, true, false, cond, ◌&&◌, ◌==◌, List, [], ◌∷◌}
+use Rattle.std.proofs.Common.{◌++◌, length, Option, Some, None, Result, Ok, Err, refl, sym, ap, ◌∙◌, subst, arith}
 use Rattle.std.specs.Prelude.{if◌then◌else◌, slice_get, option_map}
 use Rattle.std.specs.Option.{option_or}
 use Rattle.std.proofs.lemmas.List.Elements.{filter_map-append}
@@ -23,7 +24,8 @@ use Rattle.bracha_instance.specs.declared.instance.Effect.TheVariants as effect
 use Rattle.owner_streams.proofs.Exported.{takes_at-append, takes_at-own, takes_at-other}
 use Rattle.owner_streams.specs.Places.{take_of, takes_at}
 use Rattle.role_sessions.specs.declared.event.ClientEvent.TheVariants.{Open, Activate, DropRole, Close}
-use Rattle.role_node.proofs.Exported.{at_push, issued-Issue, issued-Take, issued-Client, packets-Issue, packets-Take, packets-Client}
+use Rattle.role_node.proofs.Exported.{at_push, issued-Issue, issued-Take, issued-Client}
+use Rattle.role_node.proofs.Exported.{packets-Issue, packets-Take, packets-Client}
 use Rattle.role_node.specs.Configs.{ConfigValue}
 use Rattle.role_node.specs.Histories.{issued, packets, command_in, packet_in}
 use Rattle.role_node.specs.Access.{sent_at}

@@ -1,5 +1,6 @@
 -- The answer that is due to a step, and the run after it, by where it arrives.
-use Rattle.std.proofs.Common.{◌≡◌, ℕ, suc, Bool, true, false, ◌&&◌, List, [], ◌∷◌, ◌++◌, length, Option, Some, None, Result, Ok, Err, refl, sym, ap, ◌∙◌, subst, append-nil}
+use Rattle.std.proofs.Common.{◌≡◌, ℕ, suc, Bool, true, false, ◌&&◌, List, [], ◌∷◌, ◌++◌, length, Option}
+use Rattle.std.proofs.Common.{Some, None, Result, Ok, Err, refl, sym, ap, ◌∙◌, subst, append-nil}
 use Rattle.std.specs.Prelude.{if◌then◌else◌, not, nat_lt, IsTrue, IfOk, IfErr, OnOk, slice_get}
 use Rattle.link_frames.specs.Packets.{PacketValue, SentByOwner, message_of}
 use Rattle.link_frames.specs.declared.opening.LinkFault.{LinkFault}
@@ -15,7 +16,9 @@ use Rattle.role_node.specs.declared.faults.NodeFault.{NodeFault}
 use Rattle.byz_world.specs.Runs.{history_of, has_sent, IsClusterRun}
 use Rattle.byz_world.specs.Pools.{pool}
 use Rattle.byz_world.specs.Worlds.{WorldValue, node_in, is_correct_in}
-use Rattle.byz_world.specs.Steps.{Arrival, arrival, arrives, given, unless_forged, opened_at, of_opened, is_pool_full, is_forged, of_reply, of_answer, answer_of, step_due, recorded_pair, with_run, after_step, after_steps, adds, IsStepAnswer}
+use Rattle.byz_world.specs.Steps.{Arrival, arrival, arrives, given, unless_forged, opened_at, of_opened}
+use Rattle.byz_world.specs.Steps.{is_pool_full, is_forged, of_reply, of_answer, answer_of, step_due}
+use Rattle.byz_world.specs.Steps.{recorded_pair, with_run, after_step, after_steps, adds, IsStepAnswer}
 use Rattle.byz_world.specs.Inside.{MayHappen}
 use Rattle.byz_world.specs.Steps.{IsSound}
 use Rattle.byz_world.specs.Worlds.{IsClusterRunOf}

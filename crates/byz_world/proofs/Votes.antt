@@ -1,5 +1,6 @@
 -- Votes and what was sent: a correct node's vote, wherever it was counted, is for what that node had sent.
-use Rattle.std.proofs.Common.{◌≡◌, ℕ, ◌<◌, Bool, true, false, ◌==◌, if◌then◌else◌, List, length, take, find, slice_get, option_map, Option, Some, None, refl, sym, ap, ◌∙◌, eqb-true}
+use Rattle.std.proofs.Common.{◌≡◌, ℕ, ◌<◌, Bool, true, false, ◌==◌, if◌then◌else◌, List, length, take, find}
+use Rattle.std.proofs.Common.{slice_get, option_map, Option, Some, None, refl, sym, ap, ◌∙◌, eqb-true}
 use Rattle.std.specs.FinSet as sets
 use Rattle.std.proofs.lemmas.Bool.{and_parts}
 use Rattle.quorum_sizes.specs.Sizes.{Counts}

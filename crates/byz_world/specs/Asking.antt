@@ -1,5 +1,6 @@
 -- What is due to those who make a world and who ask it.
-use Rattle.std.specs.Prelude.{◌≡◌, ℕ, true, false, if◌then◌else◌, IsTrue, Option, Some, None, option_map, Result, Ok, Err}
+use Rattle.std.specs.Prelude.{◌≡◌, ℕ, true, false, if◌then◌else◌, IsTrue}
+use Rattle.std.specs.Prelude.{Option, Some, None, option_map, Result, Ok, Err}
 use Rattle.quorum_sizes.specs.NodeSets.{Nodes}
 use Rattle.role_node.specs.Access.{sessions_at, verdict_at}
 use Rattle.role_node.specs.Configs.{ConfigValue}
@@ -12,7 +13,8 @@ use Rattle.role_sessions.specs.declared.verdict.Verdict.{Verdict}
 use Rattle.byz_world.specs.Runs.{history_of}
 use Rattle.byz_world.specs.Worlds.{WorldValue, too_many_lie, is_correct_in}
 use Rattle.byz_world.specs.declared.faults.WorldFault.{WorldFault}
-use Rattle.byz_world.specs.declared.faults.WorldFault.TheVariants.{TooManyLiars, NotCorrect, NoSuchPacket, NotSent, PoolFull, Link, Node, NoSession, Memory}
+use Rattle.byz_world.specs.declared.faults.WorldFault.TheVariants.{TooManyLiars, NotCorrect, NoSuchPacket, NotSent}
+use Rattle.byz_world.specs.declared.faults.WorldFault.TheVariants.{PoolFull, Link, Node, NoSession, Memory}
 
 -- a world is refused exactly where more nodes lie than may; then memory can be wanting
 abbrev pub IsMade : ConfigValue → Nodes → Result WorldValue WorldFault → Type 0

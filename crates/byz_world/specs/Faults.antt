@@ -3,7 +3,8 @@ use Rattle.std.specs.Prelude.{ℕ, List, codes}
 use Rattle.link_frames.specs.Texts.{link_fault_text}
 use Rattle.role_node.specs.Faults.{node_fault_text}
 use Rattle.byz_world.specs.declared.faults.WorldFault.{WorldFault}
-use Rattle.byz_world.specs.declared.faults.WorldFault.TheVariants.{TooManyLiars, NotCorrect, NoSuchPacket, NotSent, PoolFull, Link, Node, NoSession, Memory}
+use Rattle.byz_world.specs.declared.faults.WorldFault.TheVariants.{TooManyLiars, NotCorrect, NoSuchPacket, NotSent}
+use Rattle.byz_world.specs.declared.faults.WorldFault.TheVariants.{PoolFull, Link, Node, NoSession, Memory}
 
 abbrev pub world_fault_text : WorldFault → List ℕ
 world_fault_text TooManyLiars = codes "V1 TooManyLiars"

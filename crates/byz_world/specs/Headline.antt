@@ -6,7 +6,8 @@ use Rattle.owner_streams.specs.Laws.{IsPrefixOf}
 use Rattle.role_sessions.specs.Sessions.{Session}
 use Rattle.role_sessions.specs.Decisions.{Relations, SessionMay, counted_roles}
 use Rattle.role_sessions.specs.declared.verdict.Rule.{Rule}
-use Rattle.role_sessions.specs.declared.verdict.Rule.TheVariants.{NoSession, NotYours, NoActiveRole, NoneAssigned, NotPermitted}
+use Rattle.role_sessions.specs.declared.verdict.Rule.TheVariants.{NoSession, NotYours, NoActiveRole}
+use Rattle.role_sessions.specs.declared.verdict.Rule.TheVariants.{NoneAssigned, NotPermitted}
 use Rattle.role_sessions.specs.declared.verdict.Verdict.{Verdict}
 use Rattle.role_sessions.specs.declared.verdict.Verdict.TheVariants.{Allow, Deny}
 use Rattle.role_node.specs.Access.{relations_at, session_at, verdict_at}

@@ -1,5 +1,6 @@
 -- The keys of a laboratory, which all know.
-use Rattle.std.specs.Prelude.{ℕ, min, max, if◌then◌else◌, List, ◌∷◌, map, replicate, slice_get, Option, Some, None, option_and_then}
+use Rattle.std.specs.Prelude.{ℕ, min, max, if◌then◌else◌, List, ◌∷◌, map, replicate}
+use Rattle.std.specs.Prelude.{slice_get, Option, Some, None, option_and_then}
 use Rattle.std.specs.List.{range_with_len}
 use Rattle.quorum_sizes.specs.Sizes.{Counts}
 use Rattle.quorum_sizes.specs.NodeSets.{Nodes}

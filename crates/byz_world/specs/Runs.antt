@@ -1,6 +1,7 @@
 -- A run of a cluster: what happens at its correct nodes, in one order, and which runs can be, whatever the liars and
 -- the network do.
-use Rattle.std.specs.Prelude.{◌≡◌, ℕ, ◌==◌, ◌≤◌, Bool, not, ◌&&◌, nat_lt, if◌then◌else◌, IsTrue, List, take, slice_get, Option, Some, None}
+use Rattle.std.specs.Prelude.{◌≡◌, ℕ, ◌==◌, ◌≤◌, Bool, not, ◌&&◌, nat_lt, if◌then◌else◌}
+use Rattle.std.specs.Prelude.{IsTrue, List, take, slice_get, Option, Some, None}
 use Rattle.std.specs.List.{filter_map}
 use Rattle.std.specs.FinSet as sets
 use Rattle.quorum_sizes.specs.Sizes.{Counts, AreSizes}

@@ -1,5 +1,6 @@
 -- What a step of the world does: the node and the event that it comes to, its answer, and the run after it.
-use Rattle.std.specs.Prelude.{◌≡◌, ⊤, ℕ, ◌+◌, Bool, not, ◌&&◌, nat_lt, if◌then◌else◌, IsTrue, List, [], ◌∷◌, ◌++◌, length, slice_get, is_some, Option, Some, None, Result, Ok, Err}
+use Rattle.std.specs.Prelude.{◌≡◌, ⊤, ℕ, ◌+◌, Bool, not, ◌&&◌, nat_lt, if◌then◌else◌, IsTrue, List, []}
+use Rattle.std.specs.Prelude.{◌∷◌, ◌++◌, length, slice_get, is_some, Option, Some, None, Result, Ok, Err}
 use Rattle.link_frames.specs.Opening.{open_due}
 use Rattle.link_frames.specs.Packets.{PacketValue, SentByOwner, message_of}
 use Rattle.link_frames.specs.declared.opening.LinkFault.{LinkFault}

@@ -3,7 +3,8 @@
 //! Each function's contract is its law, and its body is empty. `specs/Laws.antt` spells the laws out.
 ghost use Rattle.byz_world.specs.Example.{AnExample};
 ghost use Rattle.byz_world.specs.Headline.{Headline};
-ghost use Rattle.byz_world.specs.Laws.{Consistency, Integrity, SamePolicy, ReadyByAll, DeliveredByAll, IssuedReachesAll, AtRest};
+ghost use Rattle.byz_world.specs.Laws.{Consistency, Integrity, SamePolicy, ReadyByAll};
+ghost use Rattle.byz_world.specs.Laws.{DeliveredByAll, IssuedReachesAll, AtRest};
 
 /// Correct nodes are ready for one command at a place of an owner's stream and deliver one there, and their streams
 /// of an owner agree as far as both reach.

@@ -1,6 +1,7 @@
 //! The correct nodes of a world.
 
-ghost use Rattle.std.specs.Prelude.{◌≡◌, ◌<◌, ℕ, Some, Ok, Err, OnErr, IfOk, IsSome, OnOk, map, slice_set, if◌then◌else◌};
+ghost use Rattle.std.specs.Prelude.{◌≡◌, ◌<◌, ℕ, Some, Ok, Err, OnErr, IfOk};
+ghost use Rattle.std.specs.Prelude.{IsSome, OnOk, map, slice_set, if◌then◌else◌};
 ghost use Rattle.std.specs.Option.{option_copied};
 ghost use Rattle.std.specs.List.{range_with_len};
 ghost use Rattle.bracha_instance.specs.Broadcast.{is_for};

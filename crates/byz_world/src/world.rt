@@ -1,4 +1,5 @@
-ghost use Rattle.std.specs.Prelude.{◌≡◌, ℕ, ◌<◌, ◌≤◌, ◌*◌, ◌++◌, ◌∷◌, [], List, length, not, nat_lt, ◌&&◌, slice_get, IfOk, IfErr, OnOk, OnErr, Ok, Some, IsTrue, ◌↔◌, if◌then◌else◌};
+ghost use Rattle.std.specs.Prelude.{◌≡◌, ℕ, ◌<◌, ◌≤◌, ◌*◌, ◌++◌, ◌∷◌, [], List, length, not, nat_lt, ◌&&◌};
+ghost use Rattle.std.specs.Prelude.{slice_get, IfOk, IfErr, OnOk, OnErr, Ok, Some, IsTrue, ◌↔◌, if◌then◌else◌};
 ghost use Rattle.std.specs.Option.{option_copied};
 ghost use Rattle.std.specs.Vec.{vec_len, vec_capacity};
 ghost use Rattle.quorum_sizes.specs.Sizes.{AreSizes};
@@ -12,7 +13,8 @@ ghost use Rattle.byz_world.specs.Runs.{history_of, has_sent};
 ghost use Rattle.byz_world.specs.LabKeys.{ring_due};
 ghost use Rattle.byz_world.specs.Pools.{pool, sent_by};
 ghost use Rattle.byz_world.specs.Worlds.{new_world, is_correct_in, node_due};
-ghost use Rattle.byz_world.specs.Steps.{arrival, opened_at, unless_forged, arrives, is_forged, is_pool_full, with_run, adds, after_step, after_steps, IsStepAnswer};
+ghost use Rattle.byz_world.specs.Steps.{arrival, opened_at, unless_forged, arrives, is_forged, is_pool_full};
+ghost use Rattle.byz_world.specs.Steps.{with_run, adds, after_step, after_steps, IsStepAnswer};
 ghost use Rattle.byz_world.specs.Agreement.{agree_due};
 ghost use Rattle.byz_world.specs.Resting.{IsAtRest};
 ghost use Rattle.byz_world.specs.Asking.{IsMade, IsQuestionAnswer, decision_due};

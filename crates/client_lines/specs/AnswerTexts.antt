@@ -8,7 +8,9 @@ use Rattle.role_sessions.specs.declared.verdict.Verdict.TheVariants.{Allow, Deny
 use Rattle.client_lines.specs.Members.{member_name}
 use Rattle.client_lines.specs.Faults.{line_fault_text, named_member, node_fault_name, IsRefusal}
 use Rattle.client_lines.specs.declared.answer.ClientAnswer.{ClientAnswer}
-use Rattle.client_lines.specs.declared.answer.ClientAnswer.TheVariants.{Issued, Session, Done, Verdict, Users, Roles, Permissions, Operations, Reach, Again, Stopped, Refused, BadLine}
+use Rattle.client_lines.specs.declared.answer.ClientAnswer.TheVariants.{Issued, Session, Done, Verdict, Users}
+use Rattle.client_lines.specs.declared.answer.ClientAnswer.TheVariants.{Roles, Permissions, Operations, Reach}
+use Rattle.client_lines.specs.declared.answer.ClientAnswer.TheVariants.{Again, Stopped, Refused, BadLine}
 use Rattle.client_lines.specs.declared.fault.LineFault.TheVariants.{Memory}
 use Rattle.client_lines.specs.declared.member.Member.{Member}
 

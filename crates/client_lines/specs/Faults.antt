@@ -5,7 +5,8 @@ use Rattle.role_node.specs.Faults.{node_fault_text}
 use Rattle.role_node.specs.declared.faults.NodeFault.{NodeFault}
 use Rattle.role_node.specs.declared.faults.NodeFault.TheVariants as node
 use Rattle.client_lines.specs.declared.fault.LineFault.{LineFault}
-use Rattle.client_lines.specs.declared.fault.LineFault.TheVariants.{NotJson, NotObject, NoOp, UnknownOp, Missing, OutOfRange, Memory}
+use Rattle.client_lines.specs.declared.fault.LineFault.TheVariants.{NotJson, NotObject, NoOp, UnknownOp}
+use Rattle.client_lines.specs.declared.fault.LineFault.TheVariants.{Missing, OutOfRange, Memory}
 use Rattle.client_lines.specs.declared.member.Member.{Member}
 
 abbrev pub line_fault_text : LineFault → List ℕ

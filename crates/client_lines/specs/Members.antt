@@ -1,9 +1,11 @@
 -- The members of client lines and of cluster texts, and the numbers that they hold.
-use Rattle.std.specs.Prelude.{ℕ, nat_le, if◌then◌else◌, List, codes, Option, Some, None, option_and_then, Result, Ok, Err}
+use Rattle.std.specs.Prelude.{ℕ, nat_le, if◌then◌else◌, List, codes, Option}
+use Rattle.std.specs.Prelude.{Some, None, option_and_then, Result, Ok, Err}
 use Rattle.serde_json.specs.Data.{Data}
 use Rattle.serde_json.specs.Find.{get, as_number, as_u64}
 use Rattle.client_lines.specs.declared.member.Member.{Member}
-use Rattle.client_lines.specs.declared.member.Member.TheVariants.{Op, User, Role, Operation, Object, Session, Owner, Place, Cluster, N, F, Me, Roles, Keys, Nodes, Client}
+use Rattle.client_lines.specs.declared.member.Member.TheVariants.{Op, User, Role, Operation, Object, Session, Owner}
+use Rattle.client_lines.specs.declared.member.Member.TheVariants.{Place, Cluster, N, F, Me, Roles, Keys, Nodes, Client}
 use Rattle.client_lines.specs.declared.member.MemberFault.{MemberFault}
 use Rattle.client_lines.specs.declared.member.MemberFault.TheVariants.{Missing, OutOfRange}
 

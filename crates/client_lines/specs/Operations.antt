@@ -2,7 +2,11 @@
 use Rattle.std.specs.Prelude.{ℕ, if◌then◌else◌, List, codes, Option, Some, None}
 use Rattle.std.specs.Str.{bytes_eq}
 use Rattle.client_lines.specs.declared.operation.Operation.{Operation}
-use Rattle.client_lines.specs.declared.operation.Operation.TheVariants.{Assign, Deassign, Grant, Revoke, Open, Activate, Drop, Close, Check, AssignedUsers, AssignedRoles, RolePermissions, UserPermissions, RoleOperations, UserOperations, SessionRoles, SessionPermissions, Reach, Again, Stop}
+use Rattle.client_lines.specs.declared.operation.Operation.TheVariants.{Assign, Deassign, Grant, Revoke, Open, Activate}
+use Rattle.client_lines.specs.declared.operation.Operation.TheVariants.{Drop, Close, Check, AssignedUsers}
+use Rattle.client_lines.specs.declared.operation.Operation.TheVariants.{AssignedRoles, RolePermissions, UserPermissions}
+use Rattle.client_lines.specs.declared.operation.Operation.TheVariants.{RoleOperations, UserOperations, SessionRoles}
+use Rattle.client_lines.specs.declared.operation.Operation.TheVariants.{SessionPermissions, Reach, Again, Stop}
 
 unfoldable pub operation_named : List ℕ → Option Operation
 operation_named name =

@@ -1,6 +1,7 @@
 -- What a client line asks. `request_of` is the table of operations: a row reads the members of its operation in their
 -- order, and the first that is absent or out of its range is the fault.
-use Rattle.std.specs.Prelude.{ℕ, ◌-◌, ◌^◌, ◌<◌, ⊤, nat_lt, if◌then◌else◌, List, length, Option, Some, None, option_and_then, is_some, Result, Ok, Err}
+use Rattle.std.specs.Prelude.{ℕ, ◌-◌, ◌^◌, ◌<◌, ⊤, nat_lt, if◌then◌else◌, List, length}
+use Rattle.std.specs.Prelude.{Option, Some, None, option_and_then, is_some, Result, Ok, Err}
 use Rattle.serde_json.specs.Data.{Data}
 use Rattle.serde_json.specs.Find.{as_object, as_str}
 use Rattle.quorum_sizes.specs.Sizes.{Counts}
@@ -12,13 +13,15 @@ use Rattle.client_lines.specs.Members.{member_of, member_number}
 use Rattle.client_lines.specs.Json.{json_of}
 use Rattle.client_lines.specs.Operations.{operation_named}
 use Rattle.client_lines.specs.declared.member.Member.{Member}
-use Rattle.client_lines.specs.declared.member.Member.TheVariants.{Op, User, Role, Operation, Object, Session, Owner, Place}
+use Rattle.client_lines.specs.declared.member.Member.TheVariants.{Op, User, Role, Operation}
+use Rattle.client_lines.specs.declared.member.Member.TheVariants.{Object, Session, Owner, Place}
 use Rattle.client_lines.specs.declared.member.MemberFault.{MemberFault}
 use Rattle.client_lines.specs.declared.member.MemberFault.TheVariants as member
 use Rattle.client_lines.specs.declared.operation.Operation as operations
 use Rattle.client_lines.specs.declared.operation.Operation.TheVariants as operation
 use Rattle.client_lines.specs.declared.fault.LineFault.{LineFault}
-use Rattle.client_lines.specs.declared.fault.LineFault.TheVariants.{NotJson, NotObject, NoOp, UnknownOp, Missing, OutOfRange}
+use Rattle.client_lines.specs.declared.fault.LineFault.TheVariants.{NotJson, NotObject, NoOp}
+use Rattle.client_lines.specs.declared.fault.LineFault.TheVariants.{UnknownOp, Missing, OutOfRange}
 use Rattle.client_lines.specs.declared.request.Request.{Request}
 use Rattle.client_lines.specs.declared.request.Request.TheVariants.{Issue, Client, Ask, Reach, Again, Stop}
 

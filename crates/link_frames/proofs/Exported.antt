@@ -10,11 +10,16 @@
 --     length-hmac, open_takes, open_again, opened_by_owner      what is opened is the packet's frame
 pub use Rattle.link_frames.proofs.Waiting.{WentOn-nothing, WentOn-trans, CallFailed-later, ReaderFailed-later}
 pub use Rattle.link_frames.proofs.Writing.{AppendsFront-nothing, AppendsFront-whole}
-pub use Rattle.link_frames.proofs.Fronts.{EndsAt-position, NoLineEnd-EndsAt, NoLineEnd-whole, NoLineEnd-position, used_line}
+pub use Rattle.link_frames.proofs.Fronts.{EndsAt-position, NoLineEnd-EndsAt}
+pub use Rattle.link_frames.proofs.Fronts.{NoLineEnd-whole, NoLineEnd-position, used_line}
 pub use Rattle.link_frames.proofs.LineLemmas.{lines_of-nil, lines_of-line, lines_of-last, lines_of-begun, Begun}
 pub use Rattle.link_frames.proofs.Passing.{Consumes-front, Consumes-ahead, NoLineEnd-append, IsAtEnd-prepend}
-pub use Rattle.link_frames.proofs.TextLemmas.{text_by-nil, text_by-good, text_by-bad, bad_by-nil, bad_by-good, bad_by-bad}
-pub use Rattle.link_frames.proofs.Running.{Ran, Ran-start, Ran-kept, Ran-moved, Ran-taken, Ran-passed, Ran-line, Ran-good, Ran-text, Ran-number}
-pub use Rattle.link_frames.proofs.Ending.{Ended, Whole, Ended-whole, Ended-front, Ran-front, Ran-silent, Ran-passed_last, Ran-end, Ran-last, Ran-bad_line, Ran-bad_last, Ran-too_long, WroteFront-nothing, HasBytes-done, some_tail}
+pub use Rattle.link_frames.proofs.TextLemmas.{text_by-nil, text_by-good, text_by-bad}
+pub use Rattle.link_frames.proofs.TextLemmas.{bad_by-nil, bad_by-good, bad_by-bad}
+pub use Rattle.link_frames.proofs.Running.{Ran, Ran-start, Ran-kept, Ran-moved, Ran-taken}
+pub use Rattle.link_frames.proofs.Running.{Ran-passed, Ran-line, Ran-good, Ran-text, Ran-number}
+pub use Rattle.link_frames.proofs.Ending.{Ended, Whole, Ended-whole, Ended-front, Ran-front, Ran-silent}
+pub use Rattle.link_frames.proofs.Ending.{Ran-passed_last, Ran-end, Ran-last, Ran-bad_line, Ran-bad_last}
+pub use Rattle.link_frames.proofs.Ending.{Ran-too_long, WroteFront-nothing, HasBytes-done, some_tail}
 pub use Rattle.link_frames.proofs.FrameLaws.{sealed_is_opened, one_frame, length-frame, frames_differ}
 pub use Rattle.link_frames.proofs.OpeningLemmas.{length-hmac, open_takes, open_again, opened_by_owner}

@@ -1,5 +1,6 @@
 -- Reading a frame in several reads.
-use Rattle.std.proofs.Common.{◌≡◌, ℕ, ◌+◌, ◌-◌, ◌<◌, ◌≤◌, List, ◌++◌, length, take, Option, arith, ap, sym, subst, ◌∙◌, length-take-le}
+use Rattle.std.proofs.Common.{◌≡◌, ℕ, ◌+◌, ◌-◌, ◌<◌, ◌≤◌, List, ◌++◌, length, take}
+use Rattle.std.proofs.Common.{Option, arith, ap, sym, subst, ◌∙◌, length-take-le}
 use Rattle.std.proofs.lemmas.List.{take-append-le}
 use Rattle.std.proofs.Math.Seq.{take-append-add}
 use Rattle.std.proofs.KnownBytes.{Consumes-trans, Consumes-kept}

@@ -1,6 +1,8 @@
 -- A line program that was run so far.
-use Rattle.std.proofs.Common.{◌≡◌, ℕ, ◌+◌, List, [], ◌∷◌, ◌++◌, length, take, drop, Option, Some, sym, refl, ap, ◌∙◌, subst, arith, append_assoc, append-nil, None, true}
-use Rattle.std.proofs.KnownBytes.{Consumes-trans, Consumes-kept, Consumes-nil, Appends-trans, Appends-nil, prepend_known-nil}
+use Rattle.std.proofs.Common.{◌≡◌, ℕ, ◌+◌, List, [], ◌∷◌, ◌++◌, length, take, drop, Option, Some}
+use Rattle.std.proofs.Common.{sym, refl, ap, ◌∙◌, subst, arith, append_assoc, append-nil, None, true}
+use Rattle.std.proofs.KnownBytes.{Consumes-trans, Consumes-kept, Consumes-nil}
+use Rattle.std.proofs.KnownBytes.{Appends-trans, Appends-nil, prepend_known-nil}
 use Rattle.std.specs.Io.KnownBytes.{Consumes, Appends, Keeps, prepend_known}
 use Rattle.link_frames.specs.Lines.{line_end, lines_of, NoLineEnd, ended}
 use Rattle.link_frames.specs.Nexts.{EndsAt, PassedLine}

@@ -1,6 +1,8 @@
 -- Comparing two tags byte by byte, to the end.
-use Rattle.std.proofs.Common.{◌≡◌, ℕ, ◌+◌, ◌<◌, Bool, true, false, eqb, List, length, get_or, refl, sym, ap, ◌∙◌, arith, below_more}
-use Rattle.std.specs.Int.Bits.{bit_and, bit_or, bit_xor, or_zero_l, or_zero_r, xor_self, xor_assoc, xor_zero_l, xor_zero_r, and_zero_l}
+use Rattle.std.proofs.Common.{◌≡◌, ℕ, ◌+◌, ◌<◌, Bool, true, false, eqb, List}
+use Rattle.std.proofs.Common.{length, get_or, refl, sym, ap, ◌∙◌, arith, below_more}
+use Rattle.std.specs.Int.Bits.{bit_and, bit_or, bit_xor, or_zero_l, or_zero_r}
+use Rattle.std.specs.Int.Bits.{xor_self, xor_assoc, xor_zero_l, xor_zero_r, and_zero_l}
 use Rattle.std.specs.Str.{bytes_eq}
 use Rattle.std.proofs.lemmas.Bool.{eq-eqb, eqb-true}
 use Rattle.std.proofs.lemmas.Nat.{and_or_self}

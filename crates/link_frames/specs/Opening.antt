@@ -1,11 +1,13 @@
 -- What comes of opening bytes as a frame: the packet, or the first fault that holds.
-use Rattle.std.specs.Prelude.{ℕ, Bool, ◌==◌, nat_lt, if◌then◌else◌, List, length, slice_index, Option, Some, None, Result, Ok, Err}
+use Rattle.std.specs.Prelude.{ℕ, Bool, ◌==◌, nat_lt, if◌then◌else◌, List, length}
+use Rattle.std.specs.Prelude.{slice_index, Option, Some, None, Result, Ok, Err}
 use Rattle.std.specs.Int.{w16, w32, from_be_bytes}
 use Rattle.std.specs.Str.{bytes_eq}
 use Rattle.role_commands.specs.Bytes.{part, command_in, command_length}
 use Rattle.link_frames.specs.Hmac.{hmac}
 use Rattle.link_frames.specs.KeyRings.{KeyRing, key_with}
-use Rattle.link_frames.specs.Layout.{version, frame_len, version_at, cluster_at, from_at, to_at, kind_at, owner_at, place_at, command_at, tag_at, tag_len}
+use Rattle.link_frames.specs.Layout.{version, frame_len, version_at, cluster_at, from_at, to_at}
+use Rattle.link_frames.specs.Layout.{kind_at, owner_at, place_at, command_at, tag_at, tag_len}
 use Rattle.link_frames.specs.Packets.{PacketValue, packet_due}
 use Rattle.link_frames.specs.declared.packet.Message.{Message}
 use Rattle.link_frames.specs.declared.kind.Kind.{Kind}

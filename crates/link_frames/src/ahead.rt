@@ -1,6 +1,7 @@
 //! The next line of a reader's bytes.
 
-ghost use Rattle.std.specs.Prelude.{◌≡◌, ◌≤◌, ◌<◌, ◌+◌, ◌++◌, [], length, vec_len, drop, max, ℕ, List, Option, OnOk, OnErr, IfOk, IfSome, IfNone, MatchBool};
+ghost use Rattle.std.specs.Prelude.{◌≡◌, ◌≤◌, ◌<◌, ◌+◌, ◌++◌, [], length, vec_len, drop, max, ℕ};
+ghost use Rattle.std.specs.Prelude.{List, Option, OnOk, OnErr, IfOk, IfSome, IfNone, MatchBool};
 ghost use Rattle.std.specs.Io.KnownBytes.{Keeps, IsAtEnd};
 ghost use Rattle.link_frames.specs.Watching.{watched_inner, watched_tally};
 ghost use Rattle.link_frames.specs.Devices.{WasAsked};

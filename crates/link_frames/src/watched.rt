@@ -2,8 +2,10 @@ ghost use Rattle.std.specs.Prelude.{◌≡◌, length};
 ghost use Rattle.std.specs.Io.{ReadsAtMost, WritesAtMost};
 ghost use Rattle.std.specs.Io.KnownBytes.{ReadConsumes, WriteAppends, Keeps};
 ghost use Rattle.std.specs.IoError.{error_kind};
-ghost use Rattle.link_frames.specs.Watching.{watched_inner, watched_faults, watched_breaks, watched_reads, watched_tally};
-ghost use Rattle.link_frames.specs.Watching.{is_interruption, read_fails, read_breaks, write_fails, write_breaks, one_more, count_after};
+ghost use Rattle.link_frames.specs.Watching.{watched_inner, watched_faults};
+ghost use Rattle.link_frames.specs.Watching.{watched_breaks, watched_reads, watched_tally};
+ghost use Rattle.link_frames.specs.Watching.{is_interruption, read_fails, read_breaks};
+ghost use Rattle.link_frames.specs.Watching.{write_fails, write_breaks, one_more, count_after};
 
 use std::io;
 use std::io::{ErrorKind, Read, Write};

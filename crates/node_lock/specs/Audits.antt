@@ -1,5 +1,6 @@
 -- Which receipts are true of a node's history, and what an audit of a list of receipts finds.
-use Rattle.std.specs.Prelude.{◌≡◌, ℕ, ◌==◌, ◌<◌, ◌≤◌, ◌&&◌, ⊤, IsTrue, List, length, take, slice_get, Option, Some, All, count_by}
+use Rattle.std.specs.Prelude.{◌≡◌, ℕ, ◌==◌, ◌<◌, ◌≤◌, ◌&&◌, ⊤, IsTrue, List}
+use Rattle.std.specs.Prelude.{length, take, slice_get, Option, Some, All, count_by}
 use Rattle.role_node.specs.Nodes.{NodeValue}
 use Rattle.role_node.specs.declared.event.Event.{Event}
 use Rattle.node_lock.specs.Receipts.{outcome_due, is_recorded_outcome}

@@ -1,5 +1,6 @@
 -- What one call under the lock does to the node behind it and to the caller's seat.
-use Rattle.std.specs.Prelude.{◌≡◌, ◌≢◌, ℕ, ◌+◌, ◌==◌, ◌<◌, ◌≤◌, if◌then◌else◌, List, [], ◌∷◌, ◌++◌, length, count_by, slice_index, refl}
+use Rattle.std.specs.Prelude.{◌≡◌, ◌≢◌, ℕ, ◌+◌, ◌==◌, ◌<◌, ◌≤◌, if◌then◌else◌, List}
+use Rattle.std.specs.Prelude.{[], ◌∷◌, ◌++◌, length, count_by, slice_index, refl}
 use Rattle.std.specs.Coded.{Coded, code_by, coded×, coded_list, coded_ℕ}
 use Rattle.role_node.specs.Answers.{is_recorded}
 use Rattle.role_node.specs.Nodes.{NodeValue, node_code, due_at, with_event}

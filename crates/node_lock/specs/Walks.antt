@@ -1,5 +1,6 @@
 -- What an audit does at one place of the history. Serves the code, and no public contract.
-use Rattle.std.specs.Prelude.{◌≡◌, ℕ, ◌<◌, ◌≤◌, IsTrue, List, map, Option, Some, None, IsSome, Ok, All, Contains, count_by, ⊤}
+use Rattle.std.specs.Prelude.{◌≡◌, ℕ, ◌<◌, ◌≤◌, IsTrue, List, map, Option, Some}
+use Rattle.std.specs.Prelude.{None, IsSome, Ok, All, Contains, count_by, ⊤}
 use Rattle.std.specs.List.Sorted.{IsNonDecreasingBy}
 use Rattle.std.specs.Borrow.{Bor}
 use Rattle.role_node.specs.Answers.{EntryValue, is_recorded}

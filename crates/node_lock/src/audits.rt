@@ -3,7 +3,8 @@ ghost use Rattle.std.specs.List.Sorted.{IsNonDecreasingBy};
 ghost use Rattle.role_node.specs.Answers.{is_recorded};
 ghost use Rattle.role_node.specs.Nodes.{new_node, due_at, with_event};
 ghost use Rattle.node_lock.specs.Audits.{node_at, AreTrue, IsAuditFault};
-ghost use Rattle.node_lock.specs.Walks.{receipts_of, IsRest, event_in, IsNext, IsEntryOf, IsTrueHere, recorded_in, AreRightHere, IsFaultHere};
+ghost use Rattle.node_lock.specs.Walks.{receipts_of, IsRest, event_in, IsNext, IsEntryOf};
+ghost use Rattle.node_lock.specs.Walks.{IsTrueHere, recorded_in, AreRightHere, IsFaultHere};
 ghost use Rattle.node_lock.specs.declared.receipt.Receipt.{Receipt as ReceiptValue};
 
 use crate::asked::asked;

@@ -1,8 +1,10 @@
-ghost use Rattle.std.specs.Prelude.{◌≡◌, ◌≢◌, ◌+◌, ◌<◌, ◌≤◌, ◌==◌, [], ◌∷◌, ◌++◌, Bool, All, sum_by, count_by, IfOk, IfErr, OnOk, MatchOption, vec_len};
+ghost use Rattle.std.specs.Prelude.{◌≡◌, ◌≢◌, ◌+◌, ◌<◌, ◌≤◌, ◌==◌, [], ◌∷◌, ◌++◌, Bool, All};
+ghost use Rattle.std.specs.Prelude.{sum_by, count_by, IfOk, IfErr, OnOk, MatchOption, vec_len};
 ghost use Rattle.std.specs.Vec.{vec_capacity};
 ghost use Rattle.crossbeam_queue.specs.Passes.{view, IsPassOf, ruled_capacity};
 ghost use Rattle.node_lock.specs.Hands.{all_parts, put_in, taken_in, IsEven};
-ghost use Rattle.node_lock.specs.Inboxes.{Passing, inbox_capacity, inbox_parts, most_passes, parts_of, after_put, after_take, IsPassTo, IsNewPassTo, AreAllPasses, AreSettled};
+ghost use Rattle.node_lock.specs.Inboxes.{Passing, inbox_capacity, inbox_parts, most_passes, parts_of, after_put};
+ghost use Rattle.node_lock.specs.Inboxes.{after_take, IsPassTo, IsNewPassTo, AreAllPasses, AreSettled};
 ghost use Rattle.node_lock.specs.InboxFaults.{inbox_in, passes_in, IsInboxFault};
 ghost use Rattle.node_lock.specs.declared.job.Job.{Job as JobValue};
 

@@ -1,9 +1,11 @@
-ghost use Rattle.std.specs.Prelude.{◌≡◌, ◌<◌, ◌≤◌, ◌↔◌, [], ◌∷◌, ◌++◌, length, IsTrue, option_map, Ok, IfOk, IfErr, OnOk, OnErr, MatchResult};
+ghost use Rattle.std.specs.Prelude.{◌≡◌, ◌<◌, ◌≤◌, ◌↔◌, [], ◌∷◌, ◌++◌, length, IsTrue};
+ghost use Rattle.std.specs.Prelude.{option_map, Ok, IfOk, IfErr, OnOk, OnErr, MatchResult};
 ghost use Rattle.role_node.specs.Configs.{most_events};
 ghost use Rattle.role_node.specs.Answers.{is_recorded};
 ghost use Rattle.role_node.specs.Nodes.{IsLegalNode, due_at, with_event};
 ghost use Rattle.node_lock.specs.Receipts.{outcome_due};
-ghost use Rattle.node_lock.specs.Holds.{end_of, Fits, receipt_of, held_after, seat_after, seat_after_question, IsStepFault, IsMisfit};
+ghost use Rattle.node_lock.specs.Holds.{end_of, Fits, receipt_of, held_after, seat_after};
+ghost use Rattle.node_lock.specs.Holds.{seat_after_question, IsStepFault, IsMisfit};
 ghost use Rattle.node_lock.specs.Views.{node_count, view_of, held_after_hold, seat_after_hold, IsHoldFault};
 ghost use Rattle.node_lock.specs.declared.receipt.Call.TheVariants.{Step, Ask};
 ghost use Rattle.node_lock.specs.declared.locked.StepFault.TheVariants.{Memory};

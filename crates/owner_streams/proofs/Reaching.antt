@@ -1,5 +1,6 @@
 -- How far an owner's stream reaches, and what is delivered and sent at its places, by the places that are kept.
-use Rattle.std.proofs.Common.{◌≡◌, ℕ, zero, suc, ◌<◌, ◌≤◌, ⊎_elim, le_refl, true, false, List, [], ◌∷◌, length, Option, Some, None, sym, ap, ◌∙◌, arith, refl}
+use Rattle.std.proofs.Common.{◌≡◌, ℕ, zero, suc, ◌<◌, ◌≤◌, ⊎_elim, le_refl, true, false, List}
+use Rattle.std.proofs.Common.{[], ◌∷◌, length, Option, Some, None, sym, ap, ◌∙◌, arith, refl}
 use Rattle.std.specs.Prelude.{nat_lt, option_and_then, slice_get, IsSome}
 use Rattle.std.proofs.lemmas.Bool.{cases_lt}
 use Rattle.std.proofs.lemmas.Bool.Decides.{nat_tests}

@@ -1,5 +1,6 @@
 -- What holds of an owner's stream as it is kept. Serves the code, and no public contract.
-use Rattle.std.specs.Prelude.{◌≡◌, ℕ, ◌+◌, ◌%◌, ◌<◌, ◌≤◌, List, length, map, slice_get, nat_lt, nat_le, if◌then◌else◌, All, IsSome, Option, None, Result, Ok, Err}
+use Rattle.std.specs.Prelude.{◌≡◌, ℕ, ◌+◌, ◌%◌, ◌<◌, ◌≤◌, List, length, map, slice_get, nat_lt}
+use Rattle.std.specs.Prelude.{nat_le, if◌then◌else◌, All, IsSome, Option, None, Result, Ok, Err}
 use Rattle.std.specs.List.{range_with_len}
 use Rattle.quorum_sizes.specs.Sizes.{Counts}
 use Rattle.role_commands.specs.declared.command.Command.{Command}

@@ -1,5 +1,6 @@
 -- The stream of an owner: what follows for it from the whole list of the packets that a node took, oldest first.
-use Rattle.std.specs.Prelude.{◌≡◌, ℕ, suc, zero, ◌+◌, ◌≤◌, ◌==◌, ◌&&◌, max, if◌then◌else◌, List, [], ◌∷◌, length, slice_get, Option, Some, None}
+use Rattle.std.specs.Prelude.{◌≡◌, ℕ, suc, zero, ◌+◌, ◌≤◌, ◌==◌, ◌&&◌, max, if◌then◌else◌}
+use Rattle.std.specs.Prelude.{List, [], ◌∷◌, length, slice_get, Option, Some, None}
 use Rattle.std.specs.List.{filter_map}
 use Rattle.quorum_sizes.specs.Sizes.{Counts}
 use Rattle.role_commands.specs.declared.command.Command.{Command}

@@ -1,6 +1,7 @@
 -- The places of an owner's stream as they are kept, each with its instance if there is one. Serves the code, and no
 -- public contract.
-use Rattle.std.specs.Prelude.{◌≡◌, ℕ, ◌+◌, Bool, false, List, [], ◌∷◌, ◌++◌, slice_index_or, unwrap_or, option_and_then, Option, Some, None}
+use Rattle.std.specs.Prelude.{◌≡◌, ℕ, ◌+◌, Bool, false, List, [], ◌∷◌, ◌++◌, slice_index_or}
+use Rattle.std.specs.Prelude.{unwrap_or, option_and_then, Option, Some, None}
 use Rattle.std.specs.FinMap as maps
 use Rattle.quorum_sizes.specs.Sizes.{Counts}
 use Rattle.role_commands.specs.declared.command.Command.{Command}

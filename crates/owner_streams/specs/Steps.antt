@@ -1,5 +1,6 @@
 -- What one more packet causes, which packets are refused, what a node has sent at a place, and how a fault is written.
-use Rattle.std.specs.Prelude.{◌≡◌, ℕ, ◌+◌, nat_le, if◌then◌else◌, List, [], ◌∷◌, ◌++◌, All, IsOkAnd, codes, Result, Ok, Err}
+use Rattle.std.specs.Prelude.{◌≡◌, ℕ, ◌+◌, nat_le, if◌then◌else◌, List, []}
+use Rattle.std.specs.Prelude.{◌∷◌, ◌++◌, All, IsOkAnd, codes, Result, Ok, Err}
 use Rattle.std.specs.Fmt.{decimal}
 use Rattle.quorum_sizes.specs.Sizes.{Counts}
 use Rattle.link_frames.specs.Packets.{PacketValue, SentByOwner}

@@ -1,4 +1,6 @@
-ghost use Rattle.std.specs.Prelude.{◌≡◌, ◌≢◌, ℕ, ◌+◌, ◌<◌, ◌≤◌, false, List, [], ◌∷◌, ◌++◌, length, max, IsSome, IfOk, OnOk, OnErr, is_some, slice_get, slice_set, vec_len, vec_capacity, Some, None, IfSome};
+ghost use Rattle.std.specs.Prelude.{◌≡◌, ◌≢◌, ℕ, ◌+◌, ◌<◌, ◌≤◌, false, List, [], ◌∷◌, ◌++◌};
+ghost use Rattle.std.specs.Prelude.{length, max, IsSome, IfOk, OnOk, OnErr, is_some, slice_get};
+ghost use Rattle.std.specs.Prelude.{slice_set, vec_len, vec_capacity, Some, None, IfSome};
 ghost use Rattle.std.specs.Option.{option_copied};
 ghost use Rattle.quorum_sizes.specs.Sizes.{Counts};
 ghost use Rattle.link_frames.specs.Packets.{PacketValue};

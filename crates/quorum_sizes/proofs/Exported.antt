@@ -6,5 +6,6 @@
 --     count, len-count      a set of numbers below n has as many as are counted up to n
 --     same_names      sets of names are equal where they contain the same
 --     contains-..      what a set contains after a change, with `==` of numbers
-pub use Rattle.quorum_sizes.proofs.NodeCounts.{quorums_share, one_is_correct, len_below, count, len-count, same_names, contains-insert, contains-nodes_among}
+pub use Rattle.quorum_sizes.proofs.NodeCounts.{quorums_share, one_is_correct, len_below, count, len-count}
+pub use Rattle.quorum_sizes.proofs.NodeCounts.{same_names, contains-insert, contains-nodes_among}
 pub use Rattle.quorum_sizes.proofs.SizeLaws.{correct_are_enough}

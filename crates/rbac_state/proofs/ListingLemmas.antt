@@ -1,5 +1,6 @@
 -- The members of the listings that the review functions make.
-use Rattle.std.proofs.Common.{◌≡◌, ℕ, Bool, ◌==◌, ◌<◌, ◌+◌, inl, inr, List, [], ◌∷◌, ◌++◌, length, get_or, take, refl, sym, ap, ◌∙◌, subst, filter, map}
+use Rattle.std.proofs.Common.{◌≡◌, ℕ, Bool, ◌==◌, ◌<◌, ◌+◌, inl, inr, List, [], ◌∷◌, ◌++◌}
+use Rattle.std.proofs.Common.{length, get_or, take, refl, sym, ap, ◌∙◌, subst, filter, map}
 use Rattle.std.specs.Prelude.{IsTrue, ◌↔◌, Contains}
 use Rattle.std.specs.declared.cmp.Ordering.{Ordering}
 use Rattle.std.specs.List.{flat_map}
@@ -13,9 +14,11 @@ use Rattle.std.proofs.lemmas.Map.Lookups.{exact_unsigned}
 use Rattle.std.proofs.lemmas.Map.Views.{exact_unsigned_eq}
 use Rattle.rbac_state.specs.declared.relation.Relation.{Relation}
 use Rattle.rbac_state.specs.Listings.{IsListing}
-use Rattle.rbac_state.specs.Policies.{PolicyValue, assignment_cmp, permission_cmp, grant_cmp, assigned_in, granted_in, RoleMay}
+use Rattle.rbac_state.specs.Policies.{PolicyValue, assignment_cmp, permission_cmp}
+use Rattle.rbac_state.specs.Policies.{grant_cmp, assigned_in, granted_in, RoleMay}
 use Rattle.rbac_state.specs.Relations.{pair_cmp, is_among, IsKeptBothWays}
-use Rattle.rbac_state.proofs.Members.{contains_head, contains_more, contains_cases, contains_none, picked_from, picked_into}
+use Rattle.rbac_state.proofs.Members.{contains_head, contains_more, contains_cases}
+use Rattle.rbac_state.proofs.Members.{contains_none, picked_from, picked_into}
 use Rattle.rbac_state.proofs.PairLemmas.{assignments_total, grants_total, permissions_total, permissions_exact}
 use Rattle.rbac_state.proofs.RelationLemmas.{seconds_ascend, seconds_members}
 

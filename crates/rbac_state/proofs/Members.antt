@@ -1,5 +1,6 @@
 -- The members of lists, and of what is picked from a list.
-use Rattle.std.proofs.Common.{◌≡◌, Bool, true, false, ◌⊎◌, inl, inr, cond, zero, suc, List, [], ◌∷◌, refl, ap, ◌∙◌, arith, filter, map}
+use Rattle.std.proofs.Common.{◌≡◌, Bool, true, false, ◌⊎◌, inl, inr, cond, zero}
+use Rattle.std.proofs.Common.{suc, List, [], ◌∷◌, refl, ap, ◌∙◌, arith, filter, map}
 use Rattle.std.specs.Prelude.{Contains}
 use Rattle.std.proofs.lemmas.List.Elements.{All-contains, All-contains_itself, All-filter, filter_passes}
 

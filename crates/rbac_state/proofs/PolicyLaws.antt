@@ -3,8 +3,10 @@ use Rattle.std.proofs.Common.{sym, ap, ◌∙◌}
 use Rattle.std.specs.FinSet as set
 use Rattle.rbac_state.specs.Says.{says_of_user, says_of_permission}
 use Rattle.rbac_state.specs.Assignments.{owner_said, is_user_assigned, is_permission_granted, with_command, said_by}
-use Rattle.rbac_state.specs.Laws.{OneMoreUser, OneMorePermission, BlankIsOfNoCommands, AppliedIsOfOneMore, SameIsOfTheSame}
-use Rattle.rbac_state.proofs.StreamLemmas.{says_of_user-concerns, says_of_permission-concerns, owner_said-push, no_owner_said}
+use Rattle.rbac_state.specs.Laws.{OneMoreUser, OneMorePermission, BlankIsOfNoCommands}
+use Rattle.rbac_state.specs.Laws.{AppliedIsOfOneMore, SameIsOfTheSame}
+use Rattle.rbac_state.proofs.StreamLemmas.{says_of_user-concerns, says_of_permission-concerns}
+use Rattle.rbac_state.proofs.StreamLemmas.{owner_said-push, no_owner_said}
 
 pub one_more_user : OneMoreUser
 one_more_user table streams node command user role =

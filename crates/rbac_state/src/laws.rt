@@ -3,7 +3,8 @@
 ghost use Rattle.std.specs.Ordering.{nat_cmp};
 ghost use Rattle.rbac_state.specs.Policies.{permission_cmp};
 ghost use Rattle.rbac_state.specs.Listings.{HasOneListing};
-ghost use Rattle.rbac_state.specs.Laws.{OneMoreUser, OneMorePermission, BlankIsOfNoCommands, AppliedIsOfOneMore, SameIsOfTheSame};
+ghost use Rattle.rbac_state.specs.Laws.{OneMoreUser, OneMorePermission, BlankIsOfNoCommands};
+ghost use Rattle.rbac_state.specs.Laws.{AppliedIsOfOneMore, SameIsOfTheSame};
 
 /// One more command of a node's stream changes the two relations as that command says, and in
 /// nothing else.

@@ -1,6 +1,7 @@
 ghost use Rattle.std.specs.Prelude.{◌≡◌, ℕ, Contains, ◌+◌, ◌<◌, ◌≤◌, ◌&&◌, find, IfOk, OnOk, OnErr};
 ghost use Rattle.std.specs.Ordering.{nat_cmp};
-ghost use Rattle.rbac_state.specs.Policies.{permission_cmp, assigned_in, granted_in, HasRole, RoleMay, UserMay, least_room, IsBlank, SameRelations, IsApplied};
+ghost use Rattle.rbac_state.specs.Policies.{permission_cmp, assigned_in, granted_in, HasRole, RoleMay};
+ghost use Rattle.rbac_state.specs.Policies.{UserMay, least_room, IsBlank, SameRelations, IsApplied};
 ghost use Rattle.rbac_state.specs.Listings.{IsListing};
 
 use crate::listing::ascending;

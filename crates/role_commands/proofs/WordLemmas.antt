@@ -1,5 +1,6 @@
 -- A command has one spelling.
-use Rattle.std.proofs.Common.{◌≡◌, ℕ, ◌<◌, ◌^◌, true, List, ◌∷◌, ◌++◌, length, codes, Option, Some, None, IfSome, option_map, option_and_then, sym, refl, ap, arith, ◌∙◌, append_assoc, subst}
+use Rattle.std.proofs.Common.{◌≡◌, ℕ, ◌<◌, ◌^◌, true, List, ◌∷◌, ◌++◌, length, codes, Option, Some, None, IfSome}
+use Rattle.std.proofs.Common.{option_map, option_and_then, sym, refl, ap, arith, ◌∙◌, append_assoc, subst}
 use Rattle.std.proofs.lemmas.Option.{option_and_then_some, same_Some, none-some}
 use Rattle.std.proofs.lemmas.Slice.Eq.{bytes_eq-Decides}
 use Rattle.std.specs.Fmt.{decimal}
@@ -7,7 +8,8 @@ use Rattle.std.specs.List.{position_or_len}
 use Rattle.std.specs.Str.{bytes_eq}
 use Rattle.role_commands.specs.Laws.{CommandsAreRead, CommandsAreSpelled, SpellingsDiffer}
 use Rattle.role_commands.specs.Numbers.{is_space, wide_number, narrow_number}
-use Rattle.role_commands.specs.Reading.{user_and_role, operation_and_object, role_and_permission, named_command, command_of}
+use Rattle.role_commands.specs.Reading.{user_and_role, operation_and_object}
+use Rattle.role_commands.specs.Reading.{role_and_permission, named_command, command_of}
 use Rattle.role_commands.specs.Words.{spelling, IsCommand, two_words, three_words}
 use Rattle.role_commands.specs.declared.command.Command.{Command}
 use Rattle.role_commands.specs.declared.command.Command.TheVariants.{Assign, Deassign, Grant, Revoke}

@@ -1,6 +1,7 @@
 -- A command as nine bytes: its tag, its role in two bytes, its user or object in four and its operation in
 -- two, zero where it has none, each number with its highest byte first.
-use Rattle.std.specs.Prelude.{ℕ, ◌<◌, ◌^◌, ◌==◌, if◌then◌else◌, List, ◌∷◌, ◌++◌, take, drop, slice_index, Option, Some, None, option_and_then}
+use Rattle.std.specs.Prelude.{ℕ, ◌<◌, ◌^◌, ◌==◌, if◌then◌else◌, List, ◌∷◌, ◌++◌, take}
+use Rattle.std.specs.Prelude.{drop, slice_index, Option, Some, None, option_and_then}
 use Rattle.std.specs.Int.{w16, w32, to_be_bytes, from_be_bytes}
 use Rattle.std.specs.Str.{bytes_eq}
 use Rattle.role_commands.specs.declared.command.Command.{Command}

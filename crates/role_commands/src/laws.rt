@@ -1,6 +1,7 @@
 //! What is true of commands and of how they are written.
 
-ghost use Rattle.role_commands.specs.Laws.{CommandsAreRead, CommandsAreSpelled, SpellingsDiffer, CommandsAreThemselves, SameCommandsAreOne, BytesDiffer, NineBytes};
+ghost use Rattle.role_commands.specs.Laws.{CommandsAreRead, CommandsAreSpelled, SpellingsDiffer};
+ghost use Rattle.role_commands.specs.Laws.{CommandsAreThemselves, SameCommandsAreOne, BytesDiffer, NineBytes};
 ghost use Rattle.role_commands.specs.Numbers.{NumbersAreRead, NumbersAreSpelled};
 
 /// A number has one spelling, and reading and writing it undo each other.

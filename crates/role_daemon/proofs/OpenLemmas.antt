@@ -1,8 +1,11 @@
 -- The first line of a pipe, and the run behind it.
-use Rattle.std.proofs.Common.{◌≡◌, ℕ, ◌+◌, ◌-◌, ◌^◌, ◌<◌, ◌≤◌, ◌⊎◌, inl, inr, Bool, true, false, nat_lt, List, [], ◌∷◌, ◌++◌, length, take, drop, Option, Some, None, Result, Ok, Err, IfErr, refl, sym, ap, ◌∙◌, subst, arith, append_assoc, length-take-le, take-append-drop}
+use Rattle.std.proofs.Common.{◌≡◌, ℕ, ◌+◌, ◌-◌, ◌^◌, ◌<◌, ◌≤◌, ◌⊎◌, inl, inr, Bool, true, false, nat_lt, List}
+use Rattle.std.proofs.Common.{[], ◌∷◌, ◌++◌, length, take, drop, Option, Some, None, Result, Ok, Err, IfErr}
+use Rattle.std.proofs.Common.{refl, sym, ap, ◌∙◌, subst, arith, append_assoc, length-take-le, take-append-drop}
 use Rattle.std.specs.Result.{result_err}
 use Rattle.std.proofs.lemmas.Bool.Decides.{nat_tests}
-use Rattle.std.proofs.KnownBytes.{Consumes-trans, Consumes-kept, Consumes-nil, Appends-nil, Keeps-refl, prepend_known-nil}
+use Rattle.std.proofs.KnownBytes.{Consumes-trans, Consumes-kept, Consumes-nil}
+use Rattle.std.proofs.KnownBytes.{Appends-nil, Keeps-refl, prepend_known-nil}
 use Rattle.std.specs.Io.KnownBytes.{Consumes, Appends, Keeps, IsAtEnd, prepend_known}
 use Rattle.link_frames.specs.Devices.{WentOn, ReaderFailed}
 use Rattle.link_frames.specs.Lines.{line_end, lines_of, ended, NoLineEnd}
@@ -11,10 +14,12 @@ use Rattle.link_frames.specs.Nexts.{Begins, EndsAt}
 use Rattle.link_frames.specs.declared.blocks.AheadFault.{AheadFault}
 use Rattle.link_frames.specs.declared.blocks.AheadFault.TheVariants as ahead
 use Rattle.link_frames.specs.declared.next.Next.TheVariants.{TooLong, Last}
-use Rattle.link_frames.proofs.Exported.{lines_of-nil, lines_of-line, lines_of-last, lines_of-begun, Consumes-front, HasBytes-done, WroteFront-nothing}
+use Rattle.link_frames.proofs.Exported.{lines_of-nil, lines_of-line, lines_of-last, lines_of-begun}
+use Rattle.link_frames.proofs.Exported.{Consumes-front, HasBytes-done, WroteFront-nothing}
 use Rattle.role_node.specs.Nodes.{NodeValue}
 use Rattle.role_daemon.specs.Setups.{setup_due, most_text_bytes}
-use Rattle.role_daemon.specs.Pipes.{answers_text, one_stops, node_of, opened_text, text_of_lines, pipe_text, fault_of_lines, opening_fault, opened_stops, lines_stop, pipe_stops}
+use Rattle.role_daemon.specs.Pipes.{answers_text, one_stops, node_of, opened_text, text_of_lines, pipe_text}
+use Rattle.role_daemon.specs.Pipes.{fault_of_lines, opening_fault, opened_stops, lines_stop, pipe_stops}
 use Rattle.role_daemon.specs.Results.{IsDueOrMemory}
 use Rattle.role_daemon.specs.Runs.{PipeRan, IsEndless}
 use Rattle.link_frames.specs.Watching.{Tally}

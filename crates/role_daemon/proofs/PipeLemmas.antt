@@ -1,11 +1,13 @@
 -- The text of client lines, line by line.
-use Rattle.std.proofs.Common.{◌≡◌, ℕ, ◌+◌, ◌<◌, Bool, true, false, nat_lt, if◌then◌else◌, List, [], ◌∷◌, ◌++◌, length, Option, Some, None, Result, Ok, Err, refl, sym, ap, ◌∙◌, arith, append-nil}
+use Rattle.std.proofs.Common.{◌≡◌, ℕ, ◌+◌, ◌<◌, Bool, true, false, nat_lt, if◌then◌else◌, List, [], ◌∷◌, ◌++◌}
+use Rattle.std.proofs.Common.{length, Option, Some, None, Result, Ok, Err, refl, sym, ap, ◌∙◌, arith, append-nil}
 use Rattle.std.specs.Prelude.{is_some}
 use Rattle.std.specs.Option.{option_map_or}
 use Rattle.std.proofs.lemmas.Bool.Decides.{nat_tests}
 use Rattle.link_frames.specs.Lines.{ended, lines_of}
 use Rattle.link_frames.specs.LinePrograms.{text_by, bad_by}
-use Rattle.link_frames.proofs.Exported.{lines_of-nil, text_by-nil, text_by-good, text_by-bad, bad_by-nil, bad_by-good, bad_by-bad}
+use Rattle.link_frames.proofs.Exported.{lines_of-nil, text_by-nil, text_by-good}
+use Rattle.link_frames.proofs.Exported.{text_by-bad, bad_by-nil, bad_by-good, bad_by-bad}
 use Rattle.role_node.specs.Nodes.{NodeValue}
 use Rattle.client_lines.specs.AnswerTexts.{answer_text}
 use Rattle.client_lines.specs.Requests.{request_due, most_line_bytes}
@@ -15,7 +17,8 @@ use Rattle.client_lines.specs.declared.fault.LineFault.TheVariants.{NotJson}
 use Rattle.client_lines.specs.declared.request.Request.{Request}
 use Rattle.client_lines.specs.declared.request.Request.TheVariants as request
 use Rattle.role_daemon.specs.Answers.{answer_to}
-use Rattle.role_daemon.specs.Pipes.{request_in, answer_said, after_said, asks_to_stop, stops, line_text, after_line, going_on, one_stops, stop_text, answers_text}
+use Rattle.role_daemon.specs.Pipes.{request_in, answer_said, after_said, asks_to_stop, stops, line_text}
+use Rattle.role_daemon.specs.Pipes.{after_line, going_on, one_stops, stop_text, answers_text}
 use Rattle.role_daemon.specs.Steps.{client_text}
 
 -- a line that does not stop the node

@@ -1,5 +1,7 @@
 -- Client lines that were run so far, and how a run ends.
-use Rattle.std.proofs.Common.{◌≡◌, ℕ, ◌+◌, ◌-◌, ◌^◌, ◌<◌, ◌≤◌, ◌⊎◌, inl, inr, Bool, true, false, not, List, [], ◌∷◌, ◌++◌, length, take, drop, Option, Some, None, Result, Ok, Err, IfErr, refl, sym, ap, ◌∙◌, subst, arith, append_assoc, append-nil}
+use Rattle.std.proofs.Common.{◌≡◌, ℕ, ◌+◌, ◌-◌, ◌^◌, ◌<◌, ◌≤◌, ◌⊎◌, inl, inr, Bool, true, false, not}
+use Rattle.std.proofs.Common.{List, [], ◌∷◌, ◌++◌, length, take, drop, Option, Some, None, Result, Ok}
+use Rattle.std.proofs.Common.{Err, IfErr, refl, sym, ap, ◌∙◌, subst, arith, append_assoc, append-nil}
 use Rattle.std.specs.Prelude.{is_some}
 use Rattle.std.proofs.KnownBytes.{Consumes-trans, Consumes-kept, Consumes-nil, Appends-trans, Appends-nil}
 use Rattle.std.specs.Io.KnownBytes.{Consumes, Appends, Keeps, IsAtEnd, prepend_known}
@@ -9,7 +11,9 @@ use Rattle.link_frames.specs.Lines.{line_end, lines_of, ended, NoLineEnd}
 use Rattle.link_frames.specs.LinePrograms.{text_by, HasBytes, WroteFront}
 use Rattle.link_frames.specs.Nexts.{Begins, EndsAt, PassedLine}
 use Rattle.link_frames.specs.declared.next.Next.TheVariants.{TooLong, Last}
-use Rattle.link_frames.proofs.Exported.{lines_of-nil, lines_of-line, lines_of-last, Consumes-front, Ran, Ran-taken, Ran-front, HasBytes-done, CallFailed-later, ReaderFailed-later, AppendsFront-nothing, AppendsFront-whole}
+use Rattle.link_frames.proofs.Exported.{lines_of-nil, lines_of-line, lines_of-last, Consumes-front}
+use Rattle.link_frames.proofs.Exported.{Ran, Ran-taken, Ran-front, HasBytes-done, CallFailed-later}
+use Rattle.link_frames.proofs.Exported.{ReaderFailed-later, AppendsFront-nothing, AppendsFront-whole}
 use Rattle.role_node.specs.Nodes.{NodeValue}
 use Rattle.client_lines.specs.AnswerTexts.{answer_text}
 use Rattle.client_lines.specs.Requests.{most_line_bytes}
@@ -19,7 +23,8 @@ use Rattle.role_daemon.specs.Pipes.{stops, line_text, after_line, going_on, one_
 use Rattle.role_daemon.specs.Steps.{client_text, Answered, LinesRan, LinesEndless, Finished}
 use Rattle.role_daemon.specs.declared.fault.PipeFault.{PipeFault}
 use Rattle.role_daemon.specs.declared.fault.PipeFault.TheVariants.{Device, Memory}
-use Rattle.role_daemon.proofs.PipeLemmas.{goes_on, any_number, client_text-nil, answers_text-stop, answers_text-last, one_stops-stop, long_text, long_goes_on, long_changes_nothing}
+use Rattle.role_daemon.proofs.PipeLemmas.{goes_on, any_number, client_text-nil, answers_text-stop, answers_text-last}
+use Rattle.role_daemon.proofs.PipeLemmas.{one_stops-stop, long_text, long_goes_on, long_changes_nothing}
 
 -- ---- the bytes that are left
 

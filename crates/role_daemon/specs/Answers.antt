@@ -1,5 +1,6 @@
 -- What a node answers to a client's request, and what the request makes of it.
-use Rattle.std.specs.Prelude.{ℕ, zero, suc, ◌+◌, List, length, Option, Some, None, is_some, Bool, true, false, if◌then◌else◌, Result, Ok, Err}
+use Rattle.std.specs.Prelude.{ℕ, zero, suc, ◌+◌, List, length, Option, Some, None}
+use Rattle.std.specs.Prelude.{is_some, Bool, true, false, if◌then◌else◌, Result, Ok, Err}
 use Rattle.std.specs.Option.{option_map_or}
 use Rattle.link_frames.specs.Packets.{PacketValue, packet_due}
 use Rattle.link_frames.specs.declared.packet.Message.{Message}
@@ -20,7 +21,9 @@ use Rattle.role_node.specs.declared.question.Answer.{Answer}
 use Rattle.role_node.specs.declared.question.Answer.TheVariants as answer
 use Rattle.role_node.specs.declared.question.Question.{Question}
 use Rattle.client_lines.specs.declared.answer.ClientAnswer.{ClientAnswer}
-use Rattle.client_lines.specs.declared.answer.ClientAnswer.TheVariants.{Issued, Session, Done, Verdict, Users, Roles, Permissions, Operations, Reach, Again, Stopped, Refused}
+use Rattle.client_lines.specs.declared.answer.ClientAnswer.TheVariants.{Issued, Session, Done, Verdict, Users}
+use Rattle.client_lines.specs.declared.answer.ClientAnswer.TheVariants.{Roles, Permissions, Operations, Reach}
+use Rattle.client_lines.specs.declared.answer.ClientAnswer.TheVariants.{Again, Stopped, Refused}
 use Rattle.client_lines.specs.declared.request.Request.{Request}
 use Rattle.client_lines.specs.declared.request.Request.TheVariants as request
 

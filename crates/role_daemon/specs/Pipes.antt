@@ -1,6 +1,7 @@
 -- What a pipe means: the text that is due for its lines. The first line is a cluster text of one node, and each
 -- later one is a client line with one answer, up to the first that stops the node.
-use Rattle.std.specs.Prelude.{ℕ, Bool, true, false, if◌then◌else◌, List, [], ◌∷◌, ◌++◌, Option, Some, None, is_some, Result, Ok, Err}
+use Rattle.std.specs.Prelude.{ℕ, Bool, true, false, if◌then◌else◌, List, [], ◌∷◌}
+use Rattle.std.specs.Prelude.{◌++◌, Option, Some, None, is_some, Result, Ok, Err}
 use Rattle.std.specs.Result.{result_err}
 use Rattle.link_frames.specs.Lines.{ended, lines_of}
 use Rattle.link_frames.specs.LinePrograms.{text_by, bad_by}

@@ -1,5 +1,6 @@
 -- The node that a cluster text sets up.
-use Rattle.std.specs.Prelude.{◌≡◌, ◌<◌, ◌⊎◌, ⊤, ℕ, nat_lt, ◌==◌, not, ◌&&◌, if◌then◌else◌, List, [], ◌∷◌, length, Option, Some, None, is_some, Result, Ok, Err}
+use Rattle.std.specs.Prelude.{◌≡◌, ◌<◌, ◌⊎◌, ⊤, ℕ, nat_lt, ◌==◌, not, ◌&&◌, if◌then◌else◌, List}
+use Rattle.std.specs.Prelude.{[], ◌∷◌, length, Option, Some, None, is_some, Result, Ok, Err}
 use Rattle.serde_json.specs.Data.{Data}
 use Rattle.serde_json.specs.Find.{as_object}
 use Rattle.quorum_sizes.specs.Sizes.{Counts}

@@ -1,5 +1,6 @@
 -- What is kept of a script, after one more line.
-use Rattle.std.proofs.Common.{◌≡◌, ℕ, ◌<◌, ◌≤◌, Bool, true, false, cond, nat_lt, List, [], ◌∷◌, ◌++◌, length, Option, Some, None, option_map, sym, refl, ap, ◌∙◌, arith, subst}
+use Rattle.std.proofs.Common.{◌≡◌, ℕ, ◌<◌, ◌≤◌, Bool, true, false, cond, nat_lt, List, [], ◌∷◌, ◌++◌}
+use Rattle.std.proofs.Common.{length, Option, Some, None, option_map, sym, refl, ap, ◌∙◌, arith, subst}
 use Rattle.std.proofs.lemmas.Bool.Decides.{nat_tests}
 use Rattle.std.proofs.lemmas.List.Elements.{All-nil, All-push}
 use Rattle.std.specs.Str.{IsUtf8}
@@ -21,7 +22,9 @@ use Rattle.role_lab.specs.Labs as labs
 use Rattle.role_lab.specs.Labs.{lab_sizes, new_lab, after_order}
 use Rattle.role_lab.specs.OrderTexts.{order_text}
 use Rattle.role_lab.specs.Orders.{cluster_of_line, setup_of_line, order_of_line}
-use Rattle.role_lab.specs.Scripts.{Script, Unread, OfInstance, OfSetup, OfCluster, most_line_bytes, first_of_instance, first_of_cluster, after_take, table_after, one_too_many, liars_after, after_setup, after_asking, after_cluster_line, after_line, next}
+use Rattle.role_lab.specs.Scripts.{Script, Unread, OfInstance, OfSetup, OfCluster, most_line_bytes}
+use Rattle.role_lab.specs.Scripts.{first_of_instance, first_of_cluster, after_take, table_after, one_too_many}
+use Rattle.role_lab.specs.Scripts.{liars_after, after_setup, after_asking, after_cluster_line, after_line, next}
 use Rattle.role_lab.specs.Stages.{Follows, Answers, StageAnswers}
 use Rattle.role_lab.specs.Texts.{sizes_text, outcome_text}
 use Rattle.role_lab.specs.declared.lab.Lab.{Lab}
@@ -31,7 +34,8 @@ use Rattle.role_lab.specs.declared.orders.Setup.TheVariants.{Owned, Liar}
 use Rattle.role_lab.specs.declared.stage.Stage.{Stage}
 use Rattle.role_lab.specs.declared.stage.Stage.TheVariants.{Start, Running, Setting, Living}
 use Rattle.role_lab.proofs.LabSizes.{after_order-sizes, none_lie_too_many}
-use Rattle.role_lab.proofs.PlainLines.{first_line-text, later_line-text, cluster_line-text, setup_line-text, order_line-text}
+use Rattle.role_lab.proofs.PlainLines.{first_line-text, later_line-text, cluster_line-text}
+use Rattle.role_lab.proofs.PlainLines.{setup_line-text, order_line-text}
 use Rattle.role_lab.proofs.Spelled.{sizes_of_line_spelled}
 use Rattle.role_lab.proofs.SpelledSetups.{cluster_of_line_spelled}
 

@@ -1,5 +1,6 @@
 -- The names of nodes and of kinds in a line, and what stands behind a word.
-use Rattle.std.proofs.Common.{◌≡◌, ℕ, ◌<◌, ◌^◌, true, nat_lt, List, ◌∷◌, ◌++◌, length, codes, Option, Some, refl, ap, ◌∙◌, arith, subst}
+use Rattle.std.proofs.Common.{◌≡◌, ℕ, ◌<◌, ◌^◌, true, nat_lt, List, ◌∷◌, ◌++◌, length}
+use Rattle.std.proofs.Common.{codes, Option, Some, refl, ap, ◌∙◌, arith, subst}
 use Rattle.std.proofs.lemmas.Bool.Decides.{nat_tests}
 use Rattle.std.proofs.lemmas.Option.{option_and_then_some, cond_some, same_Some, none-some}
 use Rattle.std.proofs.lemmas.Slice.Eq.{bytes_eq-Decides}
@@ -8,7 +9,8 @@ use Rattle.std.specs.List.{position_or_len}
 use Rattle.std.specs.Str.{bytes_eq}
 use Rattle.quorum_sizes.specs.Sizes.{Counts, AreSizes, name_due}
 use Rattle.role_commands.specs.Numbers.{is_space}
-use Rattle.role_commands.proofs.Exported.{split_word-word, split_word-decimal, split_word-joined, byte_read, byte_spelled, if_else, mapped}
+use Rattle.role_commands.proofs.Exported.{split_word-word, split_word-decimal, split_word-joined}
+use Rattle.role_commands.proofs.Exported.{byte_read, byte_spelled, if_else, mapped}
 use Rattle.link_frames.specs.declared.kind.Kind.{Kind}
 use Rattle.link_frames.specs.declared.kind.Kind.TheVariants.{Send, Echo, Ready}
 use Rattle.role_lab.specs.Orders.{node_number, kind_of, then_rest}

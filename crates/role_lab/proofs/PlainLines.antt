@@ -14,13 +14,17 @@ use Rattle.bracha_instance.specs.Broadcast.{Take}
 use Rattle.role_sessions.specs.declared.event.ClientEvent.{ClientEvent}
 use Rattle.role_sessions.specs.declared.event.ClientEvent.TheVariants.{Open, Activate, DropRole, Close}
 use Rattle.role_node.specs.declared.question.Question.{Question}
-use Rattle.role_node.specs.declared.question.Question.TheVariants.{Check, AssignedUsers, AssignedRoles, RolePermissions, UserPermissions, RoleOperations, UserOperations, SessionRoles, SessionPermissions}
+use Rattle.role_node.specs.declared.question.Question.TheVariants.{Check, AssignedUsers, AssignedRoles}
+use Rattle.role_node.specs.declared.question.Question.TheVariants.{RolePermissions, UserPermissions, RoleOperations}
+use Rattle.role_node.specs.declared.question.Question.TheVariants.{UserOperations, SessionRoles, SessionPermissions}
 use Rattle.byz_world.specs.declared.step.Step.{Step}
 use Rattle.byz_world.specs.declared.step.Step.TheVariants.{Issue, Give, Lie, Bytes, Client}
 use Rattle.role_lab.specs.Grammar.{sizes_of_line, take_of_line}
 use Rattle.role_lab.specs.Orders.{cluster_of_line, setup_of_line, order_of_line}
 use Rattle.role_lab.specs.Spellings.{sizes_spelling, said_spelling}
-use Rattle.role_lab.specs.OrderSpellings.{cluster_spelling, setup_spelling, at_node, packet_spelling, act_spelling, question_spelling, bytes_spelling, step_spelling, order_spelling, IsSetup, IsAct, IsQuestion, IsLie, IsStep, IsOrder, SpellsOrder}
+use Rattle.role_lab.specs.OrderSpellings.{cluster_spelling, setup_spelling, at_node, packet_spelling, act_spelling}
+use Rattle.role_lab.specs.OrderSpellings.{question_spelling, bytes_spelling, step_spelling, order_spelling}
+use Rattle.role_lab.specs.OrderSpellings.{IsSetup, IsAct, IsQuestion, IsLie, IsStep, IsOrder, SpellsOrder}
 use Rattle.role_lab.specs.Texts.{kind_word}
 use Rattle.role_lab.specs.declared.orders.Setup.{Setup}
 use Rattle.role_lab.specs.declared.orders.Setup.TheVariants.{Owned, Liar}

@@ -1,5 +1,6 @@
 -- A script that was run so far, and how it ends.
-use Rattle.std.proofs.Common.{◌≡◌, ℕ, ◌+◌, ◌-◌, ◌^◌, ◌≤◌, Bool, true, false, List, [], ◌++◌, Option, Some, None, Ok, Err, sym, refl, subst, arith}
+use Rattle.std.proofs.Common.{◌≡◌, ℕ, ◌+◌, ◌-◌, ◌^◌, ◌≤◌, Bool, true, false, List, []}
+use Rattle.std.proofs.Common.{◌++◌, Option, Some, None, Ok, Err, sym, refl, subst, arith}
 use Rattle.std.proofs.KnownBytes.{Appends-trans}
 use Rattle.std.specs.Io.KnownBytes.{Appends, IsAtEnd, prepend_known}
 use Rattle.link_frames.specs.Blocks.{ReadAhead}
@@ -9,7 +10,8 @@ use Rattle.link_frames.specs.Lines.{ended}
 use Rattle.link_frames.specs.Watching.{Tally}
 use Rattle.link_frames.specs.declared.blocks.AheadFault.{AheadFault}
 use Rattle.link_frames.specs.declared.blocks.AheadFault.TheVariants as ahead
-use Rattle.link_frames.proofs.Exported.{Ran, Ran-start, Ran-moved, Ran-front, Ran-good, Ran-text, Ran-number, Ended, Ended-whole, WentOn-nothing, WentOn-trans, AppendsFront-nothing}
+use Rattle.link_frames.proofs.Exported.{Ran, Ran-start, Ran-moved, Ran-front, Ran-good, Ran-text, Ran-number}
+use Rattle.link_frames.proofs.Exported.{Ended, Ended-whole, WentOn-nothing, WentOn-trans, AppendsFront-nothing}
 use Rattle.role_lab.specs.Runs.{ScriptRan, IsEndless}
 use Rattle.role_lab.specs.Scripts.{Script, Unread, next, script_text}
 use Rattle.role_lab.specs.Stages.{Follows}

@@ -1,5 +1,7 @@
 -- A line of a script of one instance has one spelling.
-use Rattle.std.proofs.Common.{◌≡◌, ◌≢◌, ℕ, ◌==◌, ◌*◌, ◌<◌, ◌≤◌, ◌^◌, Bool, true, false, if◌then◌else◌, nat_lt, nat_le, List, ◌∷◌, ◌++◌, codes, Option, Some, None, Result, Ok, Err, option_map, option_and_then, sym, refl, ap, arith, ◌∙◌, append_assoc, subst}
+use Rattle.std.proofs.Common.{◌≡◌, ◌≢◌, ℕ, ◌==◌, ◌*◌, ◌<◌, ◌≤◌, ◌^◌, Bool, true, false, if◌then◌else◌}
+use Rattle.std.proofs.Common.{nat_lt, nat_le, List, ◌∷◌, ◌++◌, codes, Option, Some, None, Result, Ok, Err}
+use Rattle.std.proofs.Common.{option_map, option_and_then, sym, refl, ap, arith, ◌∙◌, append_assoc, subst}
 use Rattle.std.proofs.lemmas.Bool.Decides.{nat_tests}
 use Rattle.std.proofs.lemmas.Option.{option_and_then_some, same_Some, none-some}
 use Rattle.std.proofs.lemmas.Slice.Eq.{bytes_eq-Decides}
@@ -14,12 +16,14 @@ use Rattle.role_commands.specs.Numbers.{split_word, byte_number}
 use Rattle.role_commands.specs.Reading.{command_of}
 use Rattle.role_commands.specs.Words.{spelling, IsCommand}
 use Rattle.role_commands.specs.declared.command.Command.{Command}
-use Rattle.role_commands.proofs.Exported.{split_word-word, split_word-decimal, split_word-joined, byte_read, byte_spelled, if_else, command_of-spelling, command_of_spelled}
+use Rattle.role_commands.proofs.Exported.{split_word-word, split_word-decimal, split_word-joined, byte_read}
+use Rattle.role_commands.proofs.Exported.{byte_spelled, if_else, command_of-spelling, command_of_spelled}
 use Rattle.link_frames.specs.declared.kind.Kind.{Kind}
 use Rattle.link_frames.specs.declared.kind.Kind.TheVariants.{Send, Echo, Ready}
 use Rattle.bracha_instance.specs.Broadcast.{Take}
 use Rattle.role_lab.specs.Grammar.{owner, sizes_of_numbers, sizes_of_line, take_from, vote_of, named_take, take_of_line}
-use Rattle.role_lab.specs.Spellings.{sizes_spelling, said_spelling, take_spelling, IsTake, SizesAreRead, SizesAreSpelled, TakesAreRead, TakesAreSpelled}
+use Rattle.role_lab.specs.Spellings.{sizes_spelling, said_spelling, take_spelling, IsTake}
+use Rattle.role_lab.specs.Spellings.{SizesAreRead, SizesAreSpelled, TakesAreRead, TakesAreSpelled}
 use Rattle.role_lab.proofs.LineNames.{name_due-within, name_due_is}
 
 -- reading what was written

@@ -1,5 +1,7 @@
 -- A later line of a cluster has one spelling.
-use Rattle.std.proofs.Common.{◌≡◌, ℕ, Bool, true, false, not, ◌&&◌, ◌==◌, cond, if◌then◌else◌, ◌<◌, List, ◌∷◌, ◌++◌, length, codes, Option, Some, None, sym, refl, ap, arith, ◌∙◌, append_assoc, subst, eqb-true}
+use Rattle.std.proofs.Common.{◌≡◌, ℕ, Bool, true, false, not, ◌&&◌, ◌==◌, cond, if◌then◌else◌}
+use Rattle.std.proofs.Common.{◌<◌, List, ◌∷◌, ◌++◌, length, codes, Option, Some, None, sym}
+use Rattle.std.proofs.Common.{refl, ap, arith, ◌∙◌, append_assoc, subst, eqb-true}
 use Rattle.std.proofs.lemmas.Bool.{eq-eqb}
 use Rattle.std.proofs.lemmas.Option.{option_and_then_some, same_Some, none-some}
 use Rattle.std.proofs.lemmas.Slice.Eq.{bytes_eq-Decides}
@@ -12,7 +14,9 @@ use Rattle.role_commands.specs.Bytes.{IsBytes}
 use Rattle.role_commands.specs.Reading.{command_of}
 use Rattle.role_commands.specs.Words.{spelling, IsCommand}
 use Rattle.role_commands.specs.declared.command.Command.{Command}
-use Rattle.role_commands.proofs.Exported.{split_word-word, split_word-joined, wide_read, long_read, narrow_read, wide_spelled, narrow_spelled, long_spelled, if_else, mapped, by_name, by_name_made, command_of-spelling, command_of_spelled}
+use Rattle.role_commands.proofs.Exported.{split_word-word, split_word-joined, wide_read, long_read, narrow_read}
+use Rattle.role_commands.proofs.Exported.{wide_spelled, narrow_spelled, long_spelled, if_else, mapped, by_name}
+use Rattle.role_commands.proofs.Exported.{by_name_made, command_of-spelling, command_of_spelled}
 use Rattle.link_frames.specs.Kinds.{same_kind}
 use Rattle.link_frames.specs.Packets.{PacketValue, SentByOwner, packet_of, packet_due}
 use Rattle.link_frames.specs.declared.kind.Kind.{Kind}
@@ -21,17 +25,29 @@ use Rattle.link_frames.specs.declared.packet.Message.{Message}
 use Rattle.role_sessions.specs.declared.event.ClientEvent.{ClientEvent}
 use Rattle.role_sessions.specs.declared.event.ClientEvent.TheVariants.{Open, Activate, DropRole, Close}
 use Rattle.role_node.specs.declared.question.Question.{Question}
-use Rattle.role_node.specs.declared.question.Question.TheVariants.{Check, AssignedUsers, AssignedRoles, RolePermissions, UserPermissions, RoleOperations, UserOperations, SessionRoles, SessionPermissions}
+use Rattle.role_node.specs.declared.question.Question.TheVariants.{Check, AssignedUsers, AssignedRoles}
+use Rattle.role_node.specs.declared.question.Question.TheVariants.{RolePermissions, UserPermissions, RoleOperations}
+use Rattle.role_node.specs.declared.question.Question.TheVariants.{UserOperations, SessionRoles, SessionPermissions}
 use Rattle.byz_world.specs.declared.step.Step.{Step}
 use Rattle.byz_world.specs.declared.step.Step.TheVariants.{Issue, Give, Lie, Bytes, Client}
-use Rattle.role_lab.specs.Orders.{node_number, kind_of, session_and_user, session_user_and_role, access_of, role_operations_of, user_operations_of, named_listing, listing_of, lie_of, agreement_of, order_at_node, order_of_node, named_order, bytes_order, order_of_line}
-use Rattle.role_lab.specs.OrderSpellings.{at_node, two_numbers, three_numbers, packet_spelling, act_spelling, question_spelling, step_spelling, order_spelling, IsAct, IsQuestion, IsLie, IsStep, IsOrder, bytes_spelling, SpellsBytes, SpellsOrder, OrdersAreRead, OrdersAreSpelled}
+use Rattle.role_lab.specs.Orders.{node_number, kind_of, session_and_user, session_user_and_role, access_of}
+use Rattle.role_lab.specs.Orders.{role_operations_of, user_operations_of, named_listing, listing_of, lie_of}
+use Rattle.role_lab.specs.Orders.{agreement_of, order_at_node, order_of_node, named_order, bytes_order, order_of_line}
+use Rattle.role_lab.specs.OrderSpellings.{at_node, two_numbers, three_numbers, packet_spelling}
+use Rattle.role_lab.specs.OrderSpellings.{act_spelling, question_spelling, step_spelling, order_spelling}
+use Rattle.role_lab.specs.OrderSpellings.{IsAct, IsQuestion, IsLie, IsStep, IsOrder, bytes_spelling}
+use Rattle.role_lab.specs.OrderSpellings.{SpellsBytes, SpellsOrder, OrdersAreRead, OrdersAreSpelled}
 use Rattle.role_lab.specs.Texts.{kind_word}
 use Rattle.role_lab.specs.declared.orders.Order.{Order}
 use Rattle.role_lab.specs.declared.orders.Order.TheVariants.{Do, Flush, Rest, Ask, Reach, Agree}
 use Rattle.role_lab.proofs.SpelledBytes.{bytes_read, bytes_spelled, spelling_spells}
-use Rattle.role_lab.proofs.LineNames.{node_read, node_spelled, node_rest_spelled, kind_read, plain_kind, kind_spelled, then_rest-word, then_rest-decimal, then_rest_is}
-use Rattle.role_lab.proofs.LineNumbers.{at_node-grouped, two_numbers-grouped, narrow_rest_spelled, joined, session_and_user-numbers, session_user_and_role-numbers, access_of-numbers, role_operations_of-numbers, user_operations_of-numbers, session_and_user_spelled, session_user_and_role_spelled, access_of_spelled, role_operations_of_spelled, user_operations_of_spelled}
+use Rattle.role_lab.proofs.LineNames.{node_read, node_spelled, node_rest_spelled, kind_read, plain_kind}
+use Rattle.role_lab.proofs.LineNames.{kind_spelled, then_rest-word, then_rest-decimal, then_rest_is}
+use Rattle.role_lab.proofs.LineNumbers.{at_node-grouped, two_numbers-grouped, narrow_rest_spelled, joined}
+use Rattle.role_lab.proofs.LineNumbers.{session_and_user-numbers, session_user_and_role-numbers}
+use Rattle.role_lab.proofs.LineNumbers.{access_of-numbers, role_operations_of-numbers, user_operations_of-numbers}
+use Rattle.role_lab.proofs.LineNumbers.{session_and_user_spelled, session_user_and_role_spelled}
+use Rattle.role_lab.proofs.LineNumbers.{access_of_spelled, role_operations_of_spelled, user_operations_of_spelled}
 
 -- ---- lines of one word
 

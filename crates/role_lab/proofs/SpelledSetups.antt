@@ -1,13 +1,16 @@
 -- The first line of a cluster, and the lines of its roles and liars, have one spelling.
-use Rattle.std.proofs.Common.{◌≡◌, ℕ, ◌<◌, ◌^◌, List, ◌∷◌, ◌++◌, drop, codes, Some, sym, refl, ap, ◌∙◌, append_assoc, subst}
+use Rattle.std.proofs.Common.{◌≡◌, ℕ, ◌<◌, ◌^◌, List, ◌∷◌, ◌++◌, drop, codes}
+use Rattle.std.proofs.Common.{Some, sym, refl, ap, ◌∙◌, append_assoc, subst}
 use Rattle.std.proofs.lemmas.Option.{option_and_then_some, none-some}
 use Rattle.std.specs.Fmt.{decimal}
 use Rattle.quorum_sizes.specs.Sizes.{Counts, AreSizes}
-use Rattle.role_commands.proofs.Exported.{split_word-word, split_word-joined, byte_read, byte_spelled, mapped, behind_name, by_name, by_name_made}
+use Rattle.role_commands.proofs.Exported.{split_word-word, split_word-joined, byte_read}
+use Rattle.role_commands.proofs.Exported.{byte_spelled, mapped, behind_name, by_name, by_name_made}
 use Rattle.role_lab.specs.Grammar.{sizes_of_numbers, sizes_of_line}
 use Rattle.role_lab.specs.Orders.{node_number, cluster_of_line, role_and_owner, named_setup, setup_of_line}
 use Rattle.role_lab.specs.Spellings.{sizes_spelling}
-use Rattle.role_lab.specs.OrderSpellings.{cluster_spelling, setup_spelling, two_numbers, IsSetup, ClustersAreRead, ClustersAreSpelled, SetupsAreRead, SetupsAreSpelled}
+use Rattle.role_lab.specs.OrderSpellings.{cluster_spelling, setup_spelling, two_numbers, IsSetup}
+use Rattle.role_lab.specs.OrderSpellings.{ClustersAreRead, ClustersAreSpelled, SetupsAreRead, SetupsAreSpelled}
 use Rattle.role_lab.specs.declared.orders.Setup.{Setup}
 use Rattle.role_lab.specs.declared.orders.Setup.TheVariants.{Owned, Liar}
 use Rattle.role_lab.proofs.LineNames.{node_read, node_spelled}

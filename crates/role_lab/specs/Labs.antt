@@ -1,5 +1,6 @@
 -- A cluster as a script runs it: the world, and which packets of its pool were given.
-use Rattle.std.specs.Prelude.{ℕ, zero, suc, ◌+◌, ◌==◌, Bool, false, not, ◌||◌, nat_lt, if◌then◌else◌, length, find, Option}
+use Rattle.std.specs.Prelude.{ℕ, zero, suc, ◌+◌, ◌==◌, Bool, false, not, ◌||◌}
+use Rattle.std.specs.Prelude.{nat_lt, if◌then◌else◌, length, find, Option}
 use Rattle.std.specs.List.{range_with_len}
 use Rattle.std.specs.Option.{option_map_or}
 use Rattle.quorum_sizes.specs.Sizes.{Counts}

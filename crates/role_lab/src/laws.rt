@@ -1,7 +1,8 @@
 //! What is true of scripts and of how they are written.
 
 ghost use Rattle.role_lab.specs.Spellings.{SizesAreRead, SizesAreSpelled, TakesAreRead, TakesAreSpelled};
-ghost use Rattle.role_lab.specs.OrderSpellings.{ClustersAreRead, ClustersAreSpelled, SetupsAreRead, SetupsAreSpelled, OrdersAreRead, OrdersAreSpelled};
+ghost use Rattle.role_lab.specs.OrderSpellings.{ClustersAreRead, ClustersAreSpelled, SetupsAreRead};
+ghost use Rattle.role_lab.specs.OrderSpellings.{SetupsAreSpelled, OrdersAreRead, OrdersAreSpelled};
 ghost use Rattle.role_lab.specs.Rests.{RestsIsRest};
 ghost use Rattle.role_lab.specs.Laws.{FlushLeavesNone};
 

@@ -11,7 +11,8 @@ ghost use Rattle.role_lab.specs.Grammar.{owner};
 ghost use Rattle.role_lab.specs.Labs.{lab_sizes};
 ghost use Rattle.role_lab.specs.Inside.{lab_in};
 ghost use Rattle.role_lab.specs.OrderTexts as texts;
-ghost use Rattle.role_lab.specs.Scripts.{Script, most_line_bytes, next, after_line, table_after, one_too_many, liars_after, after_setup, after_cluster_line, Unread, OfInstance, OfSetup};
+ghost use Rattle.role_lab.specs.Scripts.{Script, most_line_bytes, next, after_line, table_after, one_too_many};
+ghost use Rattle.role_lab.specs.Scripts.{liars_after, after_setup, after_cluster_line, Unread, OfInstance, OfSetup};
 ghost use Rattle.role_lab.specs.Stages.{Follows, Answers, StageAnswers};
 
 use crate::grammar::{sizes_of_line, take_of_line};

@@ -1,5 +1,6 @@
 -- The state after one more event.
-use Rattle.std.proofs.Common.{◌≡◌, ℕ, ◌+◌, ◌≤◌, Bool, true, false, List, [], ◌∷◌, ◌++◌, Result, Ok, Err, refl, sym, ap, ◌∙◌, subst, le_refl, arith}
+use Rattle.std.proofs.Common.{◌≡◌, ℕ, ◌+◌, ◌≤◌, Bool, true, false, List, [], ◌∷◌, ◌++◌}
+use Rattle.std.proofs.Common.{Result, Ok, Err, refl, sym, ap, ◌∙◌, subst, le_refl, arith}
 use Rattle.std.specs.Prelude.{if◌then◌else◌, nat_le, OnErr}
 use Rattle.std.proofs.lemmas.List.Elements.{All-nil, All-push}
 use Rattle.quorum_sizes.specs.Sizes.{Counts}
@@ -30,7 +31,9 @@ use Rattle.role_node.specs.declared.event.Event.TheVariants.{Issue, Take, Client
 use Rattle.role_node.specs.declared.faults.NodeFault.{NodeFault}
 use Rattle.role_node.specs.declared.faults.NodeFault.TheVariants as fault
 use Rattle.role_node.specs.declared.state.State.{State}
-use Rattle.role_node.proofs.Parts.{issued-Issue, issued-Take, issued-Client, packets-Issue, packets-Take, packets-Client, client_events-Issue, client_events-Take, client_events-Client, issued-none, packets-none, client_events-none}
+use Rattle.role_node.proofs.Parts.{issued-Issue, issued-Take, issued-Client, packets-Issue, packets-Take}
+use Rattle.role_node.proofs.Parts.{packets-Client, client_events-Issue, client_events-Take}
+use Rattle.role_node.proofs.Parts.{client_events-Client, issued-none, packets-none, client_events-none}
 use Rattle.role_node.proofs.Growing.{obeyed_none, obeyed_all, policy_same, stream_same}
 
 parts_same : {roles : Table} {commands commands' : List Command} {taken taken' : List PacketValue}

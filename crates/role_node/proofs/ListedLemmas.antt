@@ -1,5 +1,6 @@
 -- That the answer to a question is the one list that it is said to be.
-use Rattle.std.proofs.Common.{◌≡◌, ℕ, ◌^◌, ◌<◌, Bool, true, false, List, [], filter, Option, Some, None, is_some, refl, sym, ap, ◌∙◌}
+use Rattle.std.proofs.Common.{◌≡◌, ℕ, ◌^◌, ◌<◌, Bool, true, false, List, [], filter}
+use Rattle.std.proofs.Common.{Option, Some, None, is_some, refl, sym, ap, ◌∙◌}
 use Rattle.std.specs.Prelude.{IsTrue, IsSomeAnd, ◌↔◌, Contains}
 use Rattle.std.specs.FinMap as finite
 use Rattle.std.specs.FinMap.{is_sorted}
@@ -23,11 +24,14 @@ use Rattle.role_sessions.specs.Sessions.{Session, SessionState}
 use Rattle.role_sessions.specs.Decisions.{Relations, counted_roles, SessionMay}
 use Rattle.role_node.specs.Access.{relations_at, sessions_at, stream_at}
 use Rattle.role_node.specs.Questions.{IsAnswerUnder, SomeRoleMay}
-use Rattle.role_node.specs.Listed.{those_below, pairs_below, operations_where, permissions_where, roles_of, one_may, answer_under, IsWithin, HasOneAnswer}
+use Rattle.role_node.specs.Listed.{those_below, pairs_below, operations_where, permissions_where}
+use Rattle.role_node.specs.Listed.{roles_of, one_may, answer_under, IsWithin, HasOneAnswer}
 use Rattle.role_node.specs.declared.question.Answer.{Answer}
 use Rattle.role_node.specs.declared.question.Answer.TheVariants.{Verdict, Users, Roles, Permissions, Operations}
 use Rattle.role_node.specs.declared.question.Question.{Question}
-use Rattle.role_node.specs.declared.question.Question.TheVariants.{Check, AssignedUsers, AssignedRoles, RolePermissions, UserPermissions, RoleOperations, UserOperations, SessionRoles, SessionPermissions}
+use Rattle.role_node.specs.declared.question.Question.TheVariants.{Check, AssignedUsers, AssignedRoles}
+use Rattle.role_node.specs.declared.question.Question.TheVariants.{RolePermissions, UserPermissions, RoleOperations}
+use Rattle.role_node.specs.declared.question.Question.TheVariants.{UserOperations, SessionRoles, SessionPermissions}
 use Rattle.role_node.proofs.Ascending.{picked, those_members, those_sorted, keys_ascend, told}
 use Rattle.role_node.proofs.Pairs.{pairs_members, permissions_sorted}
 

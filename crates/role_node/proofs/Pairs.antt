@@ -7,11 +7,14 @@ use Rattle.std.specs.List.Sorted.{IsStrictlySortedBy}
 use Rattle.std.specs.Ordering.{nat_cmp, ordering_then}
 use Rattle.std.proofs.lemmas.Cmp.{nat_cmp_total, tied_itself}
 use Rattle.std.proofs.lemmas.List.{length-map, get_or-map}
-use Rattle.std.proofs.lemmas.List.Elements.{All-nil, All-map, All-append, All-weaker, All-contains, Contains-append_left, Contains-append_right, recursion_from_All, All-from_recursion}
+use Rattle.std.proofs.lemmas.List.Elements.{All-nil, All-map, All-append, All-weaker, All-contains}
+use Rattle.std.proofs.lemmas.List.Elements.{Contains-append_left, Contains-append_right}
+use Rattle.std.proofs.lemmas.List.Elements.{recursion_from_All, All-from_recursion}
 use Rattle.rbac_state.specs.Policies.{permission_cmp}
 use Rattle.rbac_state.proofs.Exported.{contains_head, contains_cases, contains_none}
 use Rattle.role_node.specs.Listed.{those_below, pairs_below}
-use Rattle.role_node.proofs.Ascending.{all_by_members, range_sorted, range_members, those_members, those_sorted, sorted_append}
+use Rattle.role_node.proofs.Ascending.{all_by_members, range_sorted, range_members}
+use Rattle.role_node.proofs.Ascending.{those_members, those_sorted, sorted_append}
 
 -- pairs of one number with each of these
 abbrev pairs_with : ℕ → List ℕ → List (ℕ × ℕ)

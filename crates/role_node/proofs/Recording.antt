@@ -23,7 +23,8 @@ use Rattle.role_node.specs.declared.faults.NodeFault.TheVariants as fault
 use Rattle.role_node.specs.declared.node.Node.TheInside.{Inside}
 use Rattle.role_node.specs.declared.state.State.{State}
 use Rattle.role_node.proofs.Parts.{client_events-length}
-use Rattle.role_node.proofs.Entries.{entries_push, events-push, events-length, counted_is_due, counted_is_recorded, counted_with_room}
+use Rattle.role_node.proofs.Entries.{entries_push, events-push, events-length}
+use Rattle.role_node.proofs.Entries.{counted_is_due, counted_is_recorded, counted_with_room}
 
 -- room that was made changes nothing of this
 pub inside_stays : {a b : Inside} → IsNode a → b.config ≡ a.config → b.me ≡ a.me → b.entries.items ≡ a.entries.items

@@ -1,5 +1,6 @@
 -- Want of memory is no refusal that is due.
-use Rattle.std.proofs.Common.{◌≡◌, ℕ, Bool, true, false, List, length, Option, Some, None, Result, Ok, Err, refl, ap, ◌∙◌}
+use Rattle.std.proofs.Common.{◌≡◌, ℕ, Bool, true, false, List, length, Option}
+use Rattle.std.proofs.Common.{Some, None, Result, Ok, Err, refl, ap, ◌∙◌}
 use Rattle.std.specs.Prelude.{if◌then◌else◌, nat_le, option_map}
 use Rattle.std.specs.FinMap as map
 use Rattle.role_commands.specs.Tables.{Table}
@@ -21,7 +22,8 @@ use Rattle.role_node.specs.Access.{relations_at, sessions_at}
 use Rattle.role_node.specs.Configs.{ConfigValue}
 use Rattle.role_node.specs.Faults.{of_session_fault}
 use Rattle.role_node.specs.Histories.{packets}
-use Rattle.role_node.specs.Answers.{outlook, outlook_with_room, take_outlook, act_fault, unless_full, or_counted, of_effect_due, is_routed, answer_due, answered, reply_to, IsAnswer}
+use Rattle.role_node.specs.Answers.{outlook, outlook_with_room, take_outlook, act_fault, unless_full, or_counted}
+use Rattle.role_node.specs.Answers.{of_effect_due, is_routed, answer_due, answered, reply_to, IsAnswer}
 use Rattle.role_node.specs.declared.event.Event.{Event}
 use Rattle.role_node.specs.declared.event.Event.TheVariants.{Issue, Take, Client}
 use Rattle.role_node.specs.declared.event.Reply.{Reply}

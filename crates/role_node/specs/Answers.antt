@@ -1,6 +1,7 @@
 -- The answer that is due to an event after a history: the first refusal of its kind that holds, that it is idle, or
 -- else its reply.
-use Rattle.std.specs.Prelude.{◌≡◌, ℕ, ◌+◌, ◌==◌, Bool, true, false, not, ◌&&◌, nat_le, nat_lt, if◌then◌else◌, IsTrue, List, length, take, slice_get, Option, Some, None, option_map, Result, Ok, Err}
+use Rattle.std.specs.Prelude.{◌≡◌, ℕ, ◌+◌, ◌==◌, Bool, true, false, not, ◌&&◌, nat_le, nat_lt, if◌then◌else◌, IsTrue}
+use Rattle.std.specs.Prelude.{List, length, take, slice_get, Option, Some, None, option_map, Result, Ok, Err}
 use Rattle.quorum_sizes.specs.Sizes.{Counts}
 use Rattle.role_commands.specs.Rules.{role_of}
 use Rattle.role_commands.specs.Tables.{Table}

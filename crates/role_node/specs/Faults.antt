@@ -7,7 +7,8 @@ use Rattle.role_sessions.specs.declared.faults.SessionFault.{SessionFault}
 use Rattle.role_sessions.specs.declared.faults.SessionFault.TheVariants as session
 use Rattle.role_sessions.specs.Refusals.{session_fault_text, end_fault_text}
 use Rattle.role_node.specs.declared.faults.NodeFault.{NodeFault}
-use Rattle.role_node.specs.declared.faults.NodeFault.TheVariants.{NotMine, StreamFull, Busy, Full, Misrouted, Beyond, Session, End, Memory}
+use Rattle.role_node.specs.declared.faults.NodeFault.TheVariants.{NotMine, StreamFull, Busy, Full}
+use Rattle.role_node.specs.declared.faults.NodeFault.TheVariants.{Misrouted, Beyond, Session, End, Memory}
 use Rattle.role_node.specs.declared.faults.AskFault.{AskFault}
 use Rattle.role_node.specs.declared.faults.AskFault.TheVariants as ask
 

@@ -1,5 +1,6 @@
 -- What a node keeps beside its history, and how it follows from it. Serves the code, and no public contract.
-use Rattle.std.specs.Prelude.{◌≡◌, ℕ, ◌==◌, ◌<◌, ◌≤◌, if◌then◌else◌, IsTrue, List, [], ◌∷◌, ◌++◌, map, take, slice_get, Some, Result, Ok, IfErr, vec_len}
+use Rattle.std.specs.Prelude.{◌≡◌, ℕ, ◌==◌, ◌<◌, ◌≤◌, if◌then◌else◌, IsTrue, List, [], ◌∷◌}
+use Rattle.std.specs.Prelude.{◌++◌, map, take, slice_get, Some, Result, Ok, IfErr, vec_len}
 use Rattle.quorum_sizes.specs.Sizes.{Counts}
 use Rattle.role_commands.specs.Tables.{Table}
 use Rattle.role_commands.specs.declared.command.Command.{Command}

@@ -13,7 +13,9 @@ use Rattle.role_node.specs.declared.event.Event.{Event}
 use Rattle.role_node.specs.declared.question.Answer.{Answer}
 use Rattle.role_node.specs.declared.question.Answer.TheVariants.{Verdict, Users, Roles, Permissions, Operations}
 use Rattle.role_node.specs.declared.question.Question.{Question}
-use Rattle.role_node.specs.declared.question.Question.TheVariants.{Check, AssignedUsers, AssignedRoles, RolePermissions, UserPermissions, RoleOperations, UserOperations, SessionRoles, SessionPermissions}
+use Rattle.role_node.specs.declared.question.Question.TheVariants.{Check, AssignedUsers, AssignedRoles}
+use Rattle.role_node.specs.declared.question.Question.TheVariants.{RolePermissions, UserPermissions, RoleOperations}
+use Rattle.role_node.specs.declared.question.Question.TheVariants.{UserOperations, SessionRoles, SessionPermissions}
 
 -- the numbers below `end` of which this holds, in ascending order
 unfoldable pub those_below : ℕ → (ℕ → Bool) → List ℕ

@@ -1,6 +1,7 @@
 -- The answers to questions: a decision, or the listing of a set. Under the relations and the sessions of a node, and so
 -- after a history.
-use Rattle.std.specs.Prelude.{◌≡◌, ℕ, Bool, true, false, if◌then◌else◌, IsTrue, IsSomeAnd, List, Option, Some, None, Result, Ok, Err}
+use Rattle.std.specs.Prelude.{◌≡◌, ℕ, Bool, true, false, if◌then◌else◌, IsTrue}
+use Rattle.std.specs.Prelude.{IsSomeAnd, List, Option, Some, None, Result, Ok, Err}
 use Rattle.std.specs.FinMap as map
 use Rattle.std.specs.Ordering.{nat_cmp}
 use Rattle.role_commands.specs.Tables.{Table}
@@ -18,7 +19,9 @@ use Rattle.role_node.specs.declared.faults.AskFault.TheVariants as ask
 use Rattle.role_node.specs.declared.question.Answer.{Answer}
 use Rattle.role_node.specs.declared.question.Answer.TheVariants.{Verdict, Users, Roles, Permissions, Operations}
 use Rattle.role_node.specs.declared.question.Question.{Question}
-use Rattle.role_node.specs.declared.question.Question.TheVariants.{Check, AssignedUsers, AssignedRoles, RolePermissions, UserPermissions, RoleOperations, UserOperations, SessionRoles, SessionPermissions}
+use Rattle.role_node.specs.declared.question.Question.TheVariants.{Check, AssignedUsers, AssignedRoles}
+use Rattle.role_node.specs.declared.question.Question.TheVariants.{RolePermissions, UserPermissions, RoleOperations}
+use Rattle.role_node.specs.declared.question.Question.TheVariants.{UserOperations, SessionRoles, SessionPermissions}
 
 -- the answer is a decision, of which this holds
 abbrev pub IsVerdict : Answer → (verdicts.Verdict → Type 0) → Type 0

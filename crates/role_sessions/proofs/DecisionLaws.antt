@@ -1,5 +1,7 @@
 -- The laws of the decision on an access, and of the relations that it goes by.
-use Rattle.std.proofs.Common.{◌≡◌, ℕ, ◌<◌, Bool, true, false, cond, not, ◌&&◌, ◌==◌, if◌then◌else◌, ◌⊎◌, List, [], ◌∷◌, find, length, Option, Some, None, unwrap_or, Contains, refl, sym, ap, subst, ◌∙◌, inl, inr, eq-eqb, eqb-true, arith}
+use Rattle.std.proofs.Common.{◌≡◌, ℕ, ◌<◌, Bool, true, false, cond, not, ◌&&◌, ◌==◌, if◌then◌else◌}
+use Rattle.std.proofs.Common.{◌⊎◌, List, [], ◌∷◌, find, length, Option, Some, None, unwrap_or}
+use Rattle.std.proofs.Common.{Contains, refl, sym, ap, subst, ◌∙◌, inl, inr, eq-eqb, eqb-true, arith}
 use Rattle.std.proofs.lemmas.Bool.{true≢false, and_parts}
 use Rattle.std.proofs.lemmas.List.Elements.{filter_agree, Contains-append_right}
 use Rattle.std.specs.FinSet as set
@@ -10,7 +12,8 @@ use Rattle.role_sessions.specs.declared.verdict.Rule.{Rule}
 use Rattle.role_sessions.specs.declared.verdict.Rule.TheVariants.{NotYours, NoActiveRole, NoneAssigned}
 use Rattle.role_sessions.specs.declared.verdict.Verdict.TheVariants.{Allow, Deny}
 use Rattle.role_sessions.specs.Decisions.{relations_of, counted_roles, allowed}
-use Rattle.role_sessions.specs.Laws.{AllowedInARole, DeniedForWantOfARole, CountedAreAssigned, DeassignedCountsNoMore, ReassignedCountsAgain, RelationsStay}
+use Rattle.role_sessions.specs.Laws.{AllowedInARole, DeniedForWantOfARole, CountedAreAssigned}
+use Rattle.role_sessions.specs.Laws.{DeassignedCountsNoMore, ReassignedCountsAgain, RelationsStay}
 
 not_empty : (xs : List ℕ) (x : ℕ) → Contains xs x → (length xs == 0) ≡ true → ⊥
 not_empty xs x h none =

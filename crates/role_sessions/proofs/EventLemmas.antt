@@ -1,5 +1,7 @@
 -- How one more event at the end changes what the list of events says of a session.
-use Rattle.std.proofs.Common.{◌≡◌, ◌≢◌, ℕ, ◌+◌, ◌-◌, ◌<◌, Bool, true, false, cond, not, ◌&&◌, ◌||◌, ◌==◌, if◌then◌else◌, ◌⊎◌, List, [], ◌∷◌, ◌++◌, filter, Option, Some, None, refl, sym, ap, ◌∙◌, inl, inr, zero-add, add_comm, arith, append-nil}
+use Rattle.std.proofs.Common.{◌≡◌, ◌≢◌, ℕ, ◌+◌, ◌-◌, ◌<◌, Bool, true, false, cond, not, ◌&&◌, ◌||◌}
+use Rattle.std.proofs.Common.{◌==◌, if◌then◌else◌, ◌⊎◌, List, [], ◌∷◌, ◌++◌, filter, Option, Some, None}
+use Rattle.std.proofs.Common.{refl, sym, ap, ◌∙◌, inl, inr, zero-add, add_comm, arith, append-nil}
 use Rattle.std.proofs.lemmas.List.Sums.{sum_by-append, sum_by-cons}
 use Rattle.std.proofs.lemmas.Bool.{cases_Bool}
 use Rattle.std.proofs.lemmas.Bool.Decides.{eqb_tells, nat_tests}
@@ -8,7 +10,8 @@ use Rattle.std.specs.List.{list_any, sum_by}
 use Rattle.std.specs.Option.{option_map, option_and_then}
 use Rattle.role_sessions.specs.declared.event.ClientEvent.{ClientEvent}
 use Rattle.role_sessions.specs.declared.event.ClientEvent.TheVariants.{Open, Activate, DropRole, Close}
-use Rattle.role_sessions.specs.Sessions.{Session, Life, is_opening, is_closing, is_about, opened_count, life_of, active_roles, while_open, session_in}
+use Rattle.role_sessions.specs.Sessions.{Session, Life, is_opening, is_closing, is_about}
+use Rattle.role_sessions.specs.Sessions.{opened_count, life_of, active_roles, while_open, session_in}
 use Rattle.role_sessions.specs.Changes.{with_role, without_role}
 
 -- the life with one more event

@@ -1,5 +1,7 @@
 -- The laws of the sessions' ids.
-use Rattle.std.proofs.Common.{◌≡◌, ℕ, zero, suc, ◌+◌, ◌≤◌, ◌<◌, Bool, true, false, ◌==◌, if◌then◌else◌, ◌⊎◌, List, [], ◌∷◌, ◌++◌, length, Option, Some, None, refl, sym, ap, ◌∙◌, inl, inr, append_assoc, append-nil, arith}
+use Rattle.std.proofs.Common.{◌≡◌, ℕ, zero, suc, ◌+◌, ◌≤◌, ◌<◌, Bool, true, false, ◌==◌}
+use Rattle.std.proofs.Common.{if◌then◌else◌, ◌⊎◌, List, [], ◌∷◌, ◌++◌, length, Option, Some, None}
+use Rattle.std.proofs.Common.{refl, sym, ap, ◌∙◌, inl, inr, append_assoc, append-nil, arith}
 use Rattle.std.proofs.lemmas.Bool.{cases_lt}
 use Rattle.std.proofs.lemmas.Bool.Decides.{nat_tests}
 use Rattle.std.proofs.lemmas.List.Sums.{count_by-le-length}
@@ -9,7 +11,9 @@ use Rattle.role_sessions.specs.declared.event.ClientEvent.TheVariants.{Open, Act
 use Rattle.role_sessions.specs.Sessions.{Session, opened_count, is_opening, session_in}
 use Rattle.role_sessions.specs.Laws.{StateCountsTheOpened, IdsAreGivenInOrder, ClosedStayClosed}
 use Rattle.role_sessions.proofs.StateLemmas.{opened-state_of}
-use Rattle.role_sessions.proofs.EventLemmas.{opened_count-push, session_in-opened, session_in-closed, session_in-activated, session_in-dropped, session_in-beyond, session_in-zero}
+use Rattle.role_sessions.proofs.EventLemmas.{opened_count-push, session_in-opened}
+use Rattle.role_sessions.proofs.EventLemmas.{session_in-closed, session_in-activated}
+use Rattle.role_sessions.proofs.EventLemmas.{session_in-dropped, session_in-beyond, session_in-zero}
 
 opened_within : (events : List ClientEvent) → opened_count events ≤ length events
 unfolding opened_count

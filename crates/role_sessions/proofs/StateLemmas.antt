@@ -1,5 +1,7 @@
 -- How one more event at the end changes the state.
-use Rattle.std.proofs.Common.{◌≡◌, ◌≢◌, ℕ, zero, suc, ◌+◌, ◌<◌, ◌≤◌, Bool, true, false, not, ◌||◌, ◌==◌, if◌then◌else◌, ◌⊎◌, nat_le, length, List, [], ◌∷◌, ◌++◌, filter, Option, Some, None, refl, sym, ap, ◌∙◌, inl, inr, arith}
+use Rattle.std.proofs.Common.{◌≡◌, ◌≢◌, ℕ, zero, suc, ◌+◌, ◌<◌, ◌≤◌, Bool, true, false, not, ◌||◌}
+use Rattle.std.proofs.Common.{◌==◌, if◌then◌else◌, ◌⊎◌, nat_le, length, List, [], ◌∷◌, ◌++◌}
+use Rattle.std.proofs.Common.{filter, Option, Some, None, refl, sym, ap, ◌∙◌, inl, inr, arith}
 use Rattle.std.proofs.lemmas.Bool.Decides.{eqb_tells, nat_tests}
 use Rattle.std.specs.Cmp.{nat_cmp_total, unsigned_tied}
 use Rattle.std.specs.FinMap as map
@@ -15,7 +17,9 @@ use Rattle.role_sessions.specs.declared.faults.SessionFault.TheVariants as sessi
 use Rattle.role_sessions.specs.Decisions.{Relations}
 use Rattle.role_sessions.specs.Refusals.{most_active_roles, activate_in, activate_due}
 use Rattle.role_sessions.specs.Changes.{with_role, without_role, changed_at}
-use Rattle.role_sessions.proofs.EventLemmas.{opened_count-push, session_in-opened, session_in-closed, session_in-activated, session_in-dropped, session_in-beyond, session_in-zero}
+use Rattle.role_sessions.proofs.EventLemmas.{opened_count-push, session_in-opened}
+use Rattle.role_sessions.proofs.EventLemmas.{session_in-closed, session_in-activated}
+use Rattle.role_sessions.proofs.EventLemmas.{session_in-dropped, session_in-beyond, session_in-zero}
 
 -- the entries of a function of the ids
 abbrev entries_of : (ℕ → Option Session) → List ℕ → List (ℕ × Session)

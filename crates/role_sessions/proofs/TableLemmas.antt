@@ -1,8 +1,12 @@
 -- The code's table of open sessions: what it says of each, and the answers that are kept in it.
-use Rattle.std.proofs.Common.{◌≡◌, ℕ, suc, ◌+◌, ◌<◌, ◌≤◌, min, Bool, true, false, cond, ◌==◌, if◌then◌else◌, ◌⊎◌, nat_eq, List, [], ◌∷◌, ◌++◌, map, filter, length, All, Contains, Option, Some, None, is_some, Result, Ok, Err, OnErr, refl, sym, ap, subst, ◌∙◌, inl, inr, eqb-true, eq-eqb, arith}
+use Rattle.std.proofs.Common.{◌≡◌, ℕ, suc, ◌+◌, ◌<◌, ◌≤◌, min, Bool, true, false, cond, ◌==◌}
+use Rattle.std.proofs.Common.{if◌then◌else◌, ◌⊎◌, nat_eq, List, [], ◌∷◌, ◌++◌, map, filter}
+use Rattle.std.proofs.Common.{length, All, Contains, Option, Some, None, is_some, Result, Ok, Err}
+use Rattle.std.proofs.Common.{OnErr, refl, sym, ap, subst, ◌∙◌, inl, inr, eqb-true, eq-eqb, arith}
 use Rattle.std.proofs.lemmas.Bool.{true≢false}
 use Rattle.std.proofs.lemmas.Bool.Decides.{nat_tests}
-use Rattle.std.proofs.lemmas.List.Elements.{All-nil, All-cons, All-head, All-tail, All-append, All-weaker, All-contains, All-contains_itself, Contains-append_left, Contains-append_right}
+use Rattle.std.proofs.lemmas.List.Elements.{All-nil, All-cons, All-head, All-tail, All-append, All-weaker, All-contains}
+use Rattle.std.proofs.lemmas.List.Elements.{All-contains_itself, Contains-append_left, Contains-append_right}
 use Rattle.std.specs.FinMap as finite
 use Rattle.std.specs.List.{flat_map}
 use Rattle.std.proofs.lemmas.Map.Steps.{set_value_same}
@@ -13,8 +17,11 @@ use Rattle.role_sessions.specs.declared.open_session.OpenSession.{OpenSession}
 use Rattle.role_sessions.specs.Sessions.{Session}
 use Rattle.role_sessions.specs.Decisions.{Relations, verdict}
 use Rattle.role_sessions.specs.Kept.{KeptAnswer, KeptAreRight, KeepsRight}
-use Rattle.role_sessions.specs.Remembered.{last_generation, IsNothing, IsRightFor, IsPast, RemembersNothing, RemembersRight, IsOfThePast, kept_in, Entries, sessions_in, kept_by, OpenValue, open_value, as_sessions, IsTable}
-use Rattle.role_sessions.proofs.OpenLemmas.{map_of, get-map_of, Gives, IsLong-none, IsLong-insert, IsLong-remove, IsLong-written}
+use Rattle.role_sessions.specs.Remembered.{last_generation, IsNothing, IsRightFor, IsPast, RemembersNothing}
+use Rattle.role_sessions.specs.Remembered.{RemembersRight, IsOfThePast, kept_in, Entries, sessions_in}
+use Rattle.role_sessions.specs.Remembered.{kept_by, OpenValue, open_value, as_sessions, IsTable}
+use Rattle.role_sessions.proofs.OpenLemmas.{map_of, get-map_of, Gives, IsLong-none}
+use Rattle.role_sessions.proofs.OpenLemmas.{IsLong-insert, IsLong-remove, IsLong-written}
 
 -- ---- lists
 

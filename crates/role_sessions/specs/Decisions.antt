@@ -1,8 +1,10 @@
 -- Which of a session's roles count, and the decision on an access (CheckAccess of ANSI INCITS 359-2004).
-use Rattle.std.specs.Prelude.{ℕ, Bool, ◌==◌, not, if◌then◌else◌, List, length, filter, find, codes, Contains, IsTrue, Option, Some, None}
+use Rattle.std.specs.Prelude.{ℕ, Bool, ◌==◌, not, if◌then◌else◌, List, length, filter}
+use Rattle.std.specs.Prelude.{find, codes, Contains, IsTrue, Option, Some, None}
 use Rattle.rbac_state.specs.Policies.{PolicyValue, assigned_in, granted_in}
 use Rattle.role_sessions.specs.declared.verdict.Rule.{Rule}
-use Rattle.role_sessions.specs.declared.verdict.Rule.TheVariants.{NoSession, NotYours, NoActiveRole, NoneAssigned, NotPermitted}
+use Rattle.role_sessions.specs.declared.verdict.Rule.TheVariants.{NoSession, NotYours, NoActiveRole}
+use Rattle.role_sessions.specs.declared.verdict.Rule.TheVariants.{NoneAssigned, NotPermitted}
 use Rattle.role_sessions.specs.declared.verdict.Verdict.{Verdict}
 use Rattle.role_sessions.specs.declared.verdict.Verdict.TheVariants.{Allow, Deny}
 use Rattle.role_sessions.specs.Sessions.{Session}

@@ -1,5 +1,6 @@
 -- The sessions of Core RBAC (ANSI INCITS 359-2004), read off the list of what the clients did, oldest first.
-use Rattle.std.specs.Prelude.{◌≡◌, ℕ, ◌-◌, Bool, true, false, ◌==◌, ◌&&◌, not, if◌then◌else◌, List, [], ◌∷◌, ◌++◌, count_by, Option, Some, None, option_and_then}
+use Rattle.std.specs.Prelude.{◌≡◌, ℕ, ◌-◌, Bool, true, false, ◌==◌, ◌&&◌, not, if◌then◌else◌}
+use Rattle.std.specs.Prelude.{List, [], ◌∷◌, ◌++◌, count_by, Option, Some, None, option_and_then}
 use Rattle.std.specs.FinMap as map
 use Rattle.std.specs.List.{filter_map, list_any, range_with_len}
 use Rattle.std.specs.Option.{option_map}

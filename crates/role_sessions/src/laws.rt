@@ -1,6 +1,8 @@
 //! What the decision and the sessions mean.
 
-ghost use Rattle.role_sessions.specs.Laws.{AllowedInARole, DeniedForWantOfARole, CountedAreAssigned, DeassignedCountsNoMore, ReassignedCountsAgain, RelationsStay, StateHasTheOpen, StateCountsTheOpened, IdsAreGivenInOrder, ClosedStayClosed};
+ghost use Rattle.role_sessions.specs.Laws.{AllowedInARole, DeniedForWantOfARole, CountedAreAssigned};
+ghost use Rattle.role_sessions.specs.Laws.{DeassignedCountsNoMore, ReassignedCountsAgain, RelationsStay};
+ghost use Rattle.role_sessions.specs.Laws.{StateHasTheOpen, StateCountsTheOpened, IdsAreGivenInOrder, ClosedStayClosed};
 
 /// An access is allowed exactly where some role that is active in the user's open session is assigned
 /// to the user and has the permission.

@@ -5,7 +5,8 @@ ghost use Rattle.rbac_state.specs.Listings.{IsListing};
 ghost use Rattle.role_sessions.specs.declared.event.ClientEvent.TheVariants.{Open, Activate, DropRole, Close};
 ghost use Rattle.role_sessions.specs.Sessions.{state_of, Happened};
 ghost use Rattle.role_sessions.specs.Decisions.{relations_of, counted_roles, SessionMay, verdict};
-ghost use Rattle.role_sessions.specs.Refusals.{open_due, activate_due, drop_due, close_due, listing_due, AnswersExactly, AnswersDue};
+ghost use Rattle.role_sessions.specs.Refusals.{open_due, activate_due, drop_due, close_due};
+ghost use Rattle.role_sessions.specs.Refusals.{listing_due, AnswersExactly, AnswersDue};
 ghost use Rattle.role_sessions.specs.Kept.{KeptAreRight, KeepsRight};
 
 use crate::faults::{EndFault, SessionFault};

@@ -1,7 +1,8 @@
 use Rattle.std.proofs.Common.{◌≡◌, false, [], ◌∷◌, ◌++◌, length, position, sym, ap, ◌∙◌, subst, arith}
 use Rattle.std.specs.List.{list_any}
 use Rattle.bracha_instance.specs.Tallies.{is_tally_of, IsFirst}
-use Rattle.bracha_instance.proofs.TallyLemmas.{fresh, IsFirst-position, none-position, IsFirst-new, with_tally-found, with_tally-new}
+use Rattle.bracha_instance.proofs.TallyLemmas.{fresh, IsFirst-position, none-position}
+use Rattle.bracha_instance.proofs.TallyLemmas.{IsFirst-new, with_tally-found, with_tally-new}
 use Rattle.bracha_instance.proofs.tallies.tally_of.Goals as goal
 
 pub returns-in-Some-clause-place : goal.returns-in-Some-clause-place

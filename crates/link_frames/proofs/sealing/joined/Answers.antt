@@ -1,4 +1,5 @@
-use Rattle.std.proofs.Common.{◌≡◌, ℕ, List, [], ◌++◌, length, take, drop, arith, refl, ap, ◌∙◌, take_at, drop_at, append-nil}
+use Rattle.std.proofs.Common.{◌≡◌, ℕ, List, [], ◌++◌, length, take, drop, arith}
+use Rattle.std.proofs.Common.{refl, ap, ◌∙◌, take_at, drop_at, append-nil}
 use Rattle.std.proofs.Math.ListN.{drop_of_length-le}
 use borrow.Rule.Slice.PartMut.{put_mid}
 use Rattle.link_frames.proofs.sealing.joined.Goals as goal

@@ -5,7 +5,8 @@ use Rattle.std.proofs.lemmas.List.{length-map}
 use Rattle.node_lock.specs.Walks.{receipts_of}
 use Rattle.node_lock.specs.declared.receipt.Receipt.{Receipt}
 use Rattle.node_lock.proofs.Places.{above_from, drop_receipts, all_more, now_at}
-use Rattle.node_lock.proofs.audits.split_at_place.Goals.{else-loop-receipt-test, then-loop-receipt-test+then-receipt-place}
+use Rattle.node_lock.proofs.audits.split_at_place.Goals.{else-loop-receipt-test}
+use Rattle.node_lock.proofs.audits.split_at_place.Goals.{then-loop-receipt-test+then-receipt-place}
 use Rattle.node_lock.proofs.audits.split_at_place.Goals as goal
 
 pub loop-receipt-preserved : goal.loop-receipt-preserved

@@ -1,7 +1,8 @@
 use Rattle.std.proofs.Common.{arith, inl, inr, ◌∙◌, None, sym, subst}
 use Rattle.std.proofs.lemmas.Result.{err_from_is_err_and}
 use Rattle.link_frames.proofs.Exported.{Ran-moved, WentOn-nothing, WentOn-trans, CallFailed-later, ReaderFailed-later}
-use Rattle.role_daemon.proofs.RunLemmas.{Lines-start, Ran-more, Lines-front, Lines-kept, Lines-end, Lines-out, Lines-endless, LinesRan-fault, finish_device}
+use Rattle.role_daemon.proofs.RunLemmas.{Lines-start, Ran-more, Lines-front, Lines-kept, Lines-end}
+use Rattle.role_daemon.proofs.RunLemmas.{Lines-out, Lines-endless, LinesRan-fault, finish_device}
 use Rattle.role_daemon.proofs.pipe.answer_lines.Goals as goal
 
 pub loop-number-init : goal.loop-number-init

@@ -1,6 +1,7 @@
 use Rattle.std.proofs.Common.{None}
 use Rattle.std.proofs.lemmas.Result.{err_from_is_err_and}
-use Rattle.role_daemon.proofs.OpenLemmas.{opened-line, opened-refused_line, opened-last, opened-refused_last, opened-end, opened-too_long, opened-fault}
+use Rattle.role_daemon.proofs.OpenLemmas.{opened-line, opened-refused_line, opened-last}
+use Rattle.role_daemon.proofs.OpenLemmas.{opened-refused_last, opened-end, opened-too_long, opened-fault}
 use Rattle.role_daemon.proofs.pipe.open.Goals as goal
 
 pub returns-in_err-peek-clause-opened : goal.returns-in_err-peek-clause-opened

@@ -1,4 +1,5 @@
-use Rattle.role_lab.proofs.Spelled.{sizes_of_line-spelling, sizes_of_line_spelled, take_of_line-spelling, take_of_line_spelled}
+use Rattle.role_lab.proofs.Spelled.{sizes_of_line-spelling, sizes_of_line_spelled}
+use Rattle.role_lab.proofs.Spelled.{take_of_line-spelling, take_of_line_spelled}
 use Rattle.role_lab.proofs.laws.one_spelling.Goals as goal
 
 pub returns-clause-sizes_read : goal.returns-clause-sizes_read

@@ -1,5 +1,6 @@
 use Rattle.role_lab.proofs.SpelledOrders.{order_of_line-spelling, order_of_line_spelled}
-use Rattle.role_lab.proofs.SpelledSetups.{cluster_of_line-spelling, cluster_of_line_spelled, setup_of_line-spelling, setup_of_line_spelled}
+use Rattle.role_lab.proofs.SpelledSetups.{cluster_of_line-spelling, cluster_of_line_spelled}
+use Rattle.role_lab.proofs.SpelledSetups.{setup_of_line-spelling, setup_of_line_spelled}
 use Rattle.role_lab.proofs.laws.one_spelling_of_orders.Goals as goal
 
 pub returns-clause-clusters_read : goal.returns-clause-clusters_read

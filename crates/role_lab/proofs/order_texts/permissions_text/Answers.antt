@@ -1,4 +1,5 @@
-use Rattle.std.proofs.Common.{◌≡◌, ◌∙◌, ℕ, ◌<◌, ◌^◌, List, ◌∷◌, ap, ◌++◌, append_assoc, codes, get_or, string_bytes, arith}
+use Rattle.std.proofs.Common.{◌≡◌, ◌∙◌, ℕ, ◌<◌, ◌^◌, List, ◌∷◌, ap, ◌++◌}
+use Rattle.std.proofs.Common.{append_assoc, codes, get_or, string_bytes, arith}
 use Rattle.std.specs.Fmt.{decimal}
 use Rattle.role_lab.specs.OrderTexts.{permissions_text}
 use Rattle.role_lab.proofs.Wording.{written_more, each_within}

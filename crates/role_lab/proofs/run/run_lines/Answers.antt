@@ -1,7 +1,9 @@
 use Rattle.std.proofs.Common.{arith, inl, inr, None}
 use Rattle.std.proofs.lemmas.Result.{err_from_is_err_and}
-use Rattle.link_frames.proofs.Exported.{Ended-front, WentOn-trans, CallFailed-later, ReaderFailed-later, AppendsFront-whole}
-use Rattle.role_lab.proofs.ScriptRunning.{run_starts, run_moves, run_goes_on, run_breaks, run_stops, run_is_endless, ends_bad, ends_good, ends_ahead, ahead_device}
+use Rattle.link_frames.proofs.Exported.{Ended-front, WentOn-trans, CallFailed-later}
+use Rattle.link_frames.proofs.Exported.{ReaderFailed-later, AppendsFront-whole}
+use Rattle.role_lab.proofs.ScriptRunning.{run_starts, run_moves, run_goes_on, run_breaks, run_stops}
+use Rattle.role_lab.proofs.ScriptRunning.{run_is_endless, ends_bad, ends_good, ends_ahead, ahead_device}
 use Rattle.role_lab.proofs.run.run_lines.Goals as goal
 
 pub loop-number-init : goal.loop-number-init

@@ -1,5 +1,6 @@
 use Rattle.std.proofs.Common.{ℕ, List, Some, sym, subst}
-use Rattle.link_frames.proofs.Exported.{Ended, Ran-kept, Ran-line, Ran-end, Ran-last, Ran-bad_line, Ran-bad_last, Ran-too_long}
+use Rattle.link_frames.proofs.Exported.{Ended, Ran-kept, Ran-line, Ran-end, Ran-last}
+use Rattle.link_frames.proofs.Exported.{Ran-bad_line, Ran-bad_last, Ran-too_long}
 use Rattle.role_lab.specs.Scripts.{Unread, next, most_line_bytes}
 use Rattle.role_lab.proofs.Answering.{next-long}
 use Rattle.role_lab.proofs.ScriptRunning.{Holds-bad, Holds-good}

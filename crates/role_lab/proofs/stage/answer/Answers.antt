@@ -11,7 +11,8 @@ use Rattle.role_lab.specs.Orders.{setup_of_line}
 use Rattle.role_lab.specs.Scripts.{after_cluster_line}
 use Rattle.role_lab.specs.Stages.{Answers}
 use Rattle.role_lab.specs.declared.stage.Stage.TheVariants.{Living}
-use Rattle.role_lab.proofs.Answering.{setting_follows, cluster_follows, setup_line-good, setup_ends, cluster_goes_on, next-short, no_text-bad, start-bad, start-good, running}
+use Rattle.role_lab.proofs.Answering.{setting_follows, cluster_follows, setup_line-good, setup_ends}
+use Rattle.role_lab.proofs.Answering.{cluster_goes_on, next-short, no_text-bad, start-bad, start-good, running}
 use Rattle.role_lab.proofs.stage.answer.Goals as goal
 
 pub returns-in_default : goal.returns-in_default

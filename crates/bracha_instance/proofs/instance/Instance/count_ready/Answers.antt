@@ -2,7 +2,8 @@ use Rattle.std.proofs.Common.{sym, ap, ◌∙◌}
 use Rattle.link_frames.specs.declared.kind.Kind.TheVariants.{Ready}
 use Rattle.bracha_instance.specs.Taking.{has_voted}
 use Rattle.bracha_instance.specs.Next.{after_ready}
-use Rattle.bracha_instance.proofs.KeptInstances.{free_ready, ready_kept, ready_by_support, deliver_by_support, ready_early, deliver_early}
+use Rattle.bracha_instance.proofs.KeptInstances.{free_ready, ready_kept, ready_by_support}
+use Rattle.bracha_instance.proofs.KeptInstances.{deliver_by_support, ready_early, deliver_early}
 use Rattle.bracha_instance.proofs.instance.Instance.count_ready.Goals as goal
 
 pub count_ready-requires : goal.count_ready-requires

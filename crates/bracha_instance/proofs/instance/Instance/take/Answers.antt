@@ -1,7 +1,8 @@
 use Rattle.std.proofs.Common.{◌≡◌, true, false, Result, Ok, Err, sym, ◌∙◌}
 use Rattle.std.specs.Prelude.{OnErr}
 use Rattle.bracha_instance.specs.Taking.{newly, sent_for, has_voted}
-use Rattle.bracha_instance.proofs.Counting.{idle_state, counted_state, effect_at, sent_of, delivered_of, nothing_sent, nothing_delivered}
+use Rattle.bracha_instance.proofs.Counting.{idle_state, counted_state, effect_at, sent_of}
+use Rattle.bracha_instance.proofs.Counting.{delivered_of, nothing_sent, nothing_delivered}
 use Rattle.bracha_instance.proofs.instance.Instance.take.Goals as goal
 
 -- A message that was taken before.

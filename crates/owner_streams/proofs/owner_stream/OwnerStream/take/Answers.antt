@@ -6,7 +6,8 @@ use Rattle.owner_streams.specs.Places.{window, take_of, takes_at}
 use Rattle.owner_streams.specs.Slots.{state_in, delivered_in}
 use Rattle.owner_streams.proofs.Reaching.{reach_of_run, reach_within}
 use Rattle.owner_streams.proofs.Keeping.{states_push, still_run, still_ends, same_states, at_each, still_kept}
-use Rattle.owner_streams.proofs.Stepping.{due_within, step_is, idle_step_is, look_within, look_idle, voted_changes_nothing, effect_is, counts}
+use Rattle.owner_streams.proofs.Stepping.{due_within, step_is, idle_step_is, look_within}
+use Rattle.owner_streams.proofs.Stepping.{look_idle, voted_changes_nothing, effect_is, counts}
 use Rattle.owner_streams.proofs.owner_stream.OwnerStream.take.Goals as goal
 
 pub reach-from-requires : goal.reach-from-requires

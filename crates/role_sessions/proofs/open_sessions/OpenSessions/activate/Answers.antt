@@ -3,7 +3,9 @@ use Rattle.role_sessions.specs.Changes.{with_role}
 use Rattle.role_sessions.specs.Kept.{KeepsRight}
 use Rattle.role_sessions.specs.Remembered.{RemembersNothing, sessions_in, open_value, as_sessions, IsTable}
 use Rattle.role_sessions.proofs.OpenLemmas.{map_of-written, map_of-absent}
-use Rattle.role_sessions.proofs.TableLemmas.{the_one, gives-sessions_in, here-sessions_in, absent-sessions_in, table-written, keeps_given, keeps_same, same_value, nothing_is_past, written_back, on_err}
+use Rattle.role_sessions.proofs.TableLemmas.{the_one, gives-sessions_in, here-sessions_in}
+use Rattle.role_sessions.proofs.TableLemmas.{absent-sessions_in, table-written, keeps_given, keeps_same}
+use Rattle.role_sessions.proofs.TableLemmas.{same_value, nothing_is_past, written_back, on_err}
 use Rattle.role_sessions.proofs.open_sessions.OpenSessions.activate.Goals as goal
 
 pub returns-in_default-clause-ok : goal.returns-in_default-clause-ok

@@ -4,7 +4,8 @@ use Rattle.role_sessions.specs.Decisions.{relations_of, verdict}
 use Rattle.role_sessions.specs.Kept.{KeptAreRight}
 use Rattle.role_sessions.specs.Remembered.{RemembersRight, sessions_in, open_value, as_sessions}
 use Rattle.role_sessions.proofs.OpenLemmas.{get-map_of, map_of-again}
-use Rattle.role_sessions.proofs.TableLemmas.{AllOf-given, the_one, gives-sessions_in, here-sessions_in, absent-sessions_in, table-written, kept_at, kept_from}
+use Rattle.role_sessions.proofs.TableLemmas.{AllOf-given, the_one, gives-sessions_in, here-sessions_in}
+use Rattle.role_sessions.proofs.TableLemmas.{absent-sessions_in, table-written, kept_at, kept_from}
 use Rattle.role_sessions.proofs.open_sessions.OpenSessions.check.Goals as goal
 
 pub check-requires : goal.check-requires

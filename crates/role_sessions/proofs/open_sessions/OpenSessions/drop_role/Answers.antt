@@ -3,7 +3,8 @@ use Rattle.role_sessions.specs.Changes.{without_role}
 use Rattle.role_sessions.specs.Kept.{KeepsRight}
 use Rattle.role_sessions.specs.Remembered.{RemembersNothing, sessions_in, open_value, as_sessions}
 use Rattle.role_sessions.proofs.OpenLemmas.{map_of-written, map_of-absent}
-use Rattle.role_sessions.proofs.TableLemmas.{the_one, gives-sessions_in, here-sessions_in, absent-sessions_in, table-written, keeps_given, keeps_same, same_value, nothing_is_past}
+use Rattle.role_sessions.proofs.TableLemmas.{the_one, gives-sessions_in, here-sessions_in, absent-sessions_in}
+use Rattle.role_sessions.proofs.TableLemmas.{table-written, keeps_given, keeps_same, same_value, nothing_is_past}
 use Rattle.role_sessions.proofs.open_sessions.OpenSessions.drop_role.Goals as goal
 
 pub returns-in_default-clause-sessions : goal.returns-in_default-clause-sessions

@@ -3,7 +3,8 @@ use Rattle.std.specs.FinMap as map
 use Rattle.role_sessions.specs.Kept.{KeepsRight}
 use Rattle.role_sessions.specs.Remembered.{RemembersNothing, sessions_in, open_value, as_sessions}
 use Rattle.role_sessions.proofs.OpenLemmas.{map_of, map_of-insert}
-use Rattle.role_sessions.proofs.TableLemmas.{the_one, gives-sessions_in, table-insert, keeps_given, keeps_same, same_value}
+use Rattle.role_sessions.proofs.TableLemmas.{the_one, gives-sessions_in, table-insert}
+use Rattle.role_sessions.proofs.TableLemmas.{keeps_given, keeps_same, same_value}
 use Rattle.role_sessions.proofs.open_sessions.OpenSessions.insert.Goals as goal
 
 pub returns-in_err-insert-clause-kept : goal.returns-in_err-insert-clause-kept
