@@ -252,6 +252,11 @@ fn run(rt: &impl Abort, node: &mut Node, steps: &[Step]) -> Result<(), Fail> {
     Ok(())
 }
 
+fn new_node(alloc: Global, config: Config, me: u8) -> Result<Node, Fail> {
+    let me = config.roles().sizes().name(me).ok_or("no node")?;
+    Ok(Node::new(alloc, config, me)?)
+}
+
 /// From the start on.
 fn play(
     rt: &impl Abort,
@@ -260,8 +265,7 @@ fn play(
     me: u8,
     steps: &[Step],
 ) -> Result<(), Fail> {
-    let me = config.roles().sizes().name(me).ok_or("no node")?;
-    run(rt, &mut Node::new(alloc, config, me)?, steps)
+    run(rt, &mut new_node(alloc, config, me)?, steps)
 }
 
 static NO_GAP: [Step; 8] = [
@@ -386,12 +390,23 @@ fn records_again(node: &mut Node, history: &[Entry]) -> Result<bool, Fail> {
     Ok(true)
 }
 
+/// Whether a node put through the steps has a history that another node can record again.
+fn is_recorded_again(
+    rt: &impl Abort,
+    node: &mut Node,
+    again: &mut Node,
+    steps: &[Step],
+) -> Result<bool, Fail> {
+    run(rt, node, steps)?;
+    records_again(again, node.history())
+}
+
 #[test]
 fn a_history_recorded_again(rt: HostRuntime) -> Result<(), Fail> {
-    let mut bench = Bench::new(rt.alloc(), config(rt.alloc(), 1, 0, 4, 100)?, 0)?;
-    bench.run(&rt, &DENIALS)?;
-    let mut again = Bench::new(rt.alloc(), config(rt.alloc(), 1, 0, 4, 100)?, 0)?;
-    let is_same = records_again(&mut again.node, bench.node.history())?;
+    let alloc = rt.alloc();
+    let mut node = new_node(alloc, config(alloc, 1, 0, 4, 100)?, 0)?;
+    let mut again = new_node(alloc, config(alloc, 1, 0, 4, 100)?, 0)?;
+    let is_same = is_recorded_again(&rt, &mut node, &mut again, &DENIALS)?;
     assert!(rt; is_same);
     Ok(())
 }
