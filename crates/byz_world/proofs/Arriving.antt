@@ -1,5 +1,5 @@
 -- What comes to a node, as the code finds it: the tests one after another say where a step arrives.
-use Rattle.std.proofs.Common.{◌≡◌, ℕ, Bool, true, false, ◌&&◌, List, Option, Some, None, Result, Ok, Err, refl, ap, ◌∙◌}
+use Rattle.std.proofs.Common.{◌≡◌, ℕ, Bool, true, false, ◌&&◌, List, Some, None, Ok, Err, refl, ap, ◌∙◌}
 use Rattle.std.specs.Prelude.{if◌then◌else◌, not, nat_lt, slice_get}
 use Rattle.link_frames.specs.Packets.{PacketValue, SentByOwner, message_of}
 use Rattle.link_frames.specs.declared.opening.LinkFault.{LinkFault}
@@ -14,7 +14,7 @@ use Rattle.byz_world.specs.Pools.{pool}
 use Rattle.byz_world.specs.Worlds.{WorldValue, is_correct_in, IsClusterRunOf}
 use Rattle.byz_world.specs.Steps.{Arrival, arrival, arrives, given, unless_forged, opened_at, of_opened}
 use Rattle.byz_world.specs.Steps.{is_pool_full, is_forged, of_reply, step_due, after_step, IsStepAnswer}
-use Rattle.byz_world.specs.Inside.{MayArrive, MayHappen, told_of}
+use Rattle.byz_world.specs.Inside.{MayArrive, told_of}
 use Rattle.byz_world.specs.declared.step.Step.{Step}
 use Rattle.byz_world.specs.declared.step.Step.TheVariants.{Issue, Give, Lie, Bytes, Client}
 use Rattle.byz_world.specs.declared.step.Came.TheVariants as came

@@ -1,5 +1,5 @@
 use Rattle.std.proofs.Common.{sym, ◌∙◌}
-use Rattle.byz_world.proofs.Arriving.{forged_refused, unforged_may_be}
+use Rattle.byz_world.proofs.Arriving.{forged_refused}
 use Rattle.byz_world.proofs.world.World.unless_forged.Goals as goal
 
 pub returns-then-is_forged-clause-due : goal.returns-then-is_forged-clause-due
