@@ -1,7 +1,7 @@
 -- What comes to a node, as the code finds it: the tests one after another say where a step arrives.
 use Rattle.std.proofs.Common.{◌≡◌, ℕ, Bool, true, false, ◌&&◌, List, Some, None, Ok, Err, refl, ap, ◌∙◌}
 use Rattle.std.specs.Prelude.{if◌then◌else◌, not, nat_lt, slice_get}
-use Rattle.link_frames.specs.Packets.{PacketValue, SentByOwner, message_of}
+use Rattle.link_frames.specs.Packets.{PacketValue}
 use Rattle.link_frames.specs.declared.opening.LinkFault.{LinkFault}
 use Rattle.role_commands.specs.declared.command.Command.{Command}
 use Rattle.role_sessions.specs.declared.event.ClientEvent.{ClientEvent}
@@ -9,7 +9,7 @@ use Rattle.role_node.specs.declared.event.Event.{Event}
 use Rattle.role_node.specs.declared.event.Event.TheVariants as event
 use Rattle.role_node.specs.Answers.{EntryValue, outlook, reply_to}
 use Rattle.bracha_instance.specs.declared.instance.Effect.TheVariants as effect
-use Rattle.byz_world.specs.Runs.{has_sent, history_of}
+use Rattle.byz_world.specs.Runs.{history_of}
 use Rattle.byz_world.specs.Pools.{pool}
 use Rattle.byz_world.specs.Worlds.{WorldValue, is_correct_in, IsClusterRunOf}
 use Rattle.byz_world.specs.Steps.{Arrival, arrival, arrives, given, unless_forged, opened_at, of_opened}
@@ -20,7 +20,7 @@ use Rattle.byz_world.specs.declared.step.Step.TheVariants.{Issue, Give, Lie, Byt
 use Rattle.byz_world.specs.declared.step.Came.TheVariants as came
 use Rattle.byz_world.specs.declared.step.StepReply.TheVariants.{Absorbed}
 use Rattle.byz_world.specs.declared.faults.WorldFault.TheVariants as fault
-use Rattle.byz_world.proofs.Stepping.{MayBe, taken_may, given_may, unforged}
+use Rattle.byz_world.proofs.Stepping.{MayBe, given_may}
 use Rattle.byz_world.proofs.Stepping.{early_answer, absorbed_answer, absorbed_after, recorded_answer}
 
 -- What may be taken.
@@ -34,13 +34,6 @@ may_be w (Err f) may = tt
 pub pooled_may : (w : WorldValue) (k : ℕ) (p : PacketValue) → IsClusterRunOf w →
     slice_get (pool w.config w.run) k ≡ Some p → MayArrive w (arrives w p)
 pooled_may w k p is at = may_be w (arrives w p) (λ q. given_may w (Some p) k q is at)
-
--- .. and so may a packet that is not forged
-pub unforged_may_be : (w : WorldValue) (p : PacketValue) → SentByOwner p → is_forged w p ≡ false →
-    MayArrive w (arrives w p)
-unforged_may_be w p own forged =
-    let sent = unforged (is_correct_in w p.from) (has_sent w.config.roles.sizes w.run p.from (message_of p)) forged in
-    may_be w (arrives w p) (λ q. taken_may w p q own sent)
 
 -- What is refused before a node is asked.
 
