@@ -36,11 +36,6 @@ pub OnOk-from : {S E : Type 0} {P : Type 0} (r : Result S E) → P → OnOk r P
 OnOk-from (Ok s) p = p
 OnOk-from (Err e) p = tt
 
-pub passed_over : {S E : Type 0} (r : Result S E) (w new : WorldValue) (step : Step) (f : WorldFault)
-    → IsStepAnswer w step (Err f) → OnOk r (is_want_of_memory f ≡ false) → new ≡ w → OnOk r (new ≡ after_step w step)
-passed_over (Ok s) w new step f is known same = refused_leaves w new step f is known same
-passed_over (Err e) w new step f is known same = tt
-
 -- ---- packets that are given
 
 -- a packet of the pool is found
