@@ -1,7 +1,6 @@
 ghost use Rattle.std.specs.Prelude.{◌<◌, IfOk};
 
 use super::*;
-use bracha_instance::Effect;
 use link_frames::{Kind, Message, Packet, Place};
 use quorum_sizes::{NodeName, Sizes};
 use role_commands::{Command, RoleTable};
@@ -375,41 +374,6 @@ fn denials_in_order(rt: HostRuntime) -> Result<(), Fail> {
 }
 
 static MANY_ROLES: [Step; 2] = [Step::Client(OPEN, Due::Opens(1)), Step::ManyRoles];
-
-/// Whether each event of a history, recorded again, has the same entry.
-fn records_again(node: &mut Node, history: &[Entry]) -> Result<bool, Fail> {
-    for entry in history {
-        let event = entry.event();
-        let Effect::Counted = node.look(&event)? else {
-            return Ok(false);
-        };
-        if node.record(&event)? != *entry {
-            return Ok(false);
-        }
-    }
-    Ok(true)
-}
-
-/// Whether a node put through the steps has a history that another node can record again.
-fn is_recorded_again(
-    rt: &impl Abort,
-    node: &mut Node,
-    again: &mut Node,
-    steps: &[Step],
-) -> Result<bool, Fail> {
-    run(rt, node, steps)?;
-    records_again(again, node.history())
-}
-
-#[test]
-fn a_history_recorded_again(rt: HostRuntime) -> Result<(), Fail> {
-    let alloc = rt.alloc();
-    let mut node = new_node(alloc, config(alloc, 1, 0, 4, 100)?, 0)?;
-    let mut again = new_node(alloc, config(alloc, 1, 0, 4, 100)?, 0)?;
-    let is_same = is_recorded_again(&rt, &mut node, &mut again, &DENIALS)?;
-    assert!(rt; is_same);
-    Ok(())
-}
 
 #[test]
 fn too_many_active_roles(rt: HostRuntime) -> Result<(), Fail> {
