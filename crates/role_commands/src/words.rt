@@ -1,4 +1,5 @@
 ghost use Rattle.std.specs.Prelude.{◌≡◌, IfOk, IfSome, Some, string_bytes};
+ghost use Rattle.role_commands.specs.Words as words;
 ghost use Rattle.role_commands.specs.Words.{spelling, IsCommand};
 ghost use Rattle.role_commands.specs.Reading as reading;
 ghost use Rattle.role_commands.specs.Reading.{command_of};
@@ -17,19 +18,37 @@ pub fn print_command(alloc: Global, command: &Command) -> Result<String, AllocEr
     ensures fits { IsCommand command.now }
 {
     match *command {
-        Command::Assign { user, role } => format!(in alloc; "assign {user} {role}"),
-        Command::Deassign { user, role } => format!(in alloc; "deassign {user} {role}"),
+        Command::Assign { user, role } => two_words(alloc, "assign", user, role),
+        Command::Deassign { user, role } => two_words(alloc, "deassign", user, role),
         Command::Grant {
             role,
             operation,
             object,
-        } => format!(in alloc; "grant {role} {operation} {object}"),
+        } => three_words(alloc, "grant", role, operation, object),
         Command::Revoke {
             role,
             operation,
             object,
-        } => format!(in alloc; "revoke {role} {operation} {object}"),
+        } => three_words(alloc, "revoke", role, operation, object),
     }
+}
+
+fn two_words(alloc: Global, name: &str, user: u32, role: u16) -> Result<String, AllocError>
+    ensures { IfOk result (λ text. string_bytes text ≡ words.two_words name.now user role) }
+{
+    format!(in alloc; "{name} {user} {role}")
+}
+
+fn three_words(
+    alloc: Global,
+    name: &str,
+    role: u16,
+    operation: u16,
+    object: u32,
+) -> Result<String, AllocError>
+    ensures { IfOk result (λ text. string_bytes text ≡ words.three_words name.now role operation object) }
+{
+    format!(in alloc; "{name} {role} {operation} {object}")
 }
 
 /// The command that [`print_command`] writes as this text, if there is one.
@@ -47,28 +66,32 @@ pub fn parse_command(text: &str) -> Option<Command>
 fn named_command(name: &str, numbers: &str) -> Option<Command>
     ensures { result ≡ reading.named_command name.now numbers.now }
 {
-    if name == "assign" {
-        let (user, role) = user_and_role(numbers)?;
-        Some(Command::Assign { user, role })
-    } else if name == "deassign" {
-        let (user, role) = user_and_role(numbers)?;
-        Some(Command::Deassign { user, role })
-    } else if name == "grant" {
-        let (role, operation, object) = role_and_permission(numbers)?;
-        Some(Command::Grant {
-            role,
-            operation,
-            object,
-        })
-    } else if name == "revoke" {
-        let (role, operation, object) = role_and_permission(numbers)?;
-        Some(Command::Revoke {
-            role,
-            operation,
-            object,
-        })
-    } else {
-        None
+    match name {
+        "assign" => {
+            let (user, role) = user_and_role(numbers)?;
+            Some(Command::Assign { user, role })
+        }
+        "deassign" => {
+            let (user, role) = user_and_role(numbers)?;
+            Some(Command::Deassign { user, role })
+        }
+        "grant" => {
+            let (role, operation, object) = role_and_permission(numbers)?;
+            Some(Command::Grant {
+                role,
+                operation,
+                object,
+            })
+        }
+        "revoke" => {
+            let (role, operation, object) = role_and_permission(numbers)?;
+            Some(Command::Revoke {
+                role,
+                operation,
+                object,
+            })
+        }
+        _ => None,
     }
 }
 

@@ -63,14 +63,11 @@ fn named_take(sizes: &Sizes, name: &str, text: &str) -> Option<Said>
     ensures value { option_map take_said result ≡ reading.named_take sizes.now name.now text.now }
     ensures from { IfSome result (λ said. IsFromNode sizes.now (take_said said)) }
 {
-    if name == "send" {
-        take_from(sizes, Kind::Send, OWNER, text)
-    } else if name == "echo" {
-        vote_of(sizes, Kind::Echo, text)
-    } else if name == "ready" {
-        vote_of(sizes, Kind::Ready, text)
-    } else {
-        None
+    match name {
+        "send" => take_from(sizes, Kind::Send, OWNER, text),
+        "echo" => vote_of(sizes, Kind::Echo, text),
+        "ready" => vote_of(sizes, Kind::Ready, text),
+        _ => None,
     }
 }
 

@@ -153,14 +153,16 @@ fn named_order(sizes: &Sizes, name: &str, text: &str) -> Option<Order>
     ensures value { result ≡ reading.named_order sizes.now name.now text.now }
     ensures within { IfSome result (IsWithinSizes sizes.now) }
 {
-    if name == "give" {
-        let packet = wide_number(text)?;
-        Some(Order::Do(Step::Give { packet }))
-    } else if name == "lie" {
-        let packet = lie_of(sizes, text)?;
-        Some(Order::Do(Step::Lie { packet }))
-    } else {
-        order_of_node(sizes, name, text)
+    match name {
+        "give" => {
+            let packet = wide_number(text)?;
+            Some(Order::Do(Step::Give { packet }))
+        }
+        "lie" => {
+            let packet = lie_of(sizes, text)?;
+            Some(Order::Do(Step::Lie { packet }))
+        }
+        _ => order_of_node(sizes, name, text),
     }
 }
 
@@ -180,37 +182,42 @@ fn order_at_node(sizes: &Sizes, name: &str, node: NodeName, text: &str) -> Optio
     ensures value { result ≡ reading.order_at_node sizes.now name.now node text.now }
     ensures within { IfSome result (IsWithinSizes sizes.now) }
 {
-    if name == "issue" {
-        let command = parse_command(text)?;
-        Some(Order::Do(Step::Issue { node, command }))
-    } else if name == "open" {
-        let user = wide_number(text)?;
-        Some(acted(node, ClientEvent::Open { user }))
-    } else if name == "activate" {
-        let (session, user, role) = session_user_and_role(text)?;
-        Some(acted(
-            node,
-            ClientEvent::Activate {
-                session,
-                user,
-                role,
-            },
-        ))
-    } else if name == "drop" {
-        let (session, user, role) = session_user_and_role(text)?;
-        Some(acted(
-            node,
-            ClientEvent::DropRole {
-                session,
-                user,
-                role,
-            },
-        ))
-    } else if name == "close" {
-        let (session, user) = session_and_user(text)?;
-        Some(acted(node, ClientEvent::Close { session, user }))
-    } else {
-        question_at_node(sizes, name, node, text)
+    match name {
+        "issue" => {
+            let command = parse_command(text)?;
+            Some(Order::Do(Step::Issue { node, command }))
+        }
+        "open" => {
+            let user = wide_number(text)?;
+            Some(acted(node, ClientEvent::Open { user }))
+        }
+        "activate" => {
+            let (session, user, role) = session_user_and_role(text)?;
+            Some(acted(
+                node,
+                ClientEvent::Activate {
+                    session,
+                    user,
+                    role,
+                },
+            ))
+        }
+        "drop" => {
+            let (session, user, role) = session_user_and_role(text)?;
+            Some(acted(
+                node,
+                ClientEvent::DropRole {
+                    session,
+                    user,
+                    role,
+                },
+            ))
+        }
+        "close" => {
+            let (session, user) = session_and_user(text)?;
+            Some(acted(node, ClientEvent::Close { session, user }))
+        }
+        _ => question_at_node(sizes, name, node, text),
     }
 }
 
@@ -220,19 +227,21 @@ fn question_at_node(sizes: &Sizes, name: &str, node: NodeName, text: &str) -> Op
     ensures value { result ≡ inside.question_at_node sizes.now name.now node text.now }
     ensures within { IfSome result (IsWithinSizes sizes.now) }
 {
-    if name == "check" {
-        let question = access_of(text)?;
-        Some(Order::Ask { node, question })
-    } else if name == "list" {
-        let question = listing_of(text)?;
-        Some(Order::Ask { node, question })
-    } else if name == "reach" {
-        let owner = node_number(sizes, text)?;
-        Some(Order::Reach { node, owner })
-    } else if name == "agree" {
-        agreement_of(sizes, node, text)
-    } else {
-        None
+    match name {
+        "check" => {
+            let question = access_of(text)?;
+            Some(Order::Ask { node, question })
+        }
+        "list" => {
+            let question = listing_of(text)?;
+            Some(Order::Ask { node, question })
+        }
+        "reach" => {
+            let owner = node_number(sizes, text)?;
+            Some(Order::Reach { node, owner })
+        }
+        "agree" => agreement_of(sizes, node, text),
+        _ => None,
     }
 }
 

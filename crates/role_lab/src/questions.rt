@@ -20,24 +20,16 @@ pub fn listing_of(text: &str) -> Option<Question>
 fn named_listing(name: &str, text: &str) -> Option<Question>
     ensures { result ≡ reading.named_listing name.now text.now }
 {
-    if name == "users" {
-        Some(Question::AssignedUsers(narrow_number(text)?))
-    } else if name == "roles" {
-        Some(Question::AssignedRoles(wide_number(text)?))
-    } else if name == "permissions" {
-        Some(Question::RolePermissions(narrow_number(text)?))
-    } else if name == "user-permissions" {
-        Some(Question::UserPermissions(wide_number(text)?))
-    } else if name == "operations" {
-        role_operations_of(text)
-    } else if name == "user-operations" {
-        user_operations_of(text)
-    } else if name == "session-roles" {
-        Some(Question::SessionRoles(long_number(text)?))
-    } else if name == "session-permissions" {
-        Some(Question::SessionPermissions(long_number(text)?))
-    } else {
-        None
+    match name {
+        "users" => narrow_number(text).map(Question::AssignedUsers),
+        "roles" => wide_number(text).map(Question::AssignedRoles),
+        "permissions" => narrow_number(text).map(Question::RolePermissions),
+        "user-permissions" => wide_number(text).map(Question::UserPermissions),
+        "operations" => role_operations_of(text),
+        "user-operations" => user_operations_of(text),
+        "session-roles" => long_number(text).map(Question::SessionRoles),
+        "session-permissions" => long_number(text).map(Question::SessionPermissions),
+        _ => None,
     }
 }
 
