@@ -5,7 +5,7 @@ use std::error::Error;
 use std::fmt;
 
 /// Why the world refuses. Written as its code and its name, a link's or a node's fault as that fault.
-#[derive(Clone, Copy, Debug, PartialEq, Eq, Hash)]
+#[derive(Clone, Copy, Debug, PartialEq, Eq)]
 pub enum WorldFault {
     /// More nodes lie than may.
     TooManyLiars,
@@ -34,17 +34,17 @@ impl fmt::Display for WorldFault {
     ghost output = { λ fault. Some (world_fault_text fault) };
 
     fn fmt<W: fmt::Write>(&self, f: &mut fmt::Formatter<W>) -> fmt::Result {
-        match self {
-            WorldFault::TooManyLiars => write!(f, "V1 TooManyLiars"),
-            WorldFault::NotCorrect => write!(f, "V2 NotCorrect"),
-            WorldFault::NoSuchPacket => write!(f, "V3 NoSuchPacket"),
-            WorldFault::NotSent => write!(f, "V4 NotSent"),
-            WorldFault::PoolFull => write!(f, "V5 PoolFull"),
-            WorldFault::Link(fault) => write!(f, "{fault}"),
-            WorldFault::Node(fault) => write!(f, "{fault}"),
-            WorldFault::NoSession => write!(f, "N1 NoSession"),
-            WorldFault::Memory => write!(f, "out of memory"),
-        }
+        f.write_str(match self {
+            WorldFault::TooManyLiars => "V1 TooManyLiars",
+            WorldFault::NotCorrect => "V2 NotCorrect",
+            WorldFault::NoSuchPacket => "V3 NoSuchPacket",
+            WorldFault::NotSent => "V4 NotSent",
+            WorldFault::PoolFull => "V5 PoolFull",
+            WorldFault::Link(fault) => return write!(f, "{fault}"),
+            WorldFault::Node(fault) => return write!(f, "{fault}"),
+            WorldFault::NoSession => "N1 NoSession",
+            WorldFault::Memory => "out of memory",
+        })
     }
 }
 

@@ -19,7 +19,7 @@ pub enum Step {
 }
 
 /// What a step answers.
-#[derive(Clone, Copy, Debug, PartialEq, Eq, Hash)]
+#[derive(Clone, Copy, Debug, PartialEq, Eq)]
 pub enum StepReply {
     /// The packet went to a liar.
     Absorbed,

@@ -7,7 +7,7 @@ use std::error::Error;
 use std::fmt;
 
 /// Why a line is no request. Written as its code and its name.
-#[derive(Clone, Copy, Debug, PartialEq, Eq, Hash)]
+#[derive(Clone, Copy, Debug, PartialEq, Eq)]
 pub enum LineFault {
     /// The line has more than 4,096 bytes, or it is not JSON.
     NotJson,
@@ -48,15 +48,15 @@ impl fmt::Display for LineFault {
     ghost output = { λ fault. Some (line_fault_text fault) };
 
     fn fmt<W: fmt::Write>(&self, f: &mut fmt::Formatter<W>) -> fmt::Result {
-        match self {
-            LineFault::NotJson => write!(f, "J1 NotJson"),
-            LineFault::NotObject => write!(f, "J2 NotObject"),
-            LineFault::NoOp => write!(f, "J3 NoOp"),
-            LineFault::UnknownOp => write!(f, "J4 UnknownOp"),
-            LineFault::Missing(_) => write!(f, "J5 Missing"),
-            LineFault::OutOfRange(_) => write!(f, "J6 OutOfRange"),
-            LineFault::Memory => write!(f, "out of memory"),
-        }
+        f.write_str(match self {
+            LineFault::NotJson => "J1 NotJson",
+            LineFault::NotObject => "J2 NotObject",
+            LineFault::NoOp => "J3 NoOp",
+            LineFault::UnknownOp => "J4 UnknownOp",
+            LineFault::Missing(_) => "J5 Missing",
+            LineFault::OutOfRange(_) => "J6 OutOfRange",
+            LineFault::Memory => "out of memory",
+        })
     }
 }
 

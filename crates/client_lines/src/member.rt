@@ -68,12 +68,12 @@ impl fmt::Display for Member {
     ghost output = { λ member. Some (member_name member) };
 
     fn fmt<W: fmt::Write>(&self, f: &mut fmt::Formatter<W>) -> fmt::Result {
-        write!(f, "{}", self.name())
+        f.write_str(self.name())
     }
 }
 
 /// Why a member is not a number of its range.
-#[derive(Clone, Copy, Debug, PartialEq, Eq, Hash)]
+#[derive(Clone, Copy, Debug, PartialEq, Eq)]
 pub enum MemberFault {
     /// The object has no such member.
     Missing,

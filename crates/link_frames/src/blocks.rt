@@ -17,7 +17,7 @@ use std::io::Read;
 const BLOCK_BYTES: usize = 8192;
 
 /// Why no bytes were read ahead.
-#[derive(Clone, Copy, Debug, PartialEq, Eq, Hash)]
+#[derive(Clone, Copy, Debug, PartialEq, Eq)]
 pub enum AheadFault {
     /// The reader has failed.
     Device,
@@ -32,10 +32,10 @@ impl fmt::Display for AheadFault {
     ghost output = { λ fault. Some (ahead_fault_text fault) };
 
     fn fmt<W: fmt::Write>(&self, f: &mut fmt::Formatter<W>) -> fmt::Result {
-        match self {
-            AheadFault::Device => write!(f, "device"),
-            AheadFault::Memory => write!(f, "out of memory"),
-        }
+        f.write_str(match self {
+            AheadFault::Device => "device",
+            AheadFault::Memory => "out of memory",
+        })
     }
 }
 

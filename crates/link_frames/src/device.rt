@@ -16,7 +16,7 @@ const MOST_TRIES: u32 = 1025;
 
 /// The reader or the writer has failed: a call of it broke, or was interrupted 1,025 times in a row, or its
 /// reads can be counted no further.
-#[derive(Clone, Copy, Debug, PartialEq, Eq, Hash)]
+#[derive(Clone, Copy, Debug, PartialEq, Eq)]
 pub struct DeviceFault;
 
 impl fmt::Display for DeviceFault {
@@ -25,7 +25,7 @@ impl fmt::Display for DeviceFault {
     ghost output = { λ _. Some (codes "device") };
 
     fn fmt<W: fmt::Write>(&self, f: &mut fmt::Formatter<W>) -> fmt::Result {
-        write!(f, "device")
+        f.write_str("device")
     }
 }
 

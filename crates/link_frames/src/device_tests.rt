@@ -28,7 +28,7 @@ fn a_writer_goes_wrong(rt: HostRuntime) -> Result<(), Fail> {
         assert!(rt; matches!(writer.write(text), Ok(n) if n == due));
     }
     assert!(rt; writer.flush().is_ok() && writer.made() == 2);
-    assert_eq!(rt; writer.inner().as_slice(), b"abc".as_slice());
+    assert!(rt; writer.inner().as_slice() == b"abc".as_slice());
     Ok(())
 }
 
@@ -54,8 +54,8 @@ fn is_written(alloc: Global, mishap: Mishap, calls: u64) -> bool {
 #[test]
 fn interruptions_are_waited_out(rt: HostRuntime) {
     for (mishap, calls, reads, writes) in &MISHAPS {
-        assert_eq!(rt; is_read(*mishap, *calls), *reads);
-        assert_eq!(rt; is_written(rt.alloc(), *mishap, *calls), *writes);
+        assert!(rt; is_read(*mishap, *calls) == *reads);
+        assert!(rt; is_written(rt.alloc(), *mishap, *calls) == *writes);
     }
 }
 
@@ -84,13 +84,13 @@ fn lines_are_read_ahead(rt: HostRuntime) -> Result<(), Fail> {
     let mut reader = Watched::new(Faulty::new(bytes, Mishap::Short, 0, u64::MAX));
     let mut ahead = Ahead::new(rt.alloc());
     for count in [Some(2), None, Some(0), Some(1), None] {
-        assert_eq!(rt; use_next(&mut ahead, &mut reader, 3), Ok(count));
+        assert!(rt; use_next(&mut ahead, &mut reader, 3) == Ok(count));
     }
 
     let mut broken = Watched::new(Faulty::new(bytes, Mishap::Fail, 0, 1));
-    assert_eq!(rt; ahead.peek(&mut broken, 3), Err(AheadFault::Device));
-    assert_eq!(rt; ahead.peek(&mut broken, 3), Ok(Next::Line(2)));
-    assert_eq!(rt; ahead.begins(1), Some(Next::TooLong));
-    assert_eq!(rt; ahead.front(), bytes);
+    assert!(rt; ahead.peek(&mut broken, 3) == Err(AheadFault::Device));
+    assert!(rt; ahead.peek(&mut broken, 3) == Ok(Next::Line(2)));
+    assert!(rt; ahead.begins(1) == Some(Next::TooLong));
+    assert!(rt; ahead.front() == bytes);
     Ok(())
 }

@@ -2,7 +2,7 @@ use std::io;
 use std::io::{ErrorKind, Read, Write};
 
 /// What a call does in place of what it should.
-#[derive(Clone, Copy, Debug, PartialEq, Eq, Hash)]
+#[derive(Clone, Copy, Debug, PartialEq, Eq)]
 pub enum Mishap {
     /// Answers that time ran out.
     Fail,

@@ -9,7 +9,7 @@ use std::fmt;
 use std::marker::Model;
 
 /// Why there are no such keys. Written as its code and its name.
-#[derive(Clone, Copy, Debug, PartialEq, Eq, Hash)]
+#[derive(Clone, Copy, Debug, PartialEq, Eq)]
 pub enum KeyFault {
     /// There is one key for each node.
     WrongCount,
@@ -24,10 +24,10 @@ impl fmt::Display for KeyFault {
     ghost output = { λ fault. Some (key_fault_text fault) };
 
     fn fmt<W: fmt::Write>(&self, f: &mut fmt::Formatter<W>) -> fmt::Result {
-        match self {
-            KeyFault::WrongCount => write!(f, "K1 WrongCount"),
-            KeyFault::Memory => write!(f, "out of memory"),
-        }
+        f.write_str(match self {
+            KeyFault::WrongCount => "K1 WrongCount",
+            KeyFault::Memory => "out of memory",
+        })
     }
 }
 

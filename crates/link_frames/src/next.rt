@@ -5,7 +5,7 @@ ghost use Rattle.link_frames.specs.Lines.{is_line_end, NoLineEnd};
 ghost use Rattle.link_frames.specs.Nexts.{Begins, EndsWith};
 
 /// How the bytes ahead begin.
-#[derive(Clone, Copy, Debug, PartialEq, Eq, Hash)]
+#[derive(Clone, Copy, Debug, PartialEq, Eq)]
 pub enum Next {
     /// With a line of so many bytes, and its end.
     Line(usize),

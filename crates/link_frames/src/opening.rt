@@ -19,7 +19,7 @@ use std::error::Error;
 use std::fmt;
 
 /// Why bytes are no frame that this node opens. Written as its code and its name.
-#[derive(Clone, Copy, Debug, PartialEq, Eq, Hash)]
+#[derive(Clone, Copy, Debug, PartialEq, Eq)]
 pub enum LinkFault {
     /// There are 52 bytes.
     Length,
@@ -50,18 +50,18 @@ impl fmt::Display for LinkFault {
     ghost output = { λ fault. Some (link_fault_text fault) };
 
     fn fmt<W: fmt::Write>(&self, f: &mut fmt::Formatter<W>) -> fmt::Result {
-        match self {
-            LinkFault::Length => write!(f, "L1 Length"),
-            LinkFault::Version => write!(f, "L2 Version"),
-            LinkFault::Cluster => write!(f, "L3 Cluster"),
-            LinkFault::NotForMe => write!(f, "L4 NotForMe"),
-            LinkFault::NoSuchNode => write!(f, "L5 NoSuchNode"),
-            LinkFault::BadTag => write!(f, "L6 BadTag"),
-            LinkFault::BadKind => write!(f, "L7 BadKind"),
-            LinkFault::BadOwner => write!(f, "L8 BadOwner"),
-            LinkFault::BadCommand => write!(f, "L9 BadCommand"),
-            LinkFault::SendNotByOwner => write!(f, "L10 SendNotByOwner"),
-        }
+        f.write_str(match self {
+            LinkFault::Length => "L1 Length",
+            LinkFault::Version => "L2 Version",
+            LinkFault::Cluster => "L3 Cluster",
+            LinkFault::NotForMe => "L4 NotForMe",
+            LinkFault::NoSuchNode => "L5 NoSuchNode",
+            LinkFault::BadTag => "L6 BadTag",
+            LinkFault::BadKind => "L7 BadKind",
+            LinkFault::BadOwner => "L8 BadOwner",
+            LinkFault::BadCommand => "L9 BadCommand",
+            LinkFault::SendNotByOwner => "L10 SendNotByOwner",
+        })
     }
 }
 

@@ -12,7 +12,7 @@ use std::io::Read;
 const MOST_READS: u16 = 1024;
 
 /// Why no frame was read. Written as its code and its name.
-#[derive(Clone, Copy, Debug, PartialEq, Eq, Hash)]
+#[derive(Clone, Copy, Debug, PartialEq, Eq)]
 pub enum ReadFault {
     /// The reader ended after so many bytes of a frame.
     Truncated(u8),
@@ -29,11 +29,11 @@ impl fmt::Display for ReadFault {
     ghost output = { λ fault. Some (read_fault_text fault) };
 
     fn fmt<W: fmt::Write>(&self, f: &mut fmt::Formatter<W>) -> fmt::Result {
-        match self {
-            ReadFault::Truncated(_) => write!(f, "P1 Truncated"),
-            ReadFault::Device => write!(f, "P2 Device"),
-            ReadFault::TooManyTurns => write!(f, "P3 TooManyTurns"),
-        }
+        f.write_str(match self {
+            ReadFault::Truncated(_) => "P1 Truncated",
+            ReadFault::Device => "P2 Device",
+            ReadFault::TooManyTurns => "P3 TooManyTurns",
+        })
     }
 }
 

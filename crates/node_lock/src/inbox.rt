@@ -178,10 +178,10 @@ impl fmt::Display for InboxFault {
     ghost output = { λ fault. Some (inbox_fault_text fault) };
 
     fn fmt<W: fmt::Write>(&self, f: &mut fmt::Formatter<W>) -> fmt::Result {
-        match self {
-            InboxFault::PassMissing { .. } => write!(f, "Z6 PassMissing"),
-            InboxFault::Memory { .. } => write!(f, "out of memory"),
-        }
+        f.write_str(match self {
+            InboxFault::PassMissing { .. } => "Z6 PassMissing",
+            InboxFault::Memory { .. } => "out of memory",
+        })
     }
 }
 

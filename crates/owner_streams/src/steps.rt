@@ -6,7 +6,7 @@ use std::error::Error;
 use std::fmt;
 
 /// What a packet caused.
-#[derive(Clone, Copy, Debug, PartialEq, Eq, Hash)]
+#[derive(Clone, Copy, Debug, PartialEq, Eq)]
 pub struct StreamStep {
     /// Whether its message counted.
     pub effect: Effect,
@@ -21,7 +21,7 @@ pub struct StreamStep {
 }
 
 /// Why a packet is not taken. Written as its code, its name and its numbers.
-#[derive(Clone, Copy, Debug, PartialEq, Eq, Hash)]
+#[derive(Clone, Copy, Debug, PartialEq, Eq)]
 pub enum StreamFault {
     /// The place is not below `end`, the reach of the owner's stream and 64.
     Beyond { place: Place, end: u32 },
@@ -38,7 +38,7 @@ impl fmt::Display for StreamFault {
     fn fmt<W: fmt::Write>(&self, f: &mut fmt::Formatter<W>) -> fmt::Result {
         match self {
             StreamFault::Beyond { place, end } => write!(f, "S1 Beyond {place} {end}"),
-            StreamFault::Memory => write!(f, "out of memory"),
+            StreamFault::Memory => f.write_str("out of memory"),
         }
     }
 }
@@ -57,7 +57,7 @@ impl From<AllocError> for StreamFault {
 }
 
 /// What a node has sent to all at a place, and may send again.
-#[derive(Clone, Copy, Debug, PartialEq, Eq, Hash)]
+#[derive(Clone, Copy, Debug, PartialEq, Eq)]
 pub struct Again {
     /// The command of its ECHO.
     pub echo: Option<Command>,

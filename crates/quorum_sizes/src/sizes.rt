@@ -11,7 +11,7 @@ use std::marker::Model;
 pub const MOST_NODES: u8 = 64;
 
 /// Why there are no such sizes. Written as its code and its name.
-#[derive(Clone, Copy, Debug, PartialEq, Eq, Hash)]
+#[derive(Clone, Copy, Debug, PartialEq, Eq)]
 pub enum SizeFault {
     /// A cluster has a node at least.
     NoNodes,
@@ -28,11 +28,11 @@ impl fmt::Display for SizeFault {
     ghost output = { λ fault. Some (size_fault_text fault) };
 
     fn fmt<W: fmt::Write>(&self, f: &mut fmt::Formatter<W>) -> fmt::Result {
-        match self {
-            SizeFault::NoNodes => write!(f, "Q1 NoNodes"),
-            SizeFault::TooMany => write!(f, "Q2 TooMany"),
-            SizeFault::TooManyLiars => write!(f, "Q3 TooManyLiars"),
-        }
+        f.write_str(match self {
+            SizeFault::NoNodes => "Q1 NoNodes",
+            SizeFault::TooMany => "Q2 TooMany",
+            SizeFault::TooManyLiars => "Q3 TooManyLiars",
+        })
     }
 }
 

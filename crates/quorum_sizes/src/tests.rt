@@ -11,7 +11,7 @@ fn quorums(rt: HostRuntime) -> Result<(), Fail> {
     ] {
         let sizes = Sizes::new(row[0], row[1])?;
         let [echo, amplify, deliver] = [sizes.echo_quorum(), sizes.amplify(), sizes.deliver()];
-        assert_eq!(rt; [sizes.n(), sizes.f(), echo, amplify, deliver], row);
+        assert!(rt; [sizes.n(), sizes.f(), echo, amplify, deliver] == row);
     }
     Ok(())
 }
@@ -25,7 +25,7 @@ fn refusals(rt: HostRuntime) {
         (0, 0, SizeFault::NoNodes),
         (0, 5, SizeFault::NoNodes),
     ] {
-        assert_eq!(rt; Sizes::new(n, f), Err(fault), "at {n}, {f}");
+        assert!(rt; Sizes::new(n, f) == Err(fault));
     }
 }
 

@@ -14,7 +14,7 @@ use std::marker::Model;
 const MOST_ROLES: usize = 1024;
 
 /// Why a role is not added. Written as its code and its name.
-#[derive(Clone, Copy, Debug, PartialEq, Eq, Hash)]
+#[derive(Clone, Copy, Debug, PartialEq, Eq)]
 pub enum TableFault {
     /// The owner is no node of the cluster.
     NoSuchNode,
@@ -33,12 +33,12 @@ impl fmt::Display for TableFault {
     ghost output = { λ fault. Some (table_fault_text fault) };
 
     fn fmt<W: fmt::Write>(&self, f: &mut fmt::Formatter<W>) -> fmt::Result {
-        match self {
-            TableFault::NoSuchNode => write!(f, "C1 NoSuchNode"),
-            TableFault::Repeated => write!(f, "C2 Repeated"),
-            TableFault::TooManyRoles => write!(f, "C3 TooManyRoles"),
-            TableFault::Memory => write!(f, "out of memory"),
-        }
+        f.write_str(match self {
+            TableFault::NoSuchNode => "C1 NoSuchNode",
+            TableFault::Repeated => "C2 Repeated",
+            TableFault::TooManyRoles => "C3 TooManyRoles",
+            TableFault::Memory => "out of memory",
+        })
     }
 }
 

@@ -30,8 +30,8 @@ fn words(rt: HostRuntime) -> Result<(), Fail> {
             },
         ),
     ] {
-        assert_eq!(rt; print_command(rt.alloc(), &command)?.as_str(), text);
-        assert_eq!(rt; parse_command(text), Some(command));
+        assert!(rt; print_command(rt.alloc(), &command)?.as_str() == text);
+        assert!(rt; parse_command(text) == Some(command));
     }
     Ok(())
 }
@@ -50,7 +50,7 @@ fn no_commands(rt: HostRuntime) -> Result<(), Fail> {
         "grant 2 5",
         "assign +7 2",
     ] {
-        assert_eq!(rt; parse_command(text), None, "at {text}");
+        assert!(rt; parse_command(text).is_none());
     }
     Ok(())
 }
@@ -92,15 +92,15 @@ fn bytes(rt: HostRuntime) -> Result<(), Fail> {
             },
         ),
     ] {
-        assert_eq!(rt; encode(&command), bytes);
-        assert_eq!(rt; decode(&bytes), Some(command));
+        assert!(rt; encode(&command) == bytes);
+        assert!(rt; decode(&bytes) == Some(command));
     }
     for bytes in [
         [1, 0, 2, 0, 0, 0, 7, 0, 1],
         [5, 0, 2, 0, 0, 0, 7, 0, 0],
         [0; 9],
     ] {
-        assert_eq!(rt; decode(&bytes), None);
+        assert!(rt; decode(&bytes).is_none());
     }
     Ok(())
 }
@@ -116,7 +116,7 @@ fn tables(rt: HostRuntime) -> Result<(), Fail> {
         (3, 4, Err(TableFault::NoSuchNode)),
         (2, 4, Err(TableFault::NoSuchNode)),
     ] {
-        assert_eq!(rt; table.add(role, owner), due);
+        assert!(rt; table.add(role, owner) == due);
     }
     let copy = table.copy(rt.alloc())?;
     let first = sizes.name(0).ok_or("no name")?;
@@ -139,6 +139,6 @@ fn full_table(rt: HostRuntime) -> Result<(), Fail> {
 #[test]
 fn items(rt: HostRuntime) -> Result<(), Fail> {
     let users = Items::new(vec![in rt.alloc(); 7u32, 9]?);
-    assert_eq!(rt; users.as_slice(), [7, 9].as_slice());
+    assert!(rt; users.as_slice() == [7, 9].as_slice());
     Ok(())
 }

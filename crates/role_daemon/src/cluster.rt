@@ -21,7 +21,7 @@ use std::alloc::{AllocError, Global};
 pub const MOST_TEXT_BYTES: usize = 65_536;
 
 /// Which members a cluster text has.
-#[derive(Clone, Copy, Debug, PartialEq, Eq, Hash)]
+#[derive(Clone, Copy, Debug, PartialEq, Eq)]
 pub enum Mode {
     /// One node, which has no links.
     Pipe,

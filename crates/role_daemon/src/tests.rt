@@ -54,7 +54,7 @@ fn cluster_texts(rt: HostRuntime) -> Result<(), Fail> {
         ),
     ];
     for (text, fault) in cases {
-        assert_eq!(rt; fault_of(rt.alloc(), text, Mode::Pipe)?.as_str(), fault);
+        assert!(rt; fault_of(rt.alloc(), text, Mode::Pipe)?.as_str() == fault);
     }
     Ok(())
 }
@@ -65,10 +65,10 @@ fn a_server_has_keys_and_ports(rt: HostRuntime) -> Result<(), Fail> {
         \"keys\":[\"000102030405060708090a0b0c0d0e0f101112131415161718191A1B1C1D1E1F\"],\
         \"me\":0,\"n\":1,\"nodes\":[65535],\"roles\":[[2,0]]}";
     let setup = read_cluster(rt.alloc(), text, Mode::Serve)?;
-    assert_eq!(rt; setup.nodes.as_slice(), [65_535].as_slice());
-    assert_eq!(rt; setup.client, 9);
+    assert!(rt; setup.nodes.as_slice() == [65_535].as_slice());
+    assert!(rt; setup.client == 9);
     match setup.keys.as_slice() {
-        [key] => assert_eq!(rt; key[31], 31),
+        [key] => assert!(rt; key[31] == 31),
         _ => assert!(rt; false),
     }
     let cases: [(&[u8], &str); 3] = [
@@ -86,7 +86,7 @@ fn a_server_has_keys_and_ports(rt: HostRuntime) -> Result<(), Fail> {
         ),
     ];
     for (text, fault) in cases {
-        assert_eq!(rt; fault_of(rt.alloc(), text, Mode::Serve)?.as_str(), fault);
+        assert!(rt; fault_of(rt.alloc(), text, Mode::Serve)?.as_str() == fault);
     }
     Ok(())
 }
@@ -105,13 +105,13 @@ fn words(rt: HostRuntime) -> Result<(), Fail> {
     let alloc = rt.alloc();
     assert!(rt; matches!(words_of(alloc, &[])?, Ok(Words::Pipe)));
     match words_of(alloc, &["serve", "--cluster", "a"])? {
-        Ok(Words::Serve { file }) => assert_eq!(rt; file.as_str(), "a"),
+        Ok(Words::Serve { file }) => assert!(rt; file.as_str() == "a"),
         _ => assert!(rt; false),
     }
     for words in [["x"].as_slice(), &["--help"], &["serve"]] {
         match words_of(alloc, words)? {
             Ok(_) => assert!(rt; false),
-            Err(fault) => assert_eq!(rt; fault.status(), 2),
+            Err(fault) => assert!(rt; fault.status() == 2),
         }
     }
     Ok(())
@@ -168,7 +168,7 @@ fn refusals(rt: HostRuntime) -> Result<(), Fail> {
     let mut writer = Watched::new(&mut held);
     let mut reader = Watched::new(input.as_bytes());
     run_pipe(rt.alloc(), &mut reader, &mut writer)?;
-    assert_eq!(rt; held.as_slice(), due.as_bytes());
+    assert!(rt; held.as_slice() == due.as_bytes());
     Ok(())
 }
 
@@ -183,7 +183,7 @@ fn an_answer_is_written_before_the_next_line_is_waited_for(rt: HostRuntime) -> R
     });
     let ended = run_pipe(rt.alloc(), &mut reader, &mut writer);
     assert!(rt; matches!(ended, Err(PipeFault::Device)));
-    assert_eq!(rt; held.as_slice(), "{\"issued\":0,\"reach\":1}\n".as_bytes());
+    assert!(rt; held.as_slice() == "{\"issued\":0,\"reach\":1}\n".as_bytes());
     Ok(())
 }
 
@@ -199,7 +199,7 @@ fn a_long_line_is_passed_over(rt: HostRuntime) -> Result<(), Fail> {
     let mut reader = Watched::new(input.as_bytes());
     run_pipe(rt.alloc(), &mut reader, &mut writer)?;
     let due = "{\"error\":\"J1 NotJson\"}\n{\"stopped\":true}\n";
-    assert_eq!(rt; held.as_slice(), due.as_bytes());
+    assert!(rt; held.as_slice() == due.as_bytes());
     Ok(())
 }
 
@@ -211,7 +211,7 @@ fn an_absent_line_sets_up_no_node(rt: HostRuntime) -> Result<(), Fail> {
     match run_pipe(rt.alloc(), &mut reader, &mut writer) {
         Err(fault) => {
             assert!(rt; matches!(&fault, PipeFault::Cluster(ClusterFault::NotJson)));
-            assert_eq!(rt; fault.status(), 3);
+            assert!(rt; fault.status() == 3);
         }
         Ok(()) => assert!(rt; false),
     }

@@ -13,7 +13,7 @@ use role_sessions::ClientEvent;
 use std::marker::Model;
 
 /// What is kept of an event and its reply: of the reply only what the event doesn't tell.
-#[derive(Clone, Copy, Debug, PartialEq, Eq, Hash)]
+#[derive(Clone, Copy, Debug, PartialEq, Eq)]
 enum Kept {
     /// The SEND of a command that the node published.
     Issued(Message),
@@ -37,7 +37,7 @@ enum Kept {
 /// An event that a node recorded, and its reply.
 ///
 /// Contracts see both. A history has millions of these, so each keeps of the reply only what the event doesn't tell.
-#[derive(Clone, Copy, Debug, PartialEq, Eq, Hash)]
+#[derive(Clone, Copy, Debug, PartialEq, Eq)]
 pub struct Entry {
     kept: Kept,
 }

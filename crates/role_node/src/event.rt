@@ -14,7 +14,7 @@ pub enum Event {
 }
 
 /// What a node answers to an event.
-#[derive(Clone, Copy, Debug, PartialEq, Eq, Hash)]
+#[derive(Clone, Copy, Debug, PartialEq, Eq)]
 pub enum Reply {
     /// The packet repeats a message that was taken before. It is not recorded.
     Idle,
@@ -38,7 +38,7 @@ pub enum Reply {
 }
 
 /// What a node has sent to all at a place of an owner's stream, and may send again.
-#[derive(Clone, Copy, Debug, PartialEq, Eq, Hash)]
+#[derive(Clone, Copy, Debug, PartialEq, Eq)]
 pub struct NodeAgain {
     /// The command of its own SEND.
     pub send: Option<Command>,

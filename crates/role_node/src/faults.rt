@@ -6,7 +6,7 @@ use std::error::Error;
 use std::fmt;
 
 /// Why an event is refused. Written as its code and its name, a client's fault as that fault.
-#[derive(Clone, Copy, Debug, PartialEq, Eq, Hash)]
+#[derive(Clone, Copy, Debug, PartialEq, Eq)]
 pub enum NodeFault {
     /// The role is not this node's.
     NotMine,
@@ -35,17 +35,17 @@ impl fmt::Display for NodeFault {
     ghost output = { λ fault. Some (node_fault_text fault) };
 
     fn fmt<W: fmt::Write>(&self, f: &mut fmt::Formatter<W>) -> fmt::Result {
-        match self {
-            NodeFault::NotMine => write!(f, "F1 NotMine"),
-            NodeFault::StreamFull => write!(f, "F2 StreamFull"),
-            NodeFault::Busy => write!(f, "F3 Busy"),
-            NodeFault::Full => write!(f, "F4 Full"),
-            NodeFault::Misrouted => write!(f, "F5 Misrouted"),
-            NodeFault::Beyond { place, end } => write!(f, "S1 Beyond {place} {end}"),
-            NodeFault::Session(fault) => write!(f, "{fault}"),
-            NodeFault::End(fault) => write!(f, "{fault}"),
-            NodeFault::Memory => write!(f, "out of memory"),
-        }
+        f.write_str(match self {
+            NodeFault::NotMine => "F1 NotMine",
+            NodeFault::StreamFull => "F2 StreamFull",
+            NodeFault::Busy => "F3 Busy",
+            NodeFault::Full => "F4 Full",
+            NodeFault::Misrouted => "F5 Misrouted",
+            NodeFault::Beyond { place, end } => return write!(f, "S1 Beyond {place} {end}"),
+            NodeFault::Session(fault) => return write!(f, "{fault}"),
+            NodeFault::End(fault) => return write!(f, "{fault}"),
+            NodeFault::Memory => "out of memory",
+        })
     }
 }
 
@@ -102,7 +102,7 @@ impl From<EndFault> for NodeFault {
 }
 
 /// Why a question has no answer. Written as its code and its name.
-#[derive(Clone, Copy, Debug, PartialEq, Eq, Hash)]
+#[derive(Clone, Copy, Debug, PartialEq, Eq)]
 pub enum AskFault {
     /// No session with this id is open.
     NoSession,
@@ -117,10 +117,10 @@ impl fmt::Display for AskFault {
     ghost output = { λ fault. Some (ask_fault_text fault) };
 
     fn fmt<W: fmt::Write>(&self, f: &mut fmt::Formatter<W>) -> fmt::Result {
-        match self {
-            AskFault::NoSession => write!(f, "N1 NoSession"),
-            AskFault::Memory => write!(f, "out of memory"),
-        }
+        f.write_str(match self {
+            AskFault::NoSession => "N1 NoSession",
+            AskFault::Memory => "out of memory",
+        })
     }
 }
 

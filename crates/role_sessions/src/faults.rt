@@ -3,7 +3,7 @@ use std::fmt;
 
 /// Why a session isn't opened, a role isn't activated or a session isn't listed. Written as its code
 /// and its name.
-#[derive(Clone, Copy, Debug, PartialEq, Eq, Hash)]
+#[derive(Clone, Copy, Debug, PartialEq, Eq)]
 pub enum SessionFault {
     /// No session with this id is open.
     NoSession,
@@ -30,23 +30,23 @@ impl fmt::Display for SessionFault {
     ghost output = { λ fault. Some (session_fault_text fault) };
 
     fn fmt<W: fmt::Write>(&self, f: &mut fmt::Formatter<W>) -> fmt::Result {
-        match self {
-            SessionFault::NoSession => write!(f, "N1 NoSession"),
-            SessionFault::NotYours => write!(f, "N2 NotYours"),
-            SessionFault::TooManySessions => write!(f, "A1 TooManySessions"),
-            SessionFault::NoSuchRole => write!(f, "A2 NoSuchRole"),
-            SessionFault::NotAssigned => write!(f, "A3 NotAssigned"),
-            SessionFault::AlreadyActive => write!(f, "A4 AlreadyActive"),
-            SessionFault::TooManyRoles => write!(f, "A5 TooManyRoles"),
-            SessionFault::Memory => write!(f, "out of memory"),
-        }
+        f.write_str(match self {
+            SessionFault::NoSession => "N1 NoSession",
+            SessionFault::NotYours => "N2 NotYours",
+            SessionFault::TooManySessions => "A1 TooManySessions",
+            SessionFault::NoSuchRole => "A2 NoSuchRole",
+            SessionFault::NotAssigned => "A3 NotAssigned",
+            SessionFault::AlreadyActive => "A4 AlreadyActive",
+            SessionFault::TooManyRoles => "A5 TooManyRoles",
+            SessionFault::Memory => "out of memory",
+        })
     }
 }
 
 impl Error for SessionFault {}
 
 /// Why a role isn't dropped or a session isn't closed. Written as its code and its name.
-#[derive(Clone, Copy, Debug, PartialEq, Eq, Hash)]
+#[derive(Clone, Copy, Debug, PartialEq, Eq)]
 pub enum EndFault {
     /// No session with this id is open.
     NoSession,
@@ -63,11 +63,11 @@ impl fmt::Display for EndFault {
     ghost output = { λ fault. Some (end_fault_text fault) };
 
     fn fmt<W: fmt::Write>(&self, f: &mut fmt::Formatter<W>) -> fmt::Result {
-        match self {
-            EndFault::NoSession => write!(f, "N1 NoSession"),
-            EndFault::NotYours => write!(f, "N2 NotYours"),
-            EndFault::NotActive => write!(f, "A6 NotActive"),
-        }
+        f.write_str(match self {
+            EndFault::NoSession => "N1 NoSession",
+            EndFault::NotYours => "N2 NotYours",
+            EndFault::NotActive => "A6 NotActive",
+        })
     }
 }
 

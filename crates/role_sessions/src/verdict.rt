@@ -50,6 +50,6 @@ impl fmt::Display for Rule {
     ghost output = { λ rule. Some (rule_code rule) };
 
     fn fmt<W: fmt::Write>(&self, f: &mut fmt::Formatter<W>) -> fmt::Result {
-        write!(f, "{}", self.code())
+        f.write_str(self.code())
     }
 }
