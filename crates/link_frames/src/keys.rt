@@ -11,7 +11,7 @@ use std::marker::Model;
 /// Why there are no such keys. Written as its code and its name.
 #[derive(Clone, Copy, Debug, PartialEq, Eq)]
 pub enum KeyFault {
-    /// There is one key for each node.
+    /// There is not one key for each node.
     WrongCount,
     /// Memory ran out.
     Memory,

@@ -21,25 +21,25 @@ use std::fmt;
 /// Why bytes are no frame that this node opens. Written as its code and its name.
 #[derive(Clone, Copy, Debug, PartialEq, Eq)]
 pub enum LinkFault {
-    /// There are 52 bytes.
+    /// There are not 52 bytes.
     Length,
-    /// The version is 1.
+    /// The version is not 1.
     Version,
-    /// The cluster is the reader's.
+    /// The cluster is another than the reader's.
     Cluster,
-    /// The packet is sent to the reader.
+    /// The packet is sent to another than the reader.
     NotForMe,
-    /// The sender is a node.
+    /// The sender is no node of the cluster.
     NoSuchNode,
-    /// The tag is the HMAC of the fields, under the key that the sender and the reader share.
+    /// The tag is not the HMAC of the fields under the key that the sender and the reader share.
     BadTag,
-    /// The kind is one of three.
+    /// The kind is none of the three.
     BadKind,
-    /// The owner is a node.
+    /// The owner is no node of the cluster.
     BadOwner,
-    /// The command is one.
+    /// The bytes of the command are those of no command.
     BadCommand,
-    /// A SEND comes from its owner.
+    /// It is a SEND that comes from another than its owner.
     SendNotByOwner,
 }
 

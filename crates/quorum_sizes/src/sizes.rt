@@ -13,11 +13,11 @@ pub const MOST_NODES: u8 = 64;
 /// Why there are no such sizes. Written as its code and its name.
 #[derive(Clone, Copy, Debug, PartialEq, Eq)]
 pub enum SizeFault {
-    /// A cluster has a node at least.
+    /// There is no node.
     NoNodes,
-    /// A cluster has at most [`MOST_NODES`] nodes.
+    /// There are more than [`MOST_NODES`] nodes.
     TooMany,
-    /// Fewer than a third of the nodes may lie.
+    /// A third of the nodes may lie, or more.
     TooManyLiars,
 }
 

@@ -20,7 +20,7 @@ pub enum TableFault {
     NoSuchNode,
     /// The role is in the table already.
     Repeated,
-    /// A table has at most 1,024 roles.
+    /// The table has 1,024 roles already.
     TooManyRoles,
     /// Memory is wanting.
     Memory,

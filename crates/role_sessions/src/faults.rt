@@ -9,7 +9,7 @@ pub enum SessionFault {
     NoSession,
     /// The session is another user's.
     NotYours,
-    /// At most 4,096 sessions are open at once.
+    /// 4,096 sessions are open already.
     TooManySessions,
     /// The role isn't in the cluster's table.
     NoSuchRole,
@@ -17,7 +17,7 @@ pub enum SessionFault {
     NotAssigned,
     /// The role is active in the session already.
     AlreadyActive,
-    /// At most 64 roles are active in a session at once.
+    /// 64 roles are active in the session already.
     TooManyRoles,
     /// Memory is wanting.
     Memory,
