@@ -60,7 +60,8 @@ impl Streams {
     ///
     /// The clauses speak of every list of packets of which this is the state. A message counts exactly where
     /// none of that kind from that node was among them at that owner and place. An instance is made when its
-    /// first message is counted, and is kept for good.
+    /// first message is counted. When the stream has grown beyond its place, a compact record stands for it, for
+    /// good.
     ///
     /// # Errors
     ///
