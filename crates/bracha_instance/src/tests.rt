@@ -68,9 +68,9 @@ static TO_DELIVERY: [(Kind, u8, Command, Taken); 10] = [
 ];
 
 fn deliver(rt: &impl Abort, instance: &mut Instance) -> Result<(), Fail> {
-    for (kind, from, command, due) in &TO_DELIVERY {
-        let taken = taken(instance, *kind, *from, *command)?;
-        assert!(rt; taken == *due, "{kind:?} from {from}");
+    for (row, (kind, from, command, due)) in TO_DELIVERY.iter().enumerate() {
+        let came = taken(instance, *kind, *from, *command)?;
+        assert!(rt; came == *due, "row {row}: {due:?} is due, not {came:?}");
     }
     assert!(rt; instance.echoed() == Some(ASSIGN) && instance.readied() == Some(ASSIGN));
     assert!(rt; instance.delivered() == Some(ASSIGN));
@@ -90,11 +90,14 @@ static LATE_SEND: [(Kind, u8, Taken); 4] = [
 ];
 
 fn echo_late(rt: &impl Abort, instance: &mut Instance) -> Result<(), Fail> {
-    for (kind, from, due) in &LATE_SEND {
-        let taken = taken(instance, *kind, *from, ASSIGN)?;
-        assert!(rt; taken == *due, "{kind:?} from {from}");
+    for (row, (kind, from, due)) in LATE_SEND.iter().enumerate() {
+        let came = taken(instance, *kind, *from, ASSIGN)?;
+        assert!(rt; came == *due, "row {row}: {due:?} is due, not {came:?}");
         let name = name(*from)?;
-        assert!(rt; instance.voted(*kind, name) && !instance.voted(Kind::Echo, name));
+        assert!(rt;
+            instance.voted(*kind, name) && !instance.voted(Kind::Echo, name),
+            "row {row}"
+        );
     }
     Ok(())
 }
@@ -118,10 +121,11 @@ static KEPT: [(Kind, u8, Command, u16); 9] = [
 ];
 
 fn keep(rt: &impl Abort, instance: &mut Instance) -> Result<(), Fail> {
-    for (kind, from, command, kept) in &KEPT {
-        assert!(rt; instance.record().is_none());
+    for (row, (kind, from, command, due)) in KEPT.iter().enumerate() {
+        assert!(rt; instance.record().is_none(), "row {row}");
         taken(instance, *kind, *from, *command)?;
-        assert!(rt; instance.kept() == *kept, "{kind:?} from {from}");
+        let came = instance.kept();
+        assert!(rt; came == *due, "row {row}: {due} is due, not {came}");
     }
     Ok(())
 }
@@ -148,8 +152,9 @@ static TO_A_RECORD: [(Kind, Command, Taken); 3] = [
 fn a_record_takes_what_comes_late(rt: HostRuntime) -> Result<(), Fail> {
     let mut record = record_of_three(&mut Instance::new(rt.alloc()))?;
     let name = name(3)?;
-    for (kind, command, due) in &TO_A_RECORD {
-        assert!(rt; record.take(*kind, name, *command) == *due);
+    for (row, (kind, command, due)) in TO_A_RECORD.iter().enumerate() {
+        let came = record.take(*kind, name, *command);
+        assert!(rt; came == *due, "row {row}: {due:?} is due, not {came:?}");
     }
     assert!(rt; record.voted(Kind::Ready, name));
     assert!(rt; record.echoed() == Some(ASSIGN) && record.readied() == Some(ASSIGN));

@@ -45,15 +45,19 @@ fn requests(rt: HostRuntime) {
         ),
         (b"{\"op\":\"stop\"}", Request::Stop),
     ];
-    for (line, request) in cases {
-        assert!(rt; read(rt.alloc(), line) == Ok(request));
+    for (row, (line, request)) in cases.iter().enumerate() {
+        let came = read(rt.alloc(), line);
+        assert!(rt;
+            came == Ok(*request),
+            "row {row}: {request:?} is due, not {came:?}"
+        );
     }
 }
 
 #[test]
 fn refused_lines(rt: HostRuntime) {
     let user_range = LineFault::OutOfRange(Member::User);
-    let cases: [(&[u8], LineFault); 14] = [
+    let cases: [(&[u8], LineFault); 15] = [
         (b"", LineFault::NotJson),
         (b"\xff", LineFault::NotJson),
         (b"{\"op\":\"stop\"", LineFault::NotJson),
@@ -68,6 +72,7 @@ fn refused_lines(rt: HostRuntime) {
         (b"{\"op\":\"open\",\"user\":-1}", user_range),
         (b"{\"op\":\"open\",\"user\":\"7\"}", user_range),
         (b"{\"op\":\"open\",\"user\":null}", user_range),
+        (b"{\"op\":\"open\",\"user\":true}", user_range),
         (b"{\"op\":\"open\",\"user\":7.0}", user_range),
         (b"{\"op\":\"open\",\"user\":4294967296}", user_range),
         (
@@ -75,8 +80,12 @@ fn refused_lines(rt: HostRuntime) {
             LineFault::OutOfRange(Member::Owner),
         ),
     ];
-    for (line, fault) in cases {
-        assert!(rt; read(rt.alloc(), line) == Err(fault));
+    for (row, (line, fault)) in cases.iter().enumerate() {
+        let came = read(rt.alloc(), line);
+        assert!(rt;
+            came == Err(*fault),
+            "row {row}: {fault:?} is due, not {came:?}"
+        );
     }
 }
 

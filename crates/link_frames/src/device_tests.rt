@@ -54,8 +54,14 @@ fn is_written(alloc: Global, mishap: Mishap, calls: u64) -> bool {
 #[test]
 fn interruptions_are_waited_out(rt: HostRuntime) {
     for (mishap, calls, reads, writes) in &MISHAPS {
-        assert!(rt; is_read(*mishap, *calls) == *reads);
-        assert!(rt; is_written(rt.alloc(), *mishap, *calls) == *writes);
+        assert!(rt;
+            is_read(*mishap, *calls) == *reads,
+            "{mishap:?} of {calls} reads"
+        );
+        assert!(rt;
+            is_written(rt.alloc(), *mishap, *calls) == *writes,
+            "{mishap:?} of {calls} writes"
+        );
     }
 }
 
@@ -83,8 +89,9 @@ fn lines_are_read_ahead(rt: HostRuntime) -> Result<(), Fail> {
     let bytes = b"ab\ncdef\n\ng".as_slice();
     let mut reader = Watched::new(Faulty::new(bytes, Mishap::Short, 0, u64::MAX));
     let mut ahead = Ahead::new(rt.alloc());
-    for count in [Some(2), None, Some(0), Some(1), None] {
-        assert!(rt; use_next(&mut ahead, &mut reader, 3) == Ok(count));
+    for due in [Some(2), None, Some(0), Some(1), None] {
+        let came = use_next(&mut ahead, &mut reader, 3);
+        assert!(rt; came == Ok(due), "{due:?} is due, not {came:?}");
     }
 
     let mut broken = Watched::new(Faulty::new(bytes, Mishap::Fail, 0, 1));

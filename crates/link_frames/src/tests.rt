@@ -30,6 +30,24 @@ fn hmac_of_rfc_4231(rt: HostRuntime) {
     assert!(rt; hmac_sha256(&[0xaa; 131], text) == of_a_long_key);
 }
 
+/// The hash and the value are those of Python's hashlib and hmac.
+#[test]
+fn a_key_of_65_bytes_stands_for_its_hash(rt: HostRuntime) {
+    let hash = [
+        0xdc, 0xcc, 0x2b, 0xab, 0x3a, 0x78, 0xa6, 0x27, 0x22, 0x70, 0x11, 0x24, 0x4b, 0xf6, 0xf6,
+        0x65, 0x0d, 0x8a, 0xb5, 0xa3, 0xf2, 0x86, 0x88, 0x3a, 0xc0, 0x9b, 0x9e, 0x0b, 0xa0, 0x10,
+        0xa2, 0xa3,
+    ];
+    let due = [
+        0xc6, 0x29, 0x55, 0xa9, 0x69, 0x44, 0xff, 0x68, 0xde, 0xab, 0xbc, 0x0e, 0xab, 0x61, 0x92,
+        0x06, 0x5c, 0x1c, 0x55, 0xbb, 0x8d, 0xde, 0xe1, 0x61, 0x51, 0xed, 0x53, 0x37, 0xf9, 0x11,
+        0xea, 0xb9,
+    ];
+    let text = b"Test Using Larger Than Block-Size Key - Hash Key First";
+    assert!(rt; hmac_sha256(&[0xaa; 65], text) == due);
+    assert!(rt; hmac_sha256(&hash, text) == due);
+}
+
 /// The laboratory key of two nodes.
 fn lab_key(a: u8, b: u8) -> [u8; 32] {
     let mut key = [0; 32];
@@ -49,6 +67,18 @@ fn lab_keys(alloc: Global, sizes: &Sizes, me: NodeName) -> Result<PairKeys, KeyF
         me,
         &[lab_key(i, 0), lab_key(i, 1), lab_key(i, 2), lab_key(i, 3)],
     )
+}
+
+#[test]
+fn three_keys_for_four_nodes(rt: HostRuntime) -> Result<(), Fail> {
+    let sizes = Sizes::new(4, 1)?;
+    let me = sizes.name(1).ok_or("no name")?;
+    let keys = [lab_key(1, 0), lab_key(1, 1), lab_key(1, 2)];
+    let fault = PairKeys::new(rt.alloc(), &sizes, me, &keys).err();
+    assert!(rt; fault == Some(KeyFault::WrongCount));
+    let text = format!(in rt.alloc(); "{}", KeyFault::WrongCount)?;
+    assert!(rt; text.as_str() == "K1 WrongCount");
+    Ok(())
 }
 
 /// The first twenty bytes of the SEND from 0 to 1, in cluster 1, of `assign 7 2` at place 0.
@@ -129,14 +159,20 @@ fn refuse_before_the_tag(rt: &impl Abort, keys: &PairKeys, sizes: &Sizes)
 {
     let frame = tagged(0, 1, &FIELDS);
     assert!(rt; open_frame(keys, sizes, 1, cut(&frame, 51)) == Err(LinkFault::Length));
-    for (at, value, fault) in &BEFORE_THE_TAG {
-        let other = replaced(&frame, *at, *value);
-        assert!(rt; open_frame(keys, sizes, 1, &other) == Err(*fault));
+    for (row, (at, value, fault)) in BEFORE_THE_TAG.iter().enumerate() {
+        let came = open_frame(keys, sizes, 1, &replaced(&frame, *at, *value));
+        assert!(rt;
+            came == Err(*fault),
+            "row {row}: {fault:?} is due, not {came:?}"
+        );
     }
     for at in 7..52 {
         for mask in [1, 2, 4, 8, 16, 32, 64, 128] {
-            let other = replaced(&frame, at, frame[at] ^ mask);
-            assert!(rt; open_frame(keys, sizes, 1, &other) == Err(LinkFault::BadTag));
+            let came = open_frame(keys, sizes, 1, &replaced(&frame, at, frame[at] ^ mask));
+            assert!(rt;
+                came == Err(LinkFault::BadTag),
+                "byte {at} changed by {mask}: {came:?}"
+            );
         }
     }
 }
@@ -160,9 +196,13 @@ static BEHIND_THE_TAG: [(u8, usize, u8, LinkFault); 4] = [
 fn refuse_behind_the_tag(rt: &impl Abort, keys: &PairKeys, sizes: &Sizes)
     requires { keys.now.sizes ≡ sizes.now }
 {
-    for (from, at, value, fault) in &BEHIND_THE_TAG {
+    for (row, (from, at, value, fault)) in BEHIND_THE_TAG.iter().enumerate() {
         let frame = tagged(*from, 1, &altered(&FIELDS, *at, *value));
-        assert!(rt; open_frame(keys, sizes, 1, &frame) == Err(*fault));
+        let came = open_frame(keys, sizes, 1, &frame);
+        assert!(rt;
+            came == Err(*fault),
+            "row {row}: {fault:?} is due, not {came:?}"
+        );
     }
 }
 
@@ -192,6 +232,10 @@ fn frames_are_read(rt: HostRuntime) {
         (Mishap::Interrupt, u64::MAX, ReadFault::TooManyTurns, 1024),
     ] {
         let mut broken = Watched::new(Faulty::new(frame.as_slice(), mishap, 0, calls));
-        assert!(rt; read_frame(&mut broken) == Err(fault) && broken.faults() == faults);
+        let (came, count) = (read_frame(&mut broken), broken.faults());
+        assert!(rt;
+            came == Err(fault) && count == faults,
+            "{mishap:?}: {came:?} after {count}"
+        );
     }
 }

@@ -6,6 +6,7 @@ use link_frames::{Kind, Message, Packet, Place};
 use quorum_sizes::{NodeName, Sizes};
 use role_commands::Command;
 use std::alloc::Global;
+use std::fmt;
 use std::process::Abort;
 use std::test::Fail;
 
@@ -57,8 +58,8 @@ enum Act {
     Look(Place, Result<Effect, StreamFault>),
     Reach(u32),
     Command(Place, Option<Command>),
-    /// The commands of the ECHO and the READY that are sent again at a place.
-    Again(Place, Option<Command>, Option<Command>),
+    /// What is sent again at a place.
+    Again(Place, Again),
 }
 
 /// The streams of a node among four, of which one may lie. Node 0 is the owner of all packets.
@@ -97,33 +98,40 @@ impl Four {
         Ok(Packet::new(from, owner, message).ok_or("no packet")?)
     }
 
-    /// Whether the answer is the one that is due.
-    fn is_due(&mut self, act: &Act) -> Result<bool, Fail> {
+    /// Does the act of this row, whose answer must be the one that is due.
+    fn check_act(&mut self, rt: &impl Abort, row: usize, act: &Act) -> Result<(), Fail> {
         match act {
             Act::Take(kind, from, place, command, due) => {
                 let packet = self.packet(*kind, *from, *place, *command)?;
-                Ok(self.streams.take(&packet) == due.answer(*command))
+                let came = self.streams.take(&packet);
+                check_row(rt, row, &came, &due.answer(*command));
             }
             Act::Look(place, due) => {
                 let packet = self.packet(Kind::Ready, 3, *place, FIRST)?;
-                Ok(self.streams.look(&packet) == *due)
+                check_row(rt, row, &self.streams.look(&packet), due);
             }
-            Act::Reach(due) => Ok(self.streams.reach(self.owner) == *due),
-            Act::Command(place, due) => Ok(self.streams.command(self.owner, *place) == *due),
-            Act::Again(place, echo, ready) => {
-                let again = self.streams.again(self.owner, *place);
-                Ok(again.echo == *echo && again.ready == *ready)
+            Act::Reach(due) => check_row(rt, row, &self.streams.reach(self.owner), due),
+            Act::Command(place, due) => {
+                check_row(rt, row, &self.streams.command(self.owner, *place), due);
             }
-        }
-    }
-
-    fn run(&mut self, rt: &impl Abort, acts: &[Act]) -> Result<(), Fail> {
-        for act in acts {
-            let is_due = self.is_due(act)?;
-            assert!(rt; is_due);
+            Act::Again(place, due) => {
+                check_row(rt, row, &self.streams.again(self.owner, *place), due);
+            }
         }
         Ok(())
     }
+
+    fn run(&mut self, rt: &impl Abort, acts: &[Act]) -> Result<(), Fail> {
+        for (row, act) in acts.iter().enumerate() {
+            self.check_act(rt, row, act)?;
+        }
+        Ok(())
+    }
+}
+
+/// What came in a row must be what is due.
+fn check_row<T: PartialEq + fmt::Debug>(rt: &impl Abort, row: usize, came: &T, due: &T) {
+    assert!(rt; came == due, "row {row}: {due:?} is due, not {came:?}");
 }
 
 /// From empty streams on.
@@ -168,11 +176,23 @@ static LATE: [Act; 9] = [
     Act::Take(Kind::Ready, 0, 0, FIRST, Due::Counts(0)),
     Act::Take(Kind::Ready, 2, 0, FIRST, Due::Sends(Kind::Ready, 0)),
     Act::Take(Kind::Ready, 3, 0, FIRST, Due::Delivers(0, 1)),
-    Act::Again(0, None, Some(FIRST)),
+    Act::Again(
+        0,
+        Again {
+            echo: None,
+            ready: Some(FIRST),
+        },
+    ),
     Act::Take(Kind::Ready, 1, 0, SECOND, Due::Counts(1)),
     Act::Take(Kind::Ready, 1, 0, SECOND, Due::Idles(1)),
     Act::Take(Kind::Send, 0, 0, FIRST, Due::Sends(Kind::Echo, 1)),
-    Act::Again(0, Some(FIRST), Some(FIRST)),
+    Act::Again(
+        0,
+        Again {
+            echo: Some(FIRST),
+            ready: Some(FIRST),
+        },
+    ),
     Act::Command(0, Some(FIRST)),
 ];
 

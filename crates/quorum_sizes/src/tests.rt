@@ -11,21 +11,26 @@ fn quorums(rt: HostRuntime) -> Result<(), Fail> {
     ] {
         let sizes = Sizes::new(row[0], row[1])?;
         let [echo, amplify, deliver] = [sizes.echo_quorum(), sizes.amplify(), sizes.deliver()];
-        assert!(rt; [sizes.n(), sizes.f(), echo, amplify, deliver] == row);
+        let came = [sizes.n(), sizes.f(), echo, amplify, deliver];
+        assert!(rt; came == row, "{row:?} is due, not {came:?}");
     }
     Ok(())
 }
 
 #[test]
 fn refusals(rt: HostRuntime) {
-    for (n, f, fault) in [
+    for (n, f, due) in [
         (3, 1, SizeFault::TooManyLiars),
         (65, 0, SizeFault::TooMany),
         (65, 30, SizeFault::TooMany),
         (0, 0, SizeFault::NoNodes),
         (0, 5, SizeFault::NoNodes),
     ] {
-        assert!(rt; Sizes::new(n, f) == Err(fault));
+        let came = Sizes::new(n, f);
+        assert!(rt;
+            came == Err(due),
+            "{f} of {n}: {due:?} is due, not {came:?}"
+        );
     }
 }
 

@@ -1,7 +1,8 @@
 use super::*;
 use quorum_sizes::Sizes;
 use role_commands::{Command, RoleTable};
-use std::alloc::{AllocError, Global};
+use std::alloc::Global;
+use std::fmt;
 use std::process::Abort;
 use std::test::Fail;
 
@@ -31,24 +32,49 @@ enum Listing {
     UserOperations(u32, u32, &'static [u16]),
 }
 
-/// Whether the policy lists just that.
-fn lists(policy: &Policy, listing: &Listing) -> Result<bool, AllocError> {
+/// What is listed in a row must be what is due.
+fn check_row<T: PartialEq + fmt::Debug>(rt: &impl Abort, row: usize, came: &[T], due: &[T]) {
+    assert!(rt; came == due, "row {row}: {due:?} is due, not {came:?}");
+}
+
+/// The policy must list just that.
+fn check_listing(
+    rt: &impl Abort,
+    policy: &Policy,
+    row: usize,
+    listing: &Listing,
+) -> Result<(), Fail> {
     match listing {
-        Listing::Users(role, due) => Ok(policy.assigned_users(*role)?.as_slice() == *due),
-        Listing::Roles(user, due) => Ok(policy.assigned_roles(*user)?.as_slice() == *due),
-        Listing::RolePermissions(role, due) => Ok(
-            policy.role_permissions(*role)?.as_slice() == *due,
-        ),
-        Listing::UserPermissions(user, due) => Ok(
-            policy.user_permissions(*user)?.as_slice() == *due,
-        ),
+        Listing::Users(role, due) => {
+            check_row(rt, row, policy.assigned_users(*role)?.as_slice(), due)
+        }
+        Listing::Roles(user, due) => {
+            check_row(rt, row, policy.assigned_roles(*user)?.as_slice(), due)
+        }
+        Listing::RolePermissions(role, due) => {
+            check_row(rt, row, policy.role_permissions(*role)?.as_slice(), due)
+        }
+        Listing::UserPermissions(user, due) => {
+            check_row(rt, row, policy.user_permissions(*user)?.as_slice(), due)
+        }
         Listing::RoleOperations(role, object, due) => {
-            Ok(policy.role_operations(*role, *object)?.as_slice() == *due)
+            check_row(
+                rt,
+                row,
+                policy.role_operations(*role, *object)?.as_slice(),
+                due,
+            )
         }
         Listing::UserOperations(user, object, due) => {
-            Ok(policy.user_operations(*user, *object)?.as_slice() == *due)
+            check_row(
+                rt,
+                row,
+                policy.user_operations(*user, *object)?.as_slice(),
+                due,
+            )
         }
     }
+    Ok(())
 }
 
 fn assign(user: u32, role: u16) -> Command {
@@ -93,9 +119,8 @@ fn example(alloc: Global) -> Result<Policy, Fail> {
 }
 
 fn list_all(rt: &impl Abort, policy: &Policy, listings: &[Listing]) -> Result<(), Fail> {
-    for listing in listings {
-        let is_listed = lists(policy, listing)?;
-        assert!(rt; is_listed);
+    for (row, listing) in listings.iter().enumerate() {
+        check_listing(rt, policy, row, listing)?;
     }
     Ok(())
 }

@@ -30,8 +30,10 @@ fn words(rt: HostRuntime) -> Result<(), Fail> {
             },
         ),
     ] {
-        assert!(rt; print_command(rt.alloc(), &command)?.as_str() == text);
-        assert!(rt; parse_command(text) == Some(command));
+        let printed = print_command(rt.alloc(), &command)?;
+        assert!(rt; printed.as_str() == text, "{text} is due, not {printed}");
+        let parsed = parse_command(text);
+        assert!(rt; parsed == Some(command), "{text} is read as {parsed:?}");
     }
     Ok(())
 }
@@ -50,7 +52,8 @@ fn no_commands(rt: HostRuntime) -> Result<(), Fail> {
         "grant 2 5",
         "assign +7 2",
     ] {
-        assert!(rt; parse_command(text).is_none());
+        let parsed = parse_command(text);
+        assert!(rt; parsed.is_none(), "'{text}' is read as {parsed:?}");
     }
     Ok(())
 }
@@ -92,15 +95,21 @@ fn bytes(rt: HostRuntime) -> Result<(), Fail> {
             },
         ),
     ] {
-        assert!(rt; encode(&command) == bytes);
-        assert!(rt; decode(&bytes) == Some(command));
+        let encoded = encode(&command);
+        assert!(rt; encoded == bytes, "{bytes:?} are due, not {encoded:?}");
+        let decoded = decode(&bytes);
+        assert!(rt;
+            decoded == Some(command),
+            "{bytes:?} are read as {decoded:?}"
+        );
     }
     for bytes in [
         [1, 0, 2, 0, 0, 0, 7, 0, 1],
         [5, 0, 2, 0, 0, 0, 7, 0, 0],
         [0; 9],
     ] {
-        assert!(rt; decode(&bytes).is_none());
+        let decoded = decode(&bytes);
+        assert!(rt; decoded.is_none(), "{bytes:?} are read as {decoded:?}");
     }
     Ok(())
 }
@@ -116,7 +125,11 @@ fn tables(rt: HostRuntime) -> Result<(), Fail> {
         (3, 4, Err(TableFault::NoSuchNode)),
         (2, 4, Err(TableFault::NoSuchNode)),
     ] {
-        assert!(rt; table.add(role, owner) == due);
+        let came = table.add(role, owner);
+        assert!(rt;
+            came == due,
+            "role {role} of {owner}: {due:?} is due, not {came:?}"
+        );
     }
     let copy = table.copy(rt.alloc())?;
     let first = sizes.name(0).ok_or("no name")?;
@@ -129,7 +142,7 @@ fn tables(rt: HostRuntime) -> Result<(), Fail> {
 fn full_table(rt: HostRuntime) -> Result<(), Fail> {
     let mut table = RoleTable::new(rt.alloc(), Sizes::new(1, 0)?);
     for role in 0..1024 {
-        assert!(rt; table.add(role, 0).is_ok());
+        assert!(rt; table.add(role, 0).is_ok(), "role {role}");
     }
     assert!(rt; table.add(1024, 0) == Err(TableFault::TooManyRoles));
     assert!(rt; table.add(1023, 0) == Err(TableFault::Repeated));

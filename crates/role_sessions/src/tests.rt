@@ -3,6 +3,7 @@ use quorum_sizes::{NodeName, Sizes};
 use rbac_state::Policy;
 use role_commands::{Command, RoleTable};
 use std::alloc::Global;
+use std::fmt;
 use std::marker::Model;
 use std::process::Abort;
 use std::test::Fail;
@@ -35,6 +36,11 @@ enum Step {
     ManySessions,
     /// User 7 gets the roles 0 to 64, of which the last does not become active in session 1.
     ManyRoles,
+}
+
+/// What came in a row must be what is due.
+fn check_row<T: PartialEq + fmt::Debug>(rt: &impl Abort, row: usize, came: &T, due: &T) {
+    assert!(rt; came == due, "row {row}: {due:?} is due, not {came:?}");
 }
 
 /// A policy with its sessions, whose kept answers are right.
@@ -87,28 +93,39 @@ impl Bench {
         self.sessions.open(user)
     }
 
-    /// Whether the answer is the one that is due.
-    fn is_due(&mut self, step: &Step) -> Result<bool, Fail> {
+    /// Takes the step of this row, whose answer must be the one that is due.
+    fn check_step(&mut self, rt: &impl Abort, row: usize, step: &Step) -> Result<(), Fail> {
         match step {
-            Step::Apply(command) => {
-                self.apply(*command)?;
-                Ok(true)
-            }
-            Step::Open(user, due) => Ok(self.open(*user) == *due),
+            Step::Apply(command) => self.apply(*command)?,
+            Step::Open(user, due) => check_row(rt, row, &self.open(*user), due),
             Step::Activate(session, user, role, due) => {
-                Ok(self.sessions.activate(&self.policy, *session, *user, *role) == *due)
+                let came = self.sessions.activate(&self.policy, *session, *user, *role);
+                check_row(rt, row, &came, due)
             }
             Step::DropRole(session, user, role, due) => {
-                Ok(self.sessions.drop_role(*session, *user, *role) == *due)
+                check_row(
+                    rt,
+                    row,
+                    &self.sessions.drop_role(*session, *user, *role),
+                    due,
+                )
             }
-            Step::Close(session, user, due) => Ok(self.sessions.close(*session, *user) == *due),
+            Step::Close(session, user, due) => {
+                check_row(rt, row, &self.sessions.close(*session, *user), due)
+            }
             Step::Check(session, user, due) => {
-                Ok(self.sessions.check(&self.policy, *session, *user, 5, 9) == *due)
+                check_row(
+                    rt,
+                    row,
+                    &self.sessions.check(&self.policy, *session, *user, 5, 9),
+                    due,
+                )
             }
-            Step::Listed => Ok(self.is_listed()? && self.may()),
-            Step::ManySessions => Ok(self.opens_many()),
-            Step::ManyRoles => self.activates_many(),
+            Step::Listed => check_row(rt, row, &(self.is_listed()? && self.may()), &true),
+            Step::ManySessions => check_row(rt, row, &self.opens_many(), &true),
+            Step::ManyRoles => check_row(rt, row, &self.activates_many()?, &true),
         }
+        Ok(())
     }
 
     fn is_listed(&self) -> Result<bool, Fail> {
@@ -150,9 +167,8 @@ impl Bench {
     }
 
     fn run(&mut self, rt: &impl Abort, steps: &[Step]) -> Result<(), Fail> {
-        for step in steps {
-            let is_due = self.is_due(step)?;
-            assert!(rt; is_due);
+        for (row, step) in steps.iter().enumerate() {
+            self.check_step(rt, row, step)?;
         }
         Ok(())
     }
