@@ -14,5 +14,6 @@ pub mod Lines
 pub mod Nexts
 pub mod Opening
 pub mod Packets
+pub mod Pads
 pub mod Texts
 pub mod Watching

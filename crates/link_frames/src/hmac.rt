@@ -1,7 +1,9 @@
-ghost use Rattle.std.specs.Prelude.{◌≡◌, ◌^◌, ◌<◌, length};
+ghost use Rattle.std.specs.Prelude.{◌≡◌, ◌^◌, ◌<◌, List, ℕ, length};
 ghost use Rattle.link_frames.specs.Hmac.{padded_key, xor_each, hmac};
+ghost use Rattle.link_frames.specs.Pads.{AfterPads};
 
 use sha2::{Digest, Sha256};
+use std::marker::Model;
 
 /// The bytes of a block of SHA-256.
 const BLOCK_LEN: usize = 64;
@@ -29,20 +31,76 @@ fn padded_by(pad: u8, block: &[u8; BLOCK_LEN]) -> [u8; BLOCK_LEN]
     padded
 }
 
+/// SHA-256 after the key's inner pad, and after its outer pad.
+fn after_pads(key: &[u8]) -> (Sha256, Sha256)
+    ensures { AfterPads key.now result.0 result.1 }
+{
+    let block = key_block(key);
+    let mut inner = Sha256::new();
+    inner.update(&padded_by(0x36, &block));
+    let mut outer = Sha256::new();
+    outer.update(&padded_by(0x5c, &block));
+    (inner, outer)
+}
+
+/// The HMAC of the text under the key whose pads were taken.
+#[tactic(auto, unfolding(crate::specs::Hmac::hmac))]
+fn finished(mut inner: Sha256, mut outer: Sha256, text: &[u8]) -> [u8; 32]
+    ensures { (key : List ℕ) → AfterPads key inner outer → result ≡ hmac key text.now }
+{
+    inner.update(text);
+    outer.update(&inner.finalize());
+    outer.finalize()
+}
+
 /// The HMAC of the text under the key, with SHA-256 (RFC 2104, FIPS 180-4). Keys may have every
 /// length. It takes no memory.
-#[tactic(auto, unfolding(crate::specs::Hmac::hmac))]
 pub fn hmac_sha256(key: &[u8], text: &[u8]) -> [u8; 32]
     requires key { length key.now < 2 ^ 60 }
     requires text { length text.now < 2 ^ 60 }
     ensures { result ≡ hmac key.now text.now }
 {
-    let block = key_block(key);
-    let mut inner = Sha256::new();
-    inner.update(&padded_by(0x36, &block));
-    inner.update(text);
-    let mut outer = Sha256::new();
-    outer.update(&padded_by(0x5c, &block));
-    outer.update(&inner.finalize());
-    outer.finalize()
+    let (inner, outer) = after_pads(key);
+    finished(inner, outer, text)
+}
+
+/// A key, with SHA-256 after each of its pads, so that its tags do not hash the pads anew.
+#[derive(Drop)]
+pub(crate) struct PreparedKey {
+    key: [u8; 32],
+    inner: Sha256,
+    outer: Sha256,
+}
+
+impl Model for PreparedKey {
+    ghost Value = { List ℕ };
+
+    ghost view = { λ a. a.key };
+
+    ghost invariant = { λ a. AfterPads a.key a.inner a.outer };
+}
+
+impl PreparedKey {
+    /// The key, prepared.
+    pub(crate) fn new(key: &[u8; 32]) -> PreparedKey
+        ensures { result ≡ key.now }
+    {
+        let (inner, outer) = after_pads(key);
+        PreparedKey {
+            key: *key,
+            inner,
+            outer,
+        }
+    }
+
+    /// The HMAC of the text under the key, with SHA-256. It takes no memory.
+    pub(crate) fn tag(&self, text: &[u8]) -> [u8; 32]
+        ensures { result ≡ hmac self.now text.now }
+    {
+        finished(
+            self.inner.clone().unwrap(),
+            self.outer.clone().unwrap(),
+            text,
+        )
+    }
 }

@@ -2,6 +2,7 @@ ghost use Rattle.std.specs.Prelude.{◌≡◌, ◌<◌};
 ghost use Rattle.link_frames.specs.KeyRings.{key_with};
 ghost use Rattle.link_frames.specs.Keys.{KeysDue};
 
+use crate::hmac::PreparedKey;
 use quorum_sizes::{NodeName, Sizes};
 use std::alloc::{AllocError, Global};
 use std::error::Error;
@@ -49,7 +50,7 @@ impl From<AllocError> for KeyFault {
 pub struct PairKeys {
     me: NodeName,
     sizes: Sizes,
-    keys: Vec<[u8; 32]>,
+    keys: Vec<PreparedKey>,
 }
 
 impl Model for PairKeys {
@@ -80,7 +81,7 @@ impl PairKeys {
         if keys.len() != usize::from(sizes.n()) {
             return Err(KeyFault::WrongCount);
         }
-        let keys = keys.to_vec(alloc)?;
+        let keys = keys.iter().map(PreparedKey::new).collect(alloc)?;
         Ok(PairKeys {
             me,
             sizes: *sizes,
@@ -96,7 +97,7 @@ impl PairKeys {
     }
 
     /// The key that is shared with a node.
-    pub(crate) fn key(&self, node: NodeName) -> &[u8; 32]
+    pub(crate) fn key(&self, node: NodeName) -> &PreparedKey
         requires { node < self.now.sizes.nodes }
         ensures { result.now ≡ key_with self.now node }
     {

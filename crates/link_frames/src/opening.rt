@@ -5,7 +5,6 @@ ghost use Rattle.role_commands.specs.Bytes.{part};
 ghost use Rattle.link_frames.specs.Opening.{kind_in, packet_in, open_due};
 ghost use Rattle.link_frames.specs.Packets.{PacketValue};
 
-use crate::hmac::hmac_sha256;
 use crate::keys::PairKeys;
 use crate::kind::Kind;
 use crate::layout::{
@@ -118,7 +117,7 @@ fn open_bytes(
     };
     let tag: [u8; TAG_LEN] = part_of(bytes, TAG_AT);
     let fields: [u8; TAG_AT] = part_of(bytes, 0);
-    if !is_same_tag(&tag, &hmac_sha256(keys.key(from), &fields)) {
+    if !is_same_tag(&tag, &keys.key(from).tag(&fields)) {
         return Err(LinkFault::BadTag);
     }
     read_packet(sizes, from, me, bytes)

@@ -2,7 +2,6 @@ ghost use Rattle.std.specs.Prelude.{◌≡◌, ◌<◌, ◌++◌};
 ghost use Rattle.link_frames.specs.Frames.{header, fields_of, frame};
 ghost use Rattle.link_frames.specs.KeyRings.{key_with};
 
-use crate::hmac::hmac_sha256;
 use crate::keys::PairKeys;
 use crate::kind::Kind;
 use crate::layout::{COMMAND_AT, FRAME_LEN, TAG_AT, TAG_LEN, VERSION};
@@ -18,7 +17,7 @@ pub fn seal(keys: &PairKeys, cluster: u32, packet: &Packet) -> [u8; FRAME_LEN]
     ensures { result ≡ frame (key_with keys.now packet.now.to) cluster packet.now }
 {
     let fields = field_bytes(cluster, packet);
-    let tag = hmac_sha256(keys.key(packet.to()), &fields);
+    let tag = keys.key(packet.to()).tag(&fields);
     joined(&fields, &tag)
 }
 
