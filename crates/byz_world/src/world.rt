@@ -1,5 +1,5 @@
 ghost use Rattle.std.specs.Prelude.{◌≡◌, ℕ, ◌<◌, ◌≤◌, ◌*◌, ◌++◌, ◌∷◌, [], List, length, not, nat_lt, ◌&&◌};
-ghost use Rattle.std.specs.Prelude.{slice_get, IfOk, OnOk, OnErr, Ok, Some, IsTrue, ◌↔◌, if◌then◌else◌};
+ghost use Rattle.std.specs.Prelude.{slice_get, min, IfOk, IfSome, OnOk, OnErr, Ok, Some, IsTrue, ◌↔◌, if◌then◌else◌};
 ghost use Rattle.std.specs.Option.{option_copied};
 ghost use Rattle.std.specs.Vec.{vec_len, vec_capacity};
 ghost use Rattle.quorum_sizes.specs.Sizes.{AreSizes};
@@ -16,6 +16,7 @@ ghost use Rattle.byz_world.specs.Worlds.{new_world, is_correct_in, node_due};
 ghost use Rattle.byz_world.specs.Steps.{arrival, opened_at, unless_forged, arrives, is_forged, is_pool_full};
 ghost use Rattle.byz_world.specs.Steps.{with_run, adds, after_step, after_steps, IsStepAnswer};
 ghost use Rattle.byz_world.specs.Agreement.{agree_due};
+ghost use Rattle.byz_world.specs.Laws.{reach_of};
 ghost use Rattle.byz_world.specs.Resting.{IsAtRest};
 ghost use Rattle.byz_world.specs.Asking.{IsMade, IsQuestionAnswer, decision_due};
 ghost use Rattle.byz_world.specs.Inside.{MayHappen, MayArrive, told_of};
@@ -403,7 +404,8 @@ impl World {
         operation: u16,
         object: u32,
     ) -> Option<Verdict>
-        ensures decision { result ≡ decision_due self.old name session user operation object }
+        ensures decision { let w = self.old in
+            result ≡ decision_due w.config w.liars w.run name session user operation object }
         ensures same { self.new ≡ self.old }
     {
         if !self.is_correct(name) {
@@ -470,7 +472,9 @@ impl World {
     /// How far two correct nodes' streams of an owner agree: the length of the longest list that both begin with.
     /// `None` where one is no correct node or the owner is no node.
     pub fn agree(&self, i: NodeName, j: NodeName, owner: NodeName) -> Option<u32>
-        ensures { result ≡ agree_due self.now i j owner }
+        ensures due { result ≡ agree_due self.now i j owner }
+        ensures least { IfSome result (λ length. let w = self.now in
+            length ≡ min (reach_of w.config w.run i owner) (reach_of w.config w.run j owner)) }
     {
         let (Some(a), Some(b)) = (self.node(i), self.node(j)) else {
             return None;
