@@ -6,7 +6,7 @@
 --     pool-length      how many packets the messages of a run are
 --     consistency, integrity, same_policy, at_rest      the laws of every run, or of one at rest
 --     ready_for_one ..      their parts, of a run with what is known of it; `taken_by` is what a node took at a place
-pub use Rattle.byz_world.proofs.Pooled.{sent_is_pooled, pooled_is_sent, IsPooled, has_sent_is}
+pub use Rattle.byz_world.proofs.Pooled.{sent_is_pooled, pooled_is_sent, pool_is_what_was_sent, has_sent_is}
 pub use Rattle.byz_world.proofs.Pooled.{is_has_sent, has_sent_stays, recorded_after}
 pub use Rattle.byz_world.proofs.Numbering.{pool-length}
 pub use Rattle.byz_world.proofs.Pushing.{history_of-append, history_of-none, history_of-own, history_of-other}

@@ -1,7 +1,7 @@
 -- The promise, from the laws of every run and the rules of a decision.
 use Rattle.std.proofs.Common.{◌≡◌, ◌≢◌, ℕ, zero, suc, Bool, true, false, not, ◌==◌, if◌then◌else◌}
 use Rattle.std.proofs.Common.{List, [], ◌∷◌, length, take, find, filter, slice_get, Contains, Option}
-use Rattle.std.proofs.Common.{Some, None, refl, sym, ap, ◌∙◌, subst, ◌≤◌, arith, eqb-true, subst₂, All}
+use Rattle.std.proofs.Common.{Some, None, refl, sym, ap, ◌∙◌, subst, ◌≤◌, arith, eqb-true, subst₂, All, IsSomeAnd}
 use Rattle.std.proofs.lemmas.Bool.{not-true, not-false, eqb-false, ltb-false}
 use Rattle.role_commands.specs.declared.command.Command.{Command}
 use Rattle.role_sessions.specs.Sessions.{Session}
@@ -169,15 +169,21 @@ run_of_steps config liars steps sizes few sound =
     let is = after_steps_runs w steps (empty_run config liars sizes (ltb-false _ _ few)) (each_sound steps sound) in
     subst₂ (λ c l. IsClusterRun c l (after_steps w steps).run) (config_stays w steps) (liars_stay w steps) is
 
+-- what is right of a correct node's decision is right of what it answers
+answered : {b : Bool} (P : Verdict → Type 0) (v : Verdict) → b ≡ true → P v → IsSomeAnd (if b then Some v else None) P
+answered {b} P v correct right = subst (λ t. IsSomeAnd (if t then Some v else None) P) (sym correct) right
+
 pub headline : Headline
 headline config liars steps sizes few are =
     let run = (after_steps (new_world config liars) steps).run in
     let cluster : IsClusterRun config liars run = run_of_steps config liars steps sizes few are in
     record {
       is_run = cluster;
-      decisions = λ node session user operation object _.
-          right_decision (relations_at config.roles (history_of node run)) user operation object
-          (session_at (history_of node run) session);
+      decisions = λ node session user operation object correct.
+          let relations = relations_at config.roles (history_of node run) in
+          let found = session_at (history_of node run) session in
+          answered _ (verdict relations found user operation object) correct
+          (right_decision relations user operation object found);
       streams_agree = λ i j owner _ _.
           alike _ (stream_of config run i owner) (stream_of config run j owner) (omega arith) (omega arith)
           (λ k c d e f.

@@ -35,7 +35,8 @@ use Rattle.byz_world.proofs.Lists.{IsIn, IsFront, IsPicked, picked_from, is_pick
 use Rattle.byz_world.proofs.Lists.{found_there, front_taken, front_picked}
 use Rattle.byz_world.proofs.Histories.{taken_by, taken_whole, IsTakenIn, taken_in, routed}
 use Rattle.byz_world.proofs.Votes.{IsFound, vote_found, said_by, said_stays, sent_before}
-use Rattle.byz_world.proofs.Pooled.{has_sent_is, IsPooled}
+use Rattle.byz_world.specs.Pools.{WasSent}
+use Rattle.byz_world.proofs.Pooled.{has_sent_is}
 
 -- The outlook of a packet.
 
@@ -191,7 +192,7 @@ taken_is_idle config me history p legal c =
 
 pub idle_is_taken : (config : ConfigValue) (liars : Nodes) (run : Run) (p : PacketValue)
     → IsClusterRun config liars run →
-    IsPooled config liars run p → is_idle (outlook config p.to (history_of p.to run) (event.Take p)) ≡ true →
+    WasSent config liars run p → is_idle (outlook config p.to (history_of p.to run) (event.Take p)) ≡ true →
     Contains (packets (history_of p.to run)) p
 unfolding packets
 idle_is_taken config liars run p is pooled idle =

@@ -19,6 +19,7 @@ pub mod Computed
 pub mod Example
 pub mod ExampleRests
 pub mod Headline
+pub mod Limits
 pub mod Idle
 pub mod Telling
 pub mod Stepping

@@ -26,7 +26,8 @@ use Rattle.role_node.specs.Answers.{answer_due, is_recorded, IsLegal}
 use Rattle.role_node.specs.Configs.{ConfigValue}
 use Rattle.role_node.specs.declared.event.Event.{Event}
 use Rattle.byz_world.specs.Runs.{Run, history_of, is_correct, of_kind, has_sent, IsClusterRun}
-use Rattle.byz_world.specs.Pools.{Sent, listed, sent_by_answer, sends_next, messages_after, messages, packets_of, pool}
+use Rattle.byz_world.specs.Pools.{Sent, listed, sent_by_answer, sends_next, messages_after, messages, packets_of, pool, WasSent}
+use Rattle.byz_world.specs.Laws.{PoolIsWhatWasSent}
 use Rattle.byz_world.proofs.Elements.{at_seam, number_of, contained, contains_listed}
 use Rattle.byz_world.proofs.Elements.{listed_contains, contains_flat, flat_contains}
 use Rattle.byz_world.proofs.Sending.{said, said_stays, said_newly, answered_is_said}
@@ -272,24 +273,24 @@ sent_is_pooled config liars run node to m is sent h =
     (sent_is_message config run node m (is.legal node) sent) (to_each node to config.roles.sizes.nodes m h)
 
 -- a packet of the pool is from a correct node, to a node, and was sent
-pub record IsPooled (config : ConfigValue) (liars : Nodes) (run : Run) (p : PacketValue) : Type 0 where
-  pub from : IsTrue (is_correct config.roles.sizes liars p.from)
-  pub to : p.to < config.roles.sizes.nodes
-  pub sent : IsTrue (has_sent config.roles.sizes run p.from (message_of p))
-
 pub pooled_is_sent : (config : ConfigValue) (liars : Nodes) (run : Run) (p : PacketValue)
     → IsClusterRun config liars run →
-    Contains (pool config run) p → IsPooled config liars run p
+    Contains (pool config run) p → WasSent config liars run p
 unfolding pool
 pooled_is_sent config liars run p is c =
     let found = contains_flat (packets_of config.roles.sizes.nodes) (messages config run) p c in
     let sent : Sent = found.0 in
     let at = number_of (packets_of config.roles.sizes.nodes sent) p found.2 in
     let to = number_in config.roles.sizes.nodes sent at.0 p at.1 in
-    let P : PacketValue → Type 0 = λ q. IsPooled config liars run q in
+    let P : PacketValue → Type 0 = λ q. WasSent config liars run q in
     subst P to.1
     (record {
       from = sender_is_correct config liars run sent is found.1;
       to = to.0;
       sent = message_is_sent config run sent found.1;
     })
+
+pub pool_is_what_was_sent : PoolIsWhatWasSent
+pool_is_what_was_sent config liars run p is =
+    (pooled_is_sent config liars run p is, λ was. sent_is_pooled config liars run p.from p.to (message_of p) is was.sent
+    was.to)

@@ -14,7 +14,7 @@ use Rattle.role_node.specs.declared.event.Reply.{Reply}
 use Rattle.role_node.specs.declared.event.Reply.TheVariants as reply
 use Rattle.role_node.specs.declared.faults.NodeFault.{NodeFault}
 use Rattle.byz_world.specs.Runs.{history_of, has_sent, IsClusterRun}
-use Rattle.byz_world.specs.Pools.{pool}
+use Rattle.byz_world.specs.Pools.{pool, WasSent}
 use Rattle.byz_world.specs.Worlds.{WorldValue, node_in, is_correct_in}
 use Rattle.byz_world.specs.Steps.{Arrival, arrival, arrives, given, unless_forged, opened_at, of_opened}
 use Rattle.byz_world.specs.Steps.{is_pool_full, is_forged, of_reply, of_answer, answer_of, step_due}
@@ -29,7 +29,7 @@ use Rattle.byz_world.specs.declared.step.StepReply.TheVariants.{Absorbed, Node}
 use Rattle.byz_world.specs.declared.faults.WorldFault.{WorldFault}
 use Rattle.byz_world.specs.declared.faults.WorldFault.TheVariants as fault
 use Rattle.byz_world.proofs.Elements.{contained}
-use Rattle.byz_world.proofs.Pooled.{IsPooled, pooled_is_sent}
+use Rattle.byz_world.proofs.Pooled.{pooled_is_sent}
 use Rattle.byz_world.proofs.Telling.{pooled_is_own}
 use Rattle.byz_world.proofs.Growing.{cluster_run_push}
 use Rattle.byz_world.proofs.Opened.{opened_is_own}
@@ -300,7 +300,7 @@ pub given_may : (w : WorldValue) (o : Option PacketValue) (k : ℕ) (q : ℕ × 
     slice_get (pool w.config w.run) k ≡ o → given w o ≡ Ok (Some q) → MayBe w q
 given_may w None k q is at e = absurd cc
 given_may w (Some p) k q is at e =
-    let pooled : IsPooled w.config w.liars w.run p =
+    let pooled : WasSent w.config w.liars w.run p =
     pooled_is_sent w.config w.liars w.run p is (contained (pool w.config w.run) k p at) in
     taken_may w p q (pooled_is_own w.config w.liars w.run p is (contained (pool w.config w.run) k p at))
     (λ correct. pooled.sent) e

@@ -28,6 +28,7 @@ use Rattle.bracha_instance.specs.Broadcast.{is_for}
 use Rattle.byz_world.specs.Steps.{is_forged}
 use Rattle.byz_world.specs.Agreement.{common_length, agree_due}
 use Rattle.byz_world.specs.Asking.{decision_due}
+use Rattle.byz_world.specs.Laws.{reach_of}
 use Rattle.byz_world.specs.Worlds.{IsClusterRunOf}
 use Rattle.byz_world.proofs.Safety.{consistency}
 use Rattle.byz_world.specs.Runs.{Run, history_of, is_correct, of_kind, has_sent, IsClusterRun}
@@ -198,6 +199,15 @@ forged_is w p node here =
 
 -- Streams.
 
+pub least_is : (w : WorldValue) (i j owner : ℕ) (a b : NodeValue) → Some a ≡ node_due w i → Some b ≡ node_due w j →
+    min (reach_at a.config.roles.sizes a.history owner) (reach_at b.config.roles.sizes b.history owner)
+    ≡ min (reach_of w.config w.run i owner) (reach_of w.config w.run j owner)
+least_is w i j owner a b here there =
+    let first = node_is w i a (sym here) in
+    let second = node_is w j b (sym there) in
+    λ k. min (reach_at (first.is k).config.roles.sizes (first.is k).history owner)
+    (reach_at (second.is k).config.roles.sizes (second.is k).history owner)
+
 -- how far two correct nodes' streams agree is the least of their reaches
 pub agree_is : (w : WorldValue) (i j owner : ℕ) (a b : NodeValue) → IsClusterRunOf w → Some a ≡ node_due w i
     → Some b ≡ node_due w j →
@@ -209,9 +219,7 @@ agree_is w i j owner a b is here there within =
     let second = node_is w j b (sym there) in
     let node : nat_lt owner w.config.roles.sizes.nodes ≡ true = grind (arith, nat_tests) in
     let agreed = (consistency w.config w.liars w.run is).streams_agree i j owner first.correct second.correct in
-    (λ k. Some (min (reach_at (first.is k).config.roles.sizes (first.is k).history owner)
-    (reach_at (second.is k).config.roles.sizes (second.is k).history owner)))
-    ∙ ap Some (sym agreed)
+    ap Some (least_is w i j owner a b here there ∙ sym agreed)
     ∙ sym (λ k. if first.correct k && second.correct k && node k
     then Some (common_length (stream_at w.config.roles.sizes (history_of i w.run) owner)
     (stream_at w.config.roles.sizes (history_of j w.run) owner)) else None)
@@ -221,7 +229,7 @@ agree_is w i j owner a b is here there within =
 pub decision_is : (w : WorldValue) (name session user operation object : ℕ) (decision : Verdict)
     → is_correct_in w name ≡ true →
     decision ≡ verdict_at w.config.roles (history_of name w.run) session user operation object →
-    Some decision ≡ decision_due w name session user operation object
+    Some decision ≡ decision_due w.config w.liars w.run name session user operation object
 decision_is w name session user operation object decision correct is =
     ap Some is
     ∙ sym (ap (λ b. if b then Some (verdict_at w.config.roles (history_of name w.run)

@@ -10,7 +10,7 @@ use Rattle.role_node.specs.declared.faults.AskFault.TheVariants as ask
 use Rattle.role_node.specs.declared.question.Answer.{Answer}
 use Rattle.role_node.specs.declared.question.Question.{Question}
 use Rattle.role_sessions.specs.declared.verdict.Verdict.{Verdict}
-use Rattle.byz_world.specs.Runs.{history_of}
+use Rattle.byz_world.specs.Runs.{Run, history_of, is_correct}
 use Rattle.byz_world.specs.Worlds.{WorldValue, too_many_lie, is_correct_in}
 use Rattle.byz_world.specs.declared.faults.WorldFault.{WorldFault}
 use Rattle.byz_world.specs.declared.faults.WorldFault.TheVariants.{TooManyLiars, NotCorrect, NoSuchPacket, NotSent}
@@ -53,7 +53,8 @@ IsQuestionAnswer w node question (Err NoSession) = question_due w node question 
 IsQuestionAnswer w node question (Err Memory) = (question_due w node question ≡ None) × IsTrue (takes_memory question)
 
 -- the decision on an access at a correct node
-abbrev pub decision_due : WorldValue → ℕ → ℕ → ℕ → ℕ → ℕ → Option Verdict
-decision_due w node session user operation object =
-    if is_correct_in w node then Some (verdict_at w.config.roles (history_of node w.run)
-    session user operation object) else None
+abbrev pub decision_due : ConfigValue → Nodes → Run → ℕ → ℕ → ℕ → ℕ → ℕ → Option Verdict
+decision_due config liars run node session user operation object =
+    if is_correct config.roles.sizes liars node
+    then Some (verdict_at config.roles (history_of node run) session user operation object)
+    else None

@@ -10,9 +10,10 @@ use Rattle.role_sessions.specs.declared.verdict.Rule.TheVariants.{NoSession, Not
 use Rattle.role_sessions.specs.declared.verdict.Rule.TheVariants.{NoneAssigned, NotPermitted}
 use Rattle.role_sessions.specs.declared.verdict.Verdict.{Verdict}
 use Rattle.role_sessions.specs.declared.verdict.Verdict.TheVariants.{Allow, Deny}
-use Rattle.role_node.specs.Access.{relations_at, session_at, verdict_at}
+use Rattle.role_node.specs.Access.{relations_at, session_at}
 use Rattle.role_node.specs.Configs.{ConfigValue}
 use Rattle.role_node.specs.Histories.{issued}
+use Rattle.byz_world.specs.Asking.{decision_due}
 use Rattle.byz_world.specs.Steps.{IsSound}
 use Rattle.byz_world.specs.Laws.{stream_of, reach_of}
 use Rattle.byz_world.specs.Runs.{Run, history_of, is_correct, IsClusterRun}
@@ -44,14 +45,15 @@ pub record IsRightDecision (relations : Relations) (found : Option Session) (use
       × (find (relations.granted operation object) (counted_roles relations session) ≡ Some role))
   pub denies : (rule : Rule) → v ≡ Deny rule → IsFirstRule relations found user operation object rule
 
--- The run is one of a cluster. A correct node allows exactly what Core RBAC allows over the streams that it delivered,
--- else names the first rule that denies it; two correct nodes' streams of an owner agree as far as both reach; and a
--- correct owner's stream is a front of what it issued.
+-- The run is one of a cluster. A correct node answers each access: it allows exactly what Core RBAC allows over the
+-- streams that it delivered, else names the first rule that denies it; two correct nodes' streams of an owner agree as
+-- far as both reach; and a correct owner's stream is a front of what it issued.
 pub record KeepsThePromise (config : ConfigValue) (liars : Nodes) (run : Run) : Type 0 where
   pub is_run : IsClusterRun config liars run
   pub decisions : (node session user operation object : ℕ) → IsTrue (is_correct config.roles.sizes liars node) →
-      IsRightDecision (relations_at config.roles (history_of node run)) (session_at (history_of node run) session)
-      user operation object (verdict_at config.roles (history_of node run) session user operation object)
+      IsSomeAnd (decision_due config liars run node session user operation object)
+      (IsRightDecision (relations_at config.roles (history_of node run)) (session_at (history_of node run) session)
+      user operation object)
   pub streams_agree : (i j owner : ℕ) →
       IsTrue (is_correct config.roles.sizes liars i) → IsTrue (is_correct config.roles.sizes liars j) →
       take (min (reach_of config run i owner) (reach_of config run j owner)) (stream_of config run i owner)

@@ -1,5 +1,5 @@
 -- The promises of the cluster, about every run of it.
-use Rattle.std.specs.Prelude.{◌≡◌, ℕ, ◌<◌, ◌≤◌, min, IsTrue, List, slice_get, Option, Some}
+use Rattle.std.specs.Prelude.{◌≡◌, ℕ, ◌<◌, ◌≤◌, min, IsTrue, List, slice_get, Contains, ◌↔◌, Option, Some}
 use Rattle.std.specs.FinSet as sets
 use Rattle.quorum_sizes.specs.Sizes.{amplify_of}
 use Rattle.quorum_sizes.specs.NodeSets.{Nodes}
@@ -7,10 +7,12 @@ use Rattle.role_commands.specs.declared.command.Command.{Command}
 use Rattle.bracha_instance.specs.Broadcast.{echoed, readied}
 use Rattle.owner_streams.specs.Laws.{IsPrefixOf}
 use Rattle.owner_streams.specs.Places.{takes_at, delivered_at}
+use Rattle.link_frames.specs.Packets.{PacketValue}
 use Rattle.role_node.specs.Configs.{ConfigValue}
 use Rattle.role_node.specs.Histories.{issued, packets}
 use Rattle.role_node.specs.Access.{stream_at, reach_at, relations_at}
 use Rattle.byz_world.specs.Runs.{Run, history_of, is_correct, IsClusterRun}
+use Rattle.byz_world.specs.Pools.{pool, WasSent}
 use Rattle.byz_world.specs.Resting.{IsAtRest}
 use Rattle.byz_world.specs.Agreement.{common_length}
 
@@ -31,6 +33,13 @@ stream_of config run node owner = stream_at config.roles.sizes (history_of node 
 
 abbrev pub reach_of : ConfigValue → Run → ℕ → ℕ → ℕ
 reach_of config run node owner = reach_at config.roles.sizes (history_of node run) owner
+
+-- A packet stands in the pool of a cluster run exactly where its sender is a correct node that has sent its message,
+-- and its receiver is a node.
+abbrev pub PoolIsWhatWasSent : Type 0
+PoolIsWhatWasSent =
+    (config : ConfigValue) (liars : Nodes) (run : Run) (p : PacketValue) → IsClusterRun config liars run →
+    Contains (pool config run) p ↔ WasSent config liars run p
 
 -- Two correct nodes are ready for one command at a place; what they deliver there is one command; and their streams of
 -- an owner agree as far as both reach.

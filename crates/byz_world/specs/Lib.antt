@@ -7,6 +7,7 @@ pub mod Faults
 pub mod Resting
 pub mod Agreement
 pub mod Laws
+pub mod Limits
 pub mod Inside
 pub mod Example
 pub mod Headline

@@ -1,15 +1,16 @@
 -- The packets that the correct nodes of a run have sent, in the order of the run.
-use Rattle.std.specs.Prelude.{ℕ, List, [], ◌∷◌, ◌++◌, map, Option, Some, None, option_map, Result, Ok, Err}
+use Rattle.std.specs.Prelude.{ℕ, ◌<◌, IsTrue, List, [], ◌∷◌, ◌++◌, map, Option, Some, None, option_map, Result, Ok, Err}
 use Rattle.std.specs.List.{range_with_len, flat_map}
 use Rattle.link_frames.specs.declared.packet.Message.{Message}
-use Rattle.link_frames.specs.Packets.{PacketValue, packet_of}
+use Rattle.quorum_sizes.specs.NodeSets.{Nodes}
+use Rattle.link_frames.specs.Packets.{PacketValue, packet_of, message_of}
 use Rattle.role_node.specs.Configs.{ConfigValue}
 use Rattle.role_node.specs.Answers.{answer_due}
 use Rattle.role_node.specs.declared.event.Event.{Event}
 use Rattle.role_node.specs.declared.event.Reply.{Reply}
 use Rattle.role_node.specs.declared.event.Reply.TheVariants as reply
 use Rattle.role_node.specs.declared.faults.NodeFault.{NodeFault}
-use Rattle.byz_world.specs.Runs.{Run, history_of}
+use Rattle.byz_world.specs.Runs.{Run, history_of, is_correct, has_sent}
 
 -- a message and the node that sends it to all
 abbrev pub Sent : Type 0
@@ -53,3 +54,9 @@ packets_of nodes sent = map (λ to. packet_of sent.0 to sent.1) (range_with_len 
 -- the packets that were sent; each has its number here
 unfoldable pub pool : ConfigValue → Run → List PacketValue
 pool config run = flat_map (packets_of config.roles.sizes.nodes) (messages config run)
+
+-- the packet is to a node, and of a message that a correct node has sent, by its history
+pub record WasSent (config : ConfigValue) (liars : Nodes) (run : Run) (p : PacketValue) : Type 0 where
+  pub from : IsTrue (is_correct config.roles.sizes liars p.from)
+  pub to : p.to < config.roles.sizes.nodes
+  pub sent : IsTrue (has_sent config.roles.sizes run p.from (message_of p))

@@ -1,5 +1,5 @@
 use link_frames::LinkFault;
-use role_node::NodeFault;
+use role_node::{AskFault, NodeFault};
 use std::alloc::AllocError;
 use std::error::Error;
 use std::fmt;
@@ -58,5 +58,41 @@ impl From<AllocError> for WorldFault {
 
     fn from(_: AllocError) -> Self {
         WorldFault::Memory
+    }
+}
+
+impl From<LinkFault> for WorldFault {
+    ghost use Rattle.std.specs.Prelude.{◌≡◌};
+    ghost use Rattle.byz_world.specs.declared.faults.WorldFault.TheVariants.{Link};
+
+    ghost from_gives = { λ fault given. given ≡ Link fault };
+
+    fn from(fault: LinkFault) -> Self {
+        WorldFault::Link(fault)
+    }
+}
+
+impl From<NodeFault> for WorldFault {
+    ghost use Rattle.std.specs.Prelude.{◌≡◌};
+    ghost use Rattle.byz_world.specs.declared.faults.WorldFault.TheVariants.{Node};
+
+    ghost from_gives = { λ fault given. given ≡ Node fault };
+
+    fn from(fault: NodeFault) -> Self {
+        WorldFault::Node(fault)
+    }
+}
+
+impl From<AskFault> for WorldFault {
+    ghost use Rattle.std.specs.Prelude.{◌≡◌};
+    ghost use Rattle.byz_world.specs.Asking.{of_ask_fault};
+
+    ghost from_gives = { λ fault given. given ≡ of_ask_fault fault };
+
+    fn from(fault: AskFault) -> Self {
+        match fault {
+            AskFault::NoSession => WorldFault::NoSession,
+            AskFault::Memory => WorldFault::Memory,
+        }
     }
 }

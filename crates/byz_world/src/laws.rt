@@ -3,8 +3,20 @@
 //! Each function's contract is its law, and its body is empty. `specs/Laws.antt` spells the laws out.
 ghost use Rattle.byz_world.specs.Example.{AnExample};
 ghost use Rattle.byz_world.specs.Headline.{Headline};
-ghost use Rattle.byz_world.specs.Laws.{Consistency, Integrity, SamePolicy, ReadyByAll};
+ghost use Rattle.byz_world.specs.Laws.{PoolIsWhatWasSent, Consistency, Integrity, SamePolicy, ReadyByAll};
 ghost use Rattle.byz_world.specs.Laws.{DeliveredByAll, IssuedReachesAll, AtRest};
+ghost use Rattle.byz_world.specs.Limits.{LimitsMayDiffer};
+
+/// A run whose correct nodes keep to different limits is one of a cluster whose limit is at least the largest of them,
+/// so that all that is said here holds of it.
+pub fn limits_may_differ()
+    ensures { LimitsMayDiffer }
+{}
+
+/// The packets that stand in the pool are those of the messages that correct nodes have sent, one to each node.
+pub fn pool_is_what_was_sent()
+    ensures { PoolIsWhatWasSent }
+{}
 
 /// Correct nodes are ready for one command at a place of an owner's stream and deliver one there, and their streams
 /// of an owner agree as far as both reach.

@@ -1,7 +1,7 @@
 //! A cluster with lying nodes: correct nodes, and all that liars and the network may do to them, as a list of steps.
 //!
 //! `specs/Runs.antt` says what a run of a cluster is, `specs/Pools.antt` which packets it has sent, `specs/Steps.antt`
-//! what a step does, and `specs/Laws.antt` what holds of every run.
+//! what a step does, `specs/Laws.antt` what holds of every run, and `specs/Headline.antt` the promise of the whole.
 #![tactic(auto)]
 
 mod faults;

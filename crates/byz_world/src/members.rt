@@ -19,7 +19,7 @@ use bracha_instance::Effect;
 use link_frames::{Kind, Message, Packet};
 use quorum_sizes::{NodeName, NodeSet};
 use role_commands::Command;
-use role_node::{Answer, AskFault, Config, Entry, Event, Node, NodeFault, Question};
+use role_node::{Answer, AskFault, Config, Entry, Event, Node, Question};
 use role_sessions::Verdict;
 use std::alloc::{AllocError, Global};
 
@@ -73,7 +73,7 @@ pub(crate) fn record_at(
     members: &mut Vec<Option<Node>>,
     name: NodeName,
     event: &Event,
-) -> Result<Entry, NodeFault>
+) -> Result<Entry, AllocError>
     requires member { IsSome (member_in members.old.items name) }
     requires counts { (node : NodeValue) → member_in members.old.items name ≡ Some node →
         outlook node.config node.me node.history event.now ≡ Ok Counted }
@@ -130,11 +130,11 @@ pub(crate) fn check_at(
 }
 
 /// Whether the node has taken all that was sent to it. A liar need not.
-pub(crate) fn takes_all(member: &Option<Node>, sent: &[(NodeName, Message)]) -> bool
+pub(crate) fn has_taken_all(member: &Option<Node>, sent: &[(NodeName, Message)]) -> bool
     ensures { result ≡ has_taken_all sent.now member.now }
 {
     match member {
-        Some(node) => sent.iter().all(|sent| has_taken(node, sent)),
+        Some(node) => sent.iter().all(|one| has_taken(node, one)),
         None => true,
     }
 }
@@ -151,7 +151,7 @@ fn has_taken(node: &Node, sent: &(NodeName, Message)) -> bool
 }
 
 /// Whether the node has sent this message to all. Its owner must be of the node's sizes.
-pub(crate) fn has_said(node: &Node, message: &Message) -> bool
+pub(crate) fn has_sent(node: &Node, message: &Message) -> bool
     requires { message.now.owner < node.now.config.roles.sizes.nodes }
     ensures { result ≡ is_for message.now.command (of_kind message.now.kind
         (sent_at node.now.config.roles.sizes node.now.me node.now.history message.now.owner message.now.place)) }

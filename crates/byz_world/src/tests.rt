@@ -56,7 +56,7 @@ enum Act {
 }
 
 /// What is due to an act. So many packets were sent before it.
-#[derive(Clone, Copy)]
+#[derive(Clone, Copy, Debug)]
 enum Due {
     Sends(u32),
     Counts(u32),
@@ -102,8 +102,8 @@ fn step_of(alloc: Global, act: Act) -> Result<Step, Fail> {
     }
 }
 
-fn is_due(answer: Result<StepReply, WorldFault>, due: Due) -> bool {
-    let (first, count, reply) = match answer {
+fn is_due(came: Result<StepReply, WorldFault>, due: Due) -> bool {
+    let (first, count, reply) = match came {
         Ok(
             StepReply::Node {
                 reply,
@@ -131,9 +131,9 @@ fn walk(
     world: &mut World,
     acts: &[(Act, Due)],
 ) -> Result<(), Fail> {
-    for (act, due) in acts {
-        let is_due = is_due(world.step(step_of(alloc, *act)?), *due);
-        assert!(rt; is_due);
+    for (row, (act, due)) in acts.iter().enumerate() {
+        let came = world.step(step_of(alloc, *act)?);
+        assert!(rt; is_due(came, *due), "row {row}: due {due:?}, came {came:?}");
     }
     Ok(())
 }
@@ -237,4 +237,27 @@ fn one_silent_liar(rt: HostRuntime) -> Result<(), Fail> {
     let config = config(rt.alloc(), MOST_EVENTS)?;
     let mut world = World::run(rt.alloc(), config, liars, steps.as_slice())?;
     settled(&rt, &mut world)
+}
+
+/// What is due where each of four correct nodes took what node 0 published.
+fn delivered_everywhere(rt: &impl Abort, world: &mut World) -> Result<(), Fail> {
+    assert!(rt; world.at_rest() && world.sent_len() == 36);
+    for index in 0..4 {
+        let reach = world.agree(name(index)?, name(index)?, name(0)?);
+        assert!(rt; reach == Some(1), "node {index}: came {reach:?}");
+        assert!(rt; is_assigned(world, name(index)?), "node {index}");
+    }
+    Ok(())
+}
+
+#[test]
+fn four_correct_nodes(rt: HostRuntime) -> Result<(), Fail> {
+    let config = config(rt.alloc(), MOST_EVENTS)?;
+    let mut world = World::new(rt.alloc(), config, NodeSet::new())?;
+    world.pass(&step_of(rt.alloc(), Act::Issue)?)?;
+    assert!(rt; !world.at_rest() && world.sent_len() == 4);
+    for packet in 0..36 {
+        world.pass(&Step::Give { packet })?;
+    }
+    delivered_everywhere(&rt, &mut world)
 }

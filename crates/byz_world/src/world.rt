@@ -1,5 +1,5 @@
 ghost use Rattle.std.specs.Prelude.{◌≡◌, ℕ, ◌<◌, ◌≤◌, ◌*◌, ◌++◌, ◌∷◌, [], List, length, not, nat_lt, ◌&&◌};
-ghost use Rattle.std.specs.Prelude.{slice_get, IfOk, IfErr, OnOk, OnErr, Ok, Some, IsTrue, ◌↔◌, if◌then◌else◌};
+ghost use Rattle.std.specs.Prelude.{slice_get, min, IfOk, IfSome, OnOk, OnErr, Ok, Some, IsTrue, ◌↔◌, if◌then◌else◌};
 ghost use Rattle.std.specs.Option.{option_copied};
 ghost use Rattle.std.specs.Vec.{vec_len, vec_capacity};
 ghost use Rattle.quorum_sizes.specs.Sizes.{AreSizes};
@@ -16,6 +16,7 @@ ghost use Rattle.byz_world.specs.Worlds.{new_world, is_correct_in, node_due};
 ghost use Rattle.byz_world.specs.Steps.{arrival, opened_at, unless_forged, arrives, is_forged, is_pool_full};
 ghost use Rattle.byz_world.specs.Steps.{with_run, adds, after_step, after_steps, IsStepAnswer};
 ghost use Rattle.byz_world.specs.Agreement.{agree_due};
+ghost use Rattle.byz_world.specs.Laws.{reach_of};
 ghost use Rattle.byz_world.specs.Resting.{IsAtRest};
 ghost use Rattle.byz_world.specs.Asking.{IsMade, IsQuestionAnswer, decision_due};
 ghost use Rattle.byz_world.specs.Inside.{MayHappen, MayArrive, told_of};
@@ -23,18 +24,17 @@ ghost use Rattle.byz_world.specs.Steps.{IsSound};
 ghost use Rattle.byz_world.specs.Worlds.{IsClusterRunOf};
 ghost use Rattle.byz_world.specs.declared.step.Step.{Step};
 ghost use Rattle.byz_world.specs.declared.step.Step.TheVariants.{Issue, Give, Lie, Bytes, Client};
-ghost use Rattle.byz_world.specs.declared.faults.WorldFault.TheVariants as fault;
 
 use crate::faults::WorldFault;
 use crate::keys::{keys_of, new_keys};
-use crate::members::{ask_at, check_at, has_said, member, new_members, record_at, takes_all};
+use crate::members::{ask_at, check_at, has_sent, member, new_members, record_at, has_taken_all};
 use crate::notes::{note_name, note_sent, sent_by, told};
 use crate::step::{Came, Step, StepReply};
 use bracha_instance::Effect;
 use link_frames::{LinkFault, Message, Packet, PairKeys, open_frame};
 use quorum_sizes::{NodeName, NodeSet, Sizes};
 use role_commands::Command;
-use role_node::{Answer, AskFault, ClientEvent, Config, Entry, Event, Node, NodeFault, Question};
+use role_node::{Answer, ClientEvent, Config, Entry, Event, Node, NodeFault, Question};
 use role_sessions::Verdict;
 use std::alloc::{AllocError, Global};
 use std::marker::Model;
@@ -128,12 +128,12 @@ impl World {
         ensures memory { OnErr result (IsTrue (adds self.old step.now)) }
         ensures run { IsClusterRunOf self.new }
     {
-        match self.answer(step) {
-            Ok(_) => Ok(()),
-            Err(fault) => match fault {
-                WorldFault::Memory => Err(AllocError),
-                _ => Ok(()),
-            },
+        let Err(fault) = self.answer(step) else {
+            return Ok(());
+        };
+        match fault {
+            WorldFault::Memory => Err(AllocError),
+            _ => Ok(()),
         }
     }
 
@@ -197,7 +197,6 @@ impl World {
         ensures err { OnErr result (self.new ≡ self.old) }
         ensures run { IsClusterRunOf self.new }
     {
-        let _sizes = self.sizes();
         match self.sent(number) {
             Some(packet) => self.arrive(packet),
             None => Err(WorldFault::NoSuchPacket),
@@ -226,10 +225,8 @@ impl World {
         ensures err { OnErr result (self.new ≡ self.old) }
         ensures run { IsClusterRunOf self.new }
     {
-        let _sizes = self.sizes();
         match self.opened_at(to, bytes) {
-            Some(Ok(packet)) => self.unless_forged(packet),
-            Some(Err(fault)) => Err(WorldFault::Link(fault)),
+            Some(opened) => self.unless_forged(opened?),
             None => Err(WorldFault::NotCorrect),
         }
     }
@@ -305,17 +302,16 @@ impl World {
 
     /// What comes of bytes that arrive at a correct node.
     fn opened_at(&self, to: NodeName, bytes: &[u8]) -> Option<Result<Packet, LinkFault>>
-        ensures { result ≡ opened_at self.now to bytes.now }
+        ensures opened { result ≡ opened_at self.now to bytes.now }
+        ensures run { IsClusterRunOf self.now }
     {
-        match self.keys(to) {
-            Some(keys) => Some(open_frame(keys, &self.sizes(), self.config.cluster(), bytes)),
-            None => None,
-        }
+        Some(open_frame(self.keys(to)?, &self.sizes(), self.config.cluster(), bytes))
     }
 
     /// The keys of the correct node of this name.
     fn keys(&self, name: NodeName) -> Option<&PairKeys>
-        ensures { option_copied result ≡ ring_due self.now.config.roles.sizes self.now.liars name }
+        ensures value { option_copied result ≡ ring_due self.now.config.roles.sizes self.now.liars name }
+        ensures run { IsClusterRunOf self.now }
     {
         keys_of(&self.keys, name)
     }
@@ -328,7 +324,7 @@ impl World {
     {
         let message = packet.message();
         match self.node(packet.from()) {
-            Some(node) => !self.sizes().has(message.owner) || !has_said(node, &message),
+            Some(node) => !self.sizes().has(message.owner) || !has_sent(node, &message),
             None => false,
         }
     }
@@ -344,10 +340,9 @@ impl World {
         ensures err { OnErr result (self.new ≡ self.old) }
         ensures run { IsClusterRunOf self.new }
     {
-        match self.look(name, event) {
-            Ok(Effect::Counted) => Ok(Came::Recorded(self.record(name, event)?)),
-            Ok(Effect::Idle) => Ok(Came::Idle),
-            Err(fault) => Err(WorldFault::Node(fault)),
+        match self.look(name, event)? {
+            Effect::Counted => Ok(Came::Recorded(self.record(name, event)?)),
+            Effect::Idle => Ok(Came::Idle),
         }
     }
 
@@ -366,21 +361,18 @@ impl World {
 
     /// Has a node record an event that counts, and keeps what it sends. Room is made before.
     #[inline(always)]
-    fn record(&mut self, name: NodeName, event: &Event) -> Result<Entry, WorldFault>
+    fn record(&mut self, name: NodeName, event: &Event) -> Result<Entry, AllocError>
         requires may { MayHappen self.old name event.now }
         requires counts { outlook self.old.config name (history_of name self.old.run) event.now ≡ Ok Counted }
         ensures reply { IfOk result (λ entry.
             entry.reply ≡ reply_to self.old.config.roles name (history_of name self.old.run) event.now) }
         ensures ok { OnOk result (self.new ≡ with_run self.old (self.old.run ++ (name, event.now) ∷ [])) }
         ensures err { OnErr result (self.new ≡ self.old) }
-        ensures memory { IfErr result (λ refusal. refusal ≡ fault.Memory) }
         ensures run { IsClusterRunOf self.new }
     {
         self.order.try_reserve(1)?;
         self.sent.try_reserve(1)?;
-        let Ok(entry) = record_at(&mut self.members, name, event) else {
-            return Err(WorldFault::Memory);
-        };
+        let entry = record_at(&mut self.members, name, event)?;
         note_name(&mut self.order, name);
         note_sent(&mut self.sent, name, sent_by(&entry.reply()));
         Ok(entry)
@@ -400,11 +392,7 @@ impl World {
         if !self.is_correct(name) {
             return Err(WorldFault::NotCorrect);
         }
-        match ask_at(&mut self.members, name, question) {
-            Ok(answer) => Ok(answer),
-            Err(AskFault::NoSession) => Err(WorldFault::NoSession),
-            Err(AskFault::Memory) => Err(WorldFault::Memory),
-        }
+        Ok(ask_at(&mut self.members, name, question)?)
     }
 
     /// The decision on an access at a correct node; `None` where it is none. It takes no memory and records nothing.
@@ -416,7 +404,8 @@ impl World {
         operation: u16,
         object: u32,
     ) -> Option<Verdict>
-        ensures decision { result ≡ decision_due self.old name session user operation object }
+        ensures decision { let w = self.old in
+            result ≡ decision_due w.config w.liars w.run name session user operation object }
         ensures same { self.new ≡ self.old }
     {
         if !self.is_correct(name) {
@@ -460,7 +449,8 @@ impl World {
     /// The packet of this number that a correct node has sent.
     #[inline(always)]
     pub fn sent(&self, number: u32) -> Option<Packet>
-        ensures { result ≡ slice_get (pool self.now.config self.now.run) number }
+        ensures value { result ≡ slice_get (pool self.now.config self.now.run) number }
+        ensures run { IsClusterRunOf self.now }
     {
         let nodes = u32::from(self.sizes().n());
         let to = self.sizes().name((number % nodes) as u8).unwrap();
@@ -482,7 +472,9 @@ impl World {
     /// How far two correct nodes' streams of an owner agree: the length of the longest list that both begin with.
     /// `None` where one is no correct node or the owner is no node.
     pub fn agree(&self, i: NodeName, j: NodeName, owner: NodeName) -> Option<u32>
-        ensures { result ≡ agree_due self.now i j owner }
+        ensures due { result ≡ agree_due self.now i j owner }
+        ensures least { IfSome result (λ length. let w = self.now in
+            length ≡ min (reach_of w.config w.run i owner) (reach_of w.config w.run j owner)) }
     {
         let (Some(a), Some(b)) = (self.node(i), self.node(j)) else {
             return None;
@@ -499,6 +491,6 @@ impl World {
     {
         self.members
             .iter()
-            .all(|member| takes_all(member, &self.sent))
+            .all(|member| has_taken_all(member, &self.sent))
     }
 }

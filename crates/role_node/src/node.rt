@@ -1,11 +1,10 @@
-ghost use Rattle.std.specs.Prelude.{◌≡◌, ◌<◌, map, slice_get, IfOk, IfErr, OnOk, OnErr, Ok};
+ghost use Rattle.std.specs.Prelude.{◌≡◌, ◌<◌, map, slice_get, IfOk, OnOk, OnErr, Ok};
 ghost use Rattle.bracha_instance.specs.declared.instance.Effect.TheVariants.{Counted};
 ghost use Rattle.role_node.specs.Access.{stream_at, reach_at, sessions_at, verdict_at, sent_at};
 ghost use Rattle.role_node.specs.Questions.{ask_due, IsAsked, IsAnswerTo};
 ghost use Rattle.role_node.specs.Answers.{outlook, reply_to, is_recorded, IsAnswer};
 ghost use Rattle.role_node.specs.Nodes.{new_node, due_at, with_event, after_reply, IsLegalNode, AreRepliesOf};
 ghost use Rattle.role_node.specs.Kept.{event_of};
-ghost use Rattle.role_node.specs.declared.faults.NodeFault.TheVariants.{Memory};
 
 use crate::config::Config;
 use crate::entry::Entry;
@@ -111,22 +110,25 @@ impl Node {
     ///
     /// # Errors
     ///
-    /// Only want of memory. The node stays as it was.
+    /// Only for want of memory. The node stays as it was.
     #[inline(always)]
-    pub fn record(&mut self, event: &Event) -> Result<Entry, NodeFault>
+    pub fn record(&mut self, event: &Event) -> Result<Entry, AllocError>
         requires { outlook self.old.config self.old.me self.old.history event.now ≡ Ok Counted }
         ensures event { IfOk result (λ entry. entry.event ≡ event.now) }
         ensures reply { IfOk result (λ entry.
             entry.reply ≡ reply_to self.old.config.roles self.old.me self.old.history event.now) }
         ensures ok { OnOk result (self.new ≡ with_event self.old event.now) }
         ensures err { OnErr result (self.new ≡ self.old) }
-        ensures memory { IfErr result (λ fault. fault ≡ Memory) }
         ensures config { self.new.config ≡ self.old.config }
         ensures me { self.new.me ≡ self.old.me }
         ensures legal { IsLegalNode self.new }
     {
         self.entries.try_reserve(1)?;
-        let entry = self.state.answer(self.me, event)?;
+        let entry = match self.state.answer(self.me, event) {
+            Ok(entry) => entry,
+            Err(NodeFault::Memory) => return Err(AllocError),
+            Err(_) => unreachable!(),
+        };
         push_within_capacity(&mut self.entries, entry);
         Ok(entry)
     }

@@ -96,7 +96,7 @@ enum Step {
 }
 
 /// The one thing that is listed.
-#[derive(Clone, Copy)]
+#[derive(Clone, Copy, Debug, PartialEq, Eq)]
 enum Listed {
     User(u32),
     Role(u16),
@@ -197,56 +197,99 @@ fn ready(node: &Node, owner: u8, place: Place, command: Command) -> Result<Messa
     })
 }
 
-fn is_listed(answer: &Result<Answer, AskFault>, due: Listed) -> bool {
-    match (answer, due) {
-        (Ok(Answer::Users(users)), Listed::User(user)) => users.as_slice() == [user].as_slice(),
-        (Ok(Answer::Roles(roles)), Listed::Role(role)) => roles.as_slice() == [role].as_slice(),
-        (Ok(Answer::Permissions(permissions)), Listed::Permission(operation, object)) => {
-            permissions.as_slice() == [(operation, object)].as_slice()
+/// What a step brings.
+#[derive(Clone, Copy, Debug, PartialEq, Eq)]
+enum Came {
+    Holds(bool),
+    Answer(Result<Reply, NodeFault>),
+    Verdict(Verdict),
+    Lists(Option<Listed>),
+    Stream(u32, Option<Command>, Option<Command>),
+    Recorded(usize),
+}
+
+/// The one thing that is listed, if it is one.
+fn listed_one(answer: &Result<Answer, AskFault>) -> Option<Listed> {
+    match answer {
+        Ok(Answer::Users(users)) => Some(Listed::User(only(users.as_slice())?)),
+        Ok(Answer::Roles(roles)) => Some(Listed::Role(only(roles.as_slice())?)),
+        Ok(Answer::Permissions(permissions)) => {
+            let (operation, object) = only(permissions.as_slice())?;
+            Some(Listed::Permission(operation, object))
         }
-        (Err(AskFault::NoSession), Listed::NoSession) => true,
-        _ => false,
+        Ok(_) | Err(AskFault::Memory) => None,
+        Err(AskFault::NoSession) => Some(Listed::NoSession),
     }
 }
 
-/// Whether the answer is the one that is due.
-fn is_due(node: &mut Node, step: &Step) -> Result<bool, Fail> {
-    match step {
-        Step::Publish(command) => publish(node, *command),
-        Step::Issue(command, fault) => {
-            let event = Event::Issue(*command);
-            Ok(!node.records(&event) && node.apply(event) == Err(*fault))
-        }
-        Step::Client(act, due) => Ok(node.apply(Event::Client(*act)) == due.answer(None)),
-        Step::Ready(from, owner, place, command, due) => {
-            let message = ready(node, *owner, *place, *command)?;
-            let answer = take(node, name(node, *from)?, node.me(), message)?;
-            Ok(answer == due.answer(Some(message)))
-        }
-        Step::Elsewhere(fault) => {
-            let message = ready(node, 0, 0, FIRST)?;
-            Ok(take(node, node.me(), name(node, 2)?, message)? == Err(*fault))
-        }
-        Step::Check(session, user, due) => Ok(node.check(*session, *user, 5, 9) == *due),
-        Step::Lists(question, due) => Ok(is_listed(&node.ask(*question), *due)),
-        Step::Stream(reach, place, command, ready) => {
-            let owner = name(node, 0)?;
-            Ok(
-                node.reach(owner) == *reach
-                    && node.command(owner, *place) == *command
-                    && node.again(owner, *place).ready == *ready,
-            )
-        }
-        Step::Recorded(count) => Ok(node.history().len() == *count),
-        Step::Window => Ok(fills_window(node)),
-        Step::ManyRoles => activates_many_roles(node),
+fn only<T: Copy>(items: &[T]) -> Option<T> {
+    match items {
+        [item] => Some(*item),
+        _ => None,
     }
+}
+
+/// What is due to a step.
+fn due_to(node: &Node, step: &Step) -> Result<Came, Fail> {
+    Ok(match step {
+        Step::Publish(_) | Step::Window | Step::ManyRoles => Came::Holds(true),
+        Step::Issue(_, fault) | Step::Elsewhere(fault) => Came::Answer(Err(*fault)),
+        Step::Client(_, due) => Came::Answer(due.answer(None)),
+        Step::Ready(_, owner, place, command, due) => {
+            Came::Answer(due.answer(Some(ready(node, *owner, *place, *command)?)))
+        }
+        Step::Check(_, _, verdict) => Came::Verdict(*verdict),
+        Step::Lists(_, listed) => Came::Lists(Some(*listed)),
+        Step::Stream(reach, _, command, ready) => Came::Stream(*reach, *command, *ready),
+        Step::Recorded(count) => Came::Recorded(*count),
+    })
+}
+
+/// What comes of a step.
+fn came_of(node: &mut Node, step: &Step) -> Result<Came, Fail> {
+    Ok(match step {
+        Step::Publish(command) => Came::Holds(publish(node, *command)?),
+        Step::Issue(command, _) => {
+            let event = Event::Issue(*command);
+            if node.records(&event) {
+                return Err("it would be recorded".into());
+            }
+            Came::Answer(node.apply(event))
+        }
+        Step::Client(act, _) => Came::Answer(node.apply(Event::Client(*act))),
+        Step::Ready(from, owner, place, command, _) => {
+            let message = ready(node, *owner, *place, *command)?;
+            Came::Answer(take(node, name(node, *from)?, node.me(), message)?)
+        }
+        Step::Elsewhere(_) => {
+            let message = ready(node, 0, 0, FIRST)?;
+            Came::Answer(take(node, node.me(), name(node, 2)?, message)?)
+        }
+        Step::Check(session, user, _) => Came::Verdict(node.check(*session, *user, 5, 9)),
+        Step::Lists(question, _) => Came::Lists(listed_one(&node.ask(*question))),
+        Step::Stream(_, place, ..) => stream(node, *place)?,
+        Step::Recorded(_) => Came::Recorded(node.history().len()),
+        Step::Window => Came::Holds(fills_window(node)),
+        Step::ManyRoles => Came::Holds(activates_many_roles(node)?),
+    })
+}
+
+/// Of node 0's stream: the reach, and the command and the READY sent at a place.
+fn stream(node: &Node, place: Place) -> Result<Came, Fail> {
+    let owner = name(node, 0)?;
+    let again = node.again(owner, place);
+    Ok(Came::Stream(
+        node.reach(owner),
+        node.command(owner, place),
+        again.ready,
+    ))
 }
 
 fn run(rt: &impl Abort, node: &mut Node, steps: &[Step]) -> Result<(), Fail> {
-    for step in steps {
-        let is_due = is_due(node, step)?;
-        assert!(rt; is_due);
+    for (row, step) in steps.iter().enumerate() {
+        let due = due_to(node, step)?;
+        let came = came_of(node, step)?;
+        assert!(rt; came == due, "row {row}: due {due:?}, came {came:?}");
     }
     Ok(())
 }

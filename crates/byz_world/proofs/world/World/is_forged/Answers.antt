@@ -29,7 +29,7 @@ returns-else-not-has-clause-forged c =
     let node = c.in-Some.node.now in
     let here : Some node ≡ node_due w p.from = c.in-Some.ensures.value ∙ ap (node_due w) c.from.ensures in
     ap not
-    (c.has_said.ensures
+    (c.has_sent.ensures
     ∙ ap (λ (m : Message). is_for m.command (of_kind m.kind (sent_at node.config.roles.sizes node.me node.history
     m.owner m.place)))
     c.message-message.ensures.value)

@@ -5,16 +5,16 @@ use Rattle.byz_world.proofs.Recording.{IsRecorded, is_recorded_in}
 use Rattle.byz_world.proofs.world.World.record.Goals as goal
 
 recorded : (c : goal.After-note_sent) →
-    IsRecorded c.self.inside.config c.self.inside.liars c.args.self.now c.args.name c.args.event.now c.in-Ok.entry.reply
+    IsRecorded c.self.inside.config c.self.inside.liars c.args.self.now c.args.name c.args.event.now c.in_ok-entry.entry.reply
     c.record_at.new.members.items c.note_name.new.order.items c.note_sent.new.sent.items
 recorded c =
     let a = c.self.inside in
     is_recorded_in a.config a.liars a.members.items a.order.items a.sent.items c.args.self.now c.args.name
-    c.args.event.now c.in-Ok.entry.reply
+    c.args.event.now c.in_ok-entry.entry.reply
     c.record_at.new.members.items c.note_name.new.order.items c.note_sent.new.sent.items c.self.invariant.world
     c.self.view_is
-    c.requires.may c.requires.counts (λ node here. c.in-Ok.ensures.reply node here)
-    (λ node here. c.in-Ok.ensures.ok node here)
+    c.requires.may c.requires.counts (λ node here. c.in_ok-entry.ensures.reply node here)
+    (λ node here. c.in_ok-entry.ensures.ok node here)
     (c.note_name.ensures ∙ ap (λ names. names ++ c.args.name ∷ []) c.try_reserve.ensures.items)
     (c.note_sent.ensures
     ∙ (λ i. c.try_reserve-2.ensures.items i

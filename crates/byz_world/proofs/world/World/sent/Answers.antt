@@ -6,8 +6,8 @@ use Rattle.byz_world.specs.Worlds.{WorldValue}
 use Rattle.byz_world.proofs.Telling.{number_in_world, no_number_in_world}
 use Rattle.byz_world.proofs.world.World.sent.Goals as goal
 
-pub returns-in-Some : goal.returns-in-Some
-returns-in-Some c =
+pub returns-in-Some-clause-value : goal.returns-in-Some-clause-value
+returns-in-Some-clause-value c =
     let w = c.args.self.now in
     let P : WorldValue → Type 0 = λ v. c.self.inside.sent.items ≡ messages v.config v.run in
     let kept : P w = subst P c.self.view_is c.self.invariant.world.messages in
@@ -21,8 +21,8 @@ returns-in-Some c =
     c.in-Some.field-0.now
     c.sizes.ensures.run kept nodes to at
 
-pub returns-in-None : goal.returns-in-None
-returns-in-None c =
+pub returns-in-None-clause-value : goal.returns-in-None-clause-value
+returns-in-None-clause-value c =
     let w = c.args.self.now in
     let P : WorldValue → Type 0 = λ v. c.self.inside.sent.items ≡ messages v.config v.run in
     let kept : P w = subst P c.self.view_is c.self.invariant.world.messages in

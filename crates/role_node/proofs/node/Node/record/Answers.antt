@@ -24,21 +24,21 @@ pub answer-requires-clause-reached : goal.answer-requires-clause-reached
 answer-requires-clause-reached c =
     (c.self.inside.config.roles, events c.self.inside.entries.items, c.self.invariant.state)
 
-pub invariant_of-self-in_err-entry : goal.invariant_of-self-in_err-entry
-invariant_of-self-in_err-entry c =
-    inside_stays c.self.invariant refl refl c.try_reserve.ensures.items c.in_err-entry.ensures.err
+pub invariant_of-self-in-Err-Memory : goal.invariant_of-self-in-Err-Memory
+invariant_of-self-in-Err-Memory c =
+    inside_stays c.self.invariant refl refl c.try_reserve.ensures.items c.in-Err-Memory.ensures.err
 
-pub returns-in_err-entry-clause-legal : goal.returns-in_err-entry-clause-legal
-returns-in_err-entry-clause-legal c =
-    legal c.self.inside.config c.self.inside.me c.try_reserve.new.self.items (invariant_of-self-in_err-entry c).entries
+pub returns-in-Err-Memory-clause-legal : goal.returns-in-Err-Memory-clause-legal
+returns-in-Err-Memory-clause-legal c =
+    legal c.self.inside.config c.self.inside.me c.try_reserve.new.self.items (invariant_of-self-in-Err-Memory c).entries
 
 pub invariant_of-self-2 : goal.invariant_of-self-2
 invariant_of-self-2 c =
     let counts = counts_inside c.self.inside c.args.self.now c.args.event.now c.self.view_is c.requires in
     let pushed = c.push_within_capacity.ensures.items
-    ∙ (λ i. c.try_reserve.ensures.items i ++ c.in_ok-entry.entry ∷ []) in
+    ∙ (λ i. c.try_reserve.ensures.items i ++ c.in-Ok.entry ∷ []) in
     inside_grows c.args.event.now c.self.invariant refl refl pushed
-    c.in_ok-entry.ensures.ok counts c.in_ok-entry.ensures.entry
+    c.in-Ok.ensures.ok counts c.in-Ok.ensures.entry
 
 pub returns-clause-legal : goal.returns-clause-legal
 returns-clause-legal c =
