@@ -166,14 +166,13 @@ fn named_order(sizes: &Sizes, name: &str, text: &str) -> Option<Order>
     }
 }
 
-#[tactic(auto, unfolding(crate::specs::Orders::order_of_node))]
+#[tactic(auto, unfolding(crate::specs::Orders::order_of_node, crate::specs::Orders::then_rest))]
 fn order_of_node(sizes: &Sizes, name: &str, text: &str) -> Option<Order>
     ensures value { result ≡ reading.order_of_node sizes.now name.now text.now }
     ensures within { IfSome result (IsWithinSizes sizes.now) }
 {
-    let Some((node, text)) = node_then(sizes, text) else {
-        return None;
-    };
+    let (word, text) = split_word(text)?;
+    let node = node_number(sizes, word)?;
     order_at_node(sizes, name, node, text)
 }
 
@@ -252,34 +251,28 @@ fn acted(node: NodeName, event: ClientEvent) -> Order
     Order::Do(Step::Client { node, event })
 }
 
-#[tactic(auto, unfolding(crate::specs::Orders::agreement_of))]
+#[tactic(auto, unfolding(crate::specs::Orders::agreement_of, crate::specs::Orders::then_rest))]
 fn agreement_of(sizes: &Sizes, one: NodeName, text: &str) -> Option<Order>
     ensures value { result ≡ reading.agreement_of sizes.now one text.now }
     ensures within { IfSome result (IsWithinSizes sizes.now) }
 {
-    let Some((other, text)) = node_then(sizes, text) else {
-        return None;
-    };
+    let (word, text) = split_word(text)?;
+    let other = node_number(sizes, word)?;
     let owner = node_number(sizes, text)?;
     Some(Order::Agree { one, other, owner })
 }
 
-#[tactic(auto, unfolding(crate::specs::Orders::lie_of))]
+#[tactic(auto, unfolding(crate::specs::Orders::lie_of, crate::specs::Orders::then_rest))]
 fn lie_of(sizes: &Sizes, text: &str) -> Option<Packet>
     ensures { result ≡ reading.lie_of sizes.now text.now }
 {
-    let Some((kind, text)) = kind_then(text) else {
-        return None;
-    };
-    let Some((from, text)) = node_then(sizes, text) else {
-        return None;
-    };
-    let Some((to, text)) = node_then(sizes, text) else {
-        return None;
-    };
-    let Some((owner, text)) = node_then(sizes, text) else {
-        return None;
-    };
+    let (kind, text) = kind_then(text)?;
+    let (word, text) = split_word(text)?;
+    let from = node_number(sizes, word)?;
+    let (word, text) = split_word(text)?;
+    let to = node_number(sizes, word)?;
+    let (word, text) = split_word(text)?;
+    let owner = node_number(sizes, word)?;
     let (place, text) = narrow_then(text)?;
     let command = parse_command(text)?;
     let message = Message {

@@ -1,6 +1,7 @@
 //! A script, run line by line.
 
-ghost use Rattle.std.specs.Prelude.{◌≡◌, ℕ, ◌<◌, ◌≤◌, ◌++◌, ◌⊎◌, Bool, List, Option, length, OnOk, OnErr, IfOk, IfErr};
+ghost use Rattle.std.specs.Prelude.{◌≡◌, ◌≢◌, ℕ, ◌<◌, ◌≤◌, ◌++◌, ◌⊎◌, Bool, List, Option, length};
+ghost use Rattle.std.specs.Prelude.{OnOk, OnErr, IfOk, IfErr, Err};
 ghost use Rattle.std.specs.Io.KnownBytes.{Appends};
 ghost use Rattle.link_frames.specs.Aheads.{front_of, pending};
 ghost use Rattle.link_frames.specs.Devices.{WentOn, CallFailed, ReaderFailed, AppendsFront};
@@ -44,7 +45,7 @@ pub enum Took {
 ///
 /// `BadScript` at the first bad line, when what is due for the lines before it is written. `Device` where the reader or
 /// the writer has failed, or where there is no number for another line, and `Memory`; a front of what is due is written
-/// then.
+/// then. Any answer but `Device` comes only where neither has failed.
 pub fn run_script<R: Read, W: Write>(
     alloc: Global,
     reader: &mut Watched<R>,
@@ -57,6 +58,9 @@ pub fn run_script<R: Read, W: Write>(
         ⊎ (CallFailed (watched_tally writer.old) (watched_tally writer.new)
         ⊎ IsEndless (R.remaining (watched_inner reader.old)) (W.contents (watched_inner writer.old))
         (W.contents (watched_inner writer.new)))) }
+    ensures quiet { result ≢ Err ScriptFault.Device →
+        WentOn (watched_tally reader.old) (watched_tally reader.new)
+        × WentOn (watched_tally writer.old) (watched_tally writer.new) }
 {
     let mut stage = Stage::Start;
     run_lines(alloc, &mut stage, reader, writer)
@@ -77,6 +81,9 @@ fn run_lines<R: Read, W: Write>(
         ⊎ (CallFailed (watched_tally writer.old) (watched_tally writer.new)
         ⊎ IsEndless (R.remaining (watched_inner reader.old)) (W.contents (watched_inner writer.old))
         (W.contents (watched_inner writer.new)))) }
+    ensures quiet { result ≢ Err ScriptFault.Device →
+        WentOn (watched_tally reader.old) (watched_tally reader.new)
+        × WentOn (watched_tally writer.old) (watched_tally writer.new) }
 {
     let mut ahead = Ahead::new(alloc);
     let mut held = Vec::new(alloc);

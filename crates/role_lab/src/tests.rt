@@ -2,44 +2,43 @@ use super::*;
 use link_frames::{Faulty, Mishap};
 use std::alloc::Global;
 
-type Ran = (Result<(), ScriptFault>, Vec<u8>);
-
 /// What a script of ample memory gives, and what it writes.
-fn outcome(alloc: Global, script: &[u8]) -> Ran {
+fn outcome(alloc: Global, script: &str) -> (Result<(), ScriptFault>, Vec<u8>) {
     let mut written = Vec::new(alloc);
     let result = run_script(
         alloc,
-        &mut Watched::new(script),
+        &mut Watched::new(script.as_bytes()),
         &mut Watched::new(&mut written),
     );
     (result, written)
 }
 
-/// Whether the script is bad at this line, with this text.
-fn is_bad_at(ran: Ran, number: u64, due: &[u8]) -> bool {
-    let (result, text) = ran;
-    matches!(&result, Err(ScriptFault::BadScript { line }) if *line == number)
-        && text.as_slice() == due
+/// What was written, as text.
+fn text_of(written: &[u8]) -> &str {
+    str::from_utf8(written).unwrap_or("no text")
 }
 
+/// A script and what it writes.
+type Row = (&'static str, &'static str);
+
 /// A liar is silent, and the others agree without it.
-const SILENT: (&[u8], &[u8]) = (
-    b"cluster 4 1\nrole 2 0\nliar 3\nissue 0 assign 7 2\nflush\nreach 2 0\nreach 3 0\nrest\n",
-    b"sizes 3 2 3\nok\nok\nissued 0 sent 0-3\nflushed 28\nreach 1\nV2 NotCorrect\nrest yes\n",
+const SILENT: Row = (
+    "cluster 4 1\nrole 2 0\nliar 3\nissue 0 assign 7 2\nflush\nreach 2 0\nreach 3 0\nrest\n",
+    "sizes 3 2 3\nok\nok\nissued 0 sent 0-3\nflushed 28\nreach 1\nV2 NotCorrect\nrest yes\n",
 );
 
 /// A vote counts once, and a correct node's must have been sent.
-const VOTES: (&[u8], &[u8]) = (
-    b"cluster 4 1\nrole 2 0\nliar 3\nissue 0 assign 7 2\ngive 1\ngive 1\n\
+const VOTES: Row = (
+    "cluster 4 1\nrole 2 0\nliar 3\nissue 0 assign 7 2\ngive 1\ngive 1\n\
       lie echo 3 1 0 0 assign 7 2\nlie echo 3 1 0 0 assign 8 2\nlie echo 2 1 0 0 assign 8 2\ngive 99\n",
-    b"sizes 3 2 3\nok\nok\nissued 0 sent 0-3\ncounted echo 4-7\nidle\n\
+    "sizes 3 2 3\nok\nok\nissued 0 sent 0-3\ncounted echo 4-7\nidle\n\
       counted\nidle\nV4 NotSent\nV3 NoSuchPacket\n",
 );
 
 /// The frame of the SEND of `assign 7 2` from node 0 to node 1: before it was sent, with a bit changed, of another
 /// cluster, at another node, and at last as it was sent, in upper case. The tags were computed elsewhere.
-const BYTES: (&[u8], &[u8]) = (
-    b"cluster 4 1\n\
+const BYTES: Row = (
+    "cluster 4 1\n\
     role 2 0\n\
     bytes 1 -\n\
     bytes 1 01000000010001010000000100020000000700007748227dd60fa0e7d9fe50a5b9ac4a3a2e2f051b6d9ef19e52f2813c9887255a\n\
@@ -49,38 +48,47 @@ const BYTES: (&[u8], &[u8]) = (
     bytes 2 01000000010001010000000100020000000700007748227dd60fa0e7d9fe50a5b9ac4a3a2e2f051b6d9ef19e52f2813c9887255a\n\
     bytes 1 01000000010001010000000100020000000700007748227DD60FA0E7D9FE50A5B9AC4A3A2E2F051B6D9EF19E52F2813C9887255A\n\
     give 1\n",
-    b"sizes 3 2 3\nok\nL1 Length\nV4 NotSent\nissued 0 sent 0-3\n\
+    "sizes 3 2 3\nok\nL1 Length\nV4 NotSent\nissued 0 sent 0-3\n\
       L6 BadTag\nL3 Cluster\nL4 NotForMe\ncounted echo 4-7\nidle\n",
 );
 
+static SCRIPTS: [Row; 4] = [("", ""), SILENT, VOTES, BYTES];
+
 #[test]
 fn scripts(rt: HostRuntime) {
-    for (script, due) in [SILENT, VOTES, BYTES] {
-        let (result, text) = outcome(rt.alloc(), script);
-        assert!(rt; result.is_ok());
-        assert!(rt; text.as_slice() == due);
+    for (row, (script, due)) in SCRIPTS.iter().enumerate() {
+        let (result, written) = outcome(rt.alloc(), script);
+        assert!(rt; result.is_ok(), "script {row} ended by {result:?}");
+        let came = text_of(&written);
+        assert!(rt; came == *due, "script {row}: due\n{due}came\n{came}");
     }
 }
 
+/// A script, the number of its first bad line, and what is written before.
+static BAD_SCRIPTS: [(&str, u64, &str); 7] = [
+    ("cluster 3 1\n", 1, ""),
+    ("\n", 1, ""),
+    ("role 2\n", 1, ""),
+    (
+        "cluster 4 1\nliar 3\nlie send 3 1 0 0 assign 7 2\n",
+        3,
+        "sizes 3 2 3\nok\n",
+    ),
+    ("cluster 4 1\nbytes 1 0\n", 2, "sizes 3 2 3\n"),
+    ("cluster 4 1\nbytes 1 \n", 2, "sizes 3 2 3\n"),
+    ("cluster 4 1\nbytes 4 -\n", 2, "sizes 3 2 3\n"),
+];
+
 #[test]
 fn bad_scripts(rt: HostRuntime) {
-    for script in [b"cluster 3 1\n".as_slice(), b"\n", b"role 2\n"] {
-        assert!(rt; is_bad_at(outcome(rt.alloc(), script), 1, b""));
-    }
-    let sent_for_another = b"cluster 4 1\nliar 3\nlie send 3 1 0 0 assign 7 2\n";
-    assert!(rt;
-        is_bad_at(
-            outcome(rt.alloc(), sent_for_another),
-            3,
-            b"sizes 3 2 3\nok\n"
-        )
-    );
-    for script in [
-        b"cluster 4 1\nbytes 1 0\n".as_slice(),
-        b"cluster 4 1\nbytes 1 \n",
-        b"cluster 4 1\nbytes 4 -\n",
-    ] {
-        assert!(rt; is_bad_at(outcome(rt.alloc(), script), 2, b"sizes 3 2 3\n"));
+    for (row, (script, bad, due)) in BAD_SCRIPTS.iter().enumerate() {
+        let (result, written) = outcome(rt.alloc(), script);
+        assert!(rt;
+            matches!(&result, Err(ScriptFault::BadScript { line }) if line == bad),
+            "script {row}: due bad line {bad}, came {result:?}"
+        );
+        let came = text_of(&written);
+        assert!(rt; came == *due, "script {row}: due\n{due}came\n{came}");
     }
 }
 
@@ -89,13 +97,20 @@ fn failing_devices(rt: HostRuntime) {
     let (script, due) = SILENT;
     for call in 0..3 {
         let mut written = Vec::new(rt.alloc());
-        let short = Faulty::new(script, Mishap::Short, 0, u64::MAX);
+        let short = Faulty::new(script.as_bytes(), Mishap::Short, 0, u64::MAX);
         let result = run_script(
             rt.alloc(),
             &mut Watched::new(Faulty::new(short, Mishap::Fail, call, 1)),
             &mut Watched::new(&mut written),
         );
-        assert!(rt; matches!(&result, Err(ScriptFault::Device)));
-        assert!(rt; due.starts_with(written.as_slice()));
+        assert!(rt;
+            matches!(&result, Err(ScriptFault::Device)),
+            "read {call}: due Device, came {result:?}"
+        );
+        let came = text_of(&written);
+        assert!(rt;
+            due.starts_with(came),
+            "read {call}: due a front of\n{due}came\n{came}"
+        );
     }
 }
