@@ -9,8 +9,9 @@ use Rattle.std.proofs.lemmas.List.Sums.{sum_by-cons, sum_by-le, get_or-le-sum_by
 use mathlib.Core.Option.{some, some-ne-none, some-injective}
 use lib.ListN.{get_elem?}
 use Rattle.crossbeam_queue.specs.Fifo.{Pushes, Pops, Forks, Merges, Learns}
-use Rattle.node_lock.specs.Hands.{hand, all_parts, parts_in, put_in, taken_in}
+use Rattle.node_lock.specs.Hands.{hand, parts_in, put_in, taken_in}
 use Rattle.node_lock.specs.Hands.{put_more, take_more, joined, IsIdle, IsFair, IsEven}
+use Rattle.node_lock.specs.Inboxes.{inbox_parts}
 use Rattle.node_lock.specs.declared.inbox.Hand.{Hand}
 use Rattle.node_lock.specs.declared.job.Job.{Job}
 
@@ -36,12 +37,12 @@ first : (test : Job → Bool) (x : Job) (xs : List Job) → count_by test (x ∷
     ≡ count_by test (x ∷ []) + count_by test xs
 first test x xs = sum_by-append _ (x ∷ []) xs
 
-pub begins : IsFair [] (hand all_parts [] [] ∷ [])
+pub begins : IsFair [] (hand inbox_parts [] [] ∷ [])
 begins = record {
   parts = refl;
   even = λ test. refl;
   idle =
-      All-cons IsIdle (hand all_parts [] []) [] (λ e. (refl, refl)) (All-nil IsIdle);
+      All-cons IsIdle (hand inbox_parts [] []) [] (λ e. (refl, refl)) (All-nil IsIdle);
 }
 
 pub puts : (n port : ℕ) (v : Hand) (x : Job) → 0 < v.parts → Pushes IsFair n port v x (λ w. w ≡ put_more v x)
@@ -126,8 +127,8 @@ joins port v other w held items views fair at apart there =
     }
 
 -- beside the pass that has all parts no other counts
-alone : (f : Hand → ℕ) (views : List Hand) (port : ℕ) (v : Hand) → get_elem? views port ≡ some v → v.parts ≡ all_parts →
-    sum_by parts_in views ≡ all_parts → All IsIdle views → ((u : Hand) → (u.put ≡ []) × (u.taken ≡ []) → f u ≡ 0) →
+alone : (f : Hand → ℕ) (views : List Hand) (port : ℕ) (v : Hand) → get_elem? views port ≡ some v → v.parts ≡ inbox_parts →
+    sum_by parts_in views ≡ inbox_parts → All IsIdle views → ((u : Hand) → (u.put ≡ []) × (u.taken ≡ []) → f u ≡ 0) →
     sum_by f views ≡ f v
 alone f views port v at whole parts idle none =
     let spent = hand 0 [] [] in
@@ -145,7 +146,7 @@ alone f views port v at whole parts idle none =
     let u : length vs * 0 ≡ 0 = omega arith in
     omega arith
 
-pub learns : (port : ℕ) (v : Hand) → v.parts ≡ all_parts → Learns IsFair port v (IsEven v)
+pub learns : (port : ℕ) (v : Hand) → v.parts ≡ inbox_parts → Learns IsFair port v (IsEven v)
 learns port v whole items views fair at test =
     let a = alone (put_in test) views port v at whole fair.parts fair.idle (λ u e. ap (count_by test) e.0) in
     let b = alone (taken_in test) views port v at whole fair.parts fair.idle (λ u e. ap (count_by test) e.1) in

@@ -1,12 +1,9 @@
 -- The rule of an inbox's queue: of what it holds, and of what each pass put and took. Serves the code, and no public
 -- contract.
 use Rattle.std.specs.Prelude.{◌≡◌, ℕ, ◌+◌, ◌-◌, Bool, List, [], ◌∷◌, ◌++◌, All, sum_by, count_by}
+use Rattle.node_lock.specs.Inboxes.{inbox_parts}
 use Rattle.node_lock.specs.declared.inbox.Hand.{Hand}
 use Rattle.node_lock.specs.declared.job.Job.{Job}
-
--- the parts that all passes of an inbox hold together
-abbrev pub all_parts : ℕ
-all_parts = 256
 
 abbrev pub hand : ℕ → List Job → List Job → Hand
 hand parts put taken = record { parts = parts; put = put; taken = taken }
@@ -38,7 +35,7 @@ IsIdle v = v.parts ≡ 0 → (v.put ≡ []) × (v.taken ≡ [])
 
 -- all parts are there, and of each kind of jobs as many were put as were taken and lie in the queue
 pub record IsFair (items : List Job) (hands : List Hand) : Type 0 where
-  pub parts : sum_by parts_in hands ≡ all_parts
+  pub parts : sum_by parts_in hands ≡ inbox_parts
   pub even : (test : Job → Bool) → sum_by (put_in test) hands ≡ sum_by (taken_in test) hands + count_by test items
   pub idle : All IsIdle hands
 

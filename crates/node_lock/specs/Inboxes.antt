@@ -1,5 +1,5 @@
 -- What contracts see of the passes of an inbox.
-use Rattle.std.specs.Prelude.{◌≡◌, ℕ, ◌+◌, Bool, List, [], ◌∷◌, ◌++◌, sum_by, count_by}
+use Rattle.std.specs.Prelude.{◌≡◌, ℕ, ◌+◌, ◌<◌, Bool, List, [], ◌∷◌, ◌++◌, sum_by, count_by}
 use Rattle.atomic_table.specs.Seated.{TableId}
 use Rattle.node_lock.specs.declared.job.Job.{Job}
 
@@ -38,9 +38,9 @@ parts_of p = p.parts
 abbrev pub IsPassTo : TableId → Passing → Type 0
 IsPassTo inbox p = p.inbox ≡ inbox
 
--- a pass of this inbox that put and took nothing
+-- a pass of this inbox that holds a part, and put and took nothing
 abbrev pub IsNewPassTo : TableId → Passing → Type 0
-IsNewPassTo inbox p = (p.inbox ≡ inbox) × (p.put ≡ []) × (p.taken ≡ [])
+IsNewPassTo inbox p = (p.inbox ≡ inbox) × (0 < p.parts) × (p.put ≡ []) × (p.taken ≡ [])
 
 -- no pass is absent: they hold all parts
 abbrev pub AreAllPasses : List Passing → Type 0

@@ -9,5 +9,6 @@ pub mod Walks
 pub mod Hands
 pub mod Inboxes
 pub mod InboxFaults
+pub mod Laws
 pub mod Pools
 pub mod PoolTexts

@@ -2,7 +2,7 @@ ghost use Rattle.std.specs.Prelude.{◌≡◌, ◌≢◌, ◌+◌, ◌<◌, ◌�
 ghost use Rattle.std.specs.Prelude.{sum_by, count_by, IfOk, IfErr, OnOk, MatchOption, vec_len};
 ghost use Rattle.std.specs.Vec.{vec_capacity};
 ghost use Rattle.crossbeam_queue.specs.Passes.{view, IsPassOf, ruled_capacity};
-ghost use Rattle.node_lock.specs.Hands.{all_parts, put_in, taken_in, IsEven};
+ghost use Rattle.node_lock.specs.Hands.{put_in, taken_in, IsEven};
 ghost use Rattle.node_lock.specs.Inboxes.{Passing, inbox_capacity, inbox_parts, most_passes, parts_of, after_put};
 ghost use Rattle.node_lock.specs.Inboxes.{after_take, IsPassTo, IsNewPassTo, AreAllPasses, AreSettled};
 ghost use Rattle.node_lock.specs.InboxFaults.{inbox_in, passes_in, IsInboxFault};
@@ -39,11 +39,12 @@ struct Fair;
 
 impl Protocol<Job, Hand> for Fair {
     ghost use Rattle.std.specs.Prelude.{[]};
-    ghost use Rattle.node_lock.specs.Hands.{all_parts, hand, IsFair};
+    ghost use Rattle.node_lock.specs.Hands.{hand, IsFair};
+    ghost use Rattle.node_lock.specs.Inboxes.{inbox_parts};
 
     ghost holds = { IsFair };
 
-    ghost first = { hand all_parts [] [] };
+    ghost first = { hand inbox_parts [] [] };
 }
 
 /// A new pass gets one part, and passes are put together again.
@@ -232,7 +233,7 @@ impl Inbox {
         self.queue.push_as::<Puts, R>(rt, &mut pass.pass, job)
     }
 
-    /// Takes the oldest job, or `None` where there was none. The pass must be of this inbox.
+    /// Takes a job, or `None` where there was none. The pass must be of this inbox.
     pub fn take<R: Wait>(&self, rt: &R, pass: &mut InboxPass) -> Option<Job>
         requires { IsPassTo self.now pass.old }
         ensures { MatchOption result (pass.new ≡ pass.old) (λ job. pass.new ≡ after_take pass.old job) }
@@ -240,7 +241,7 @@ impl Inbox {
         self.queue.pop_as::<Takes, R>(rt, &mut pass.pass)
     }
 
-    /// The jobs that are left, oldest first. Every pass must be of this inbox.
+    /// The jobs that are left. Every pass must be of this inbox.
     ///
     /// # Errors
     ///
@@ -316,7 +317,7 @@ fn merged(queue: &Queue, mut passes: Vec<InboxPass>, mut all: Pass<Job, Hand>) -
 /// The jobs left in the queue, for the pass that holds all parts.
 fn drained<R: Wait>(rt: &R, queue: &Queue, mut all: Pass<Job, Hand>, mut left: Vec<Job>) -> Vec<Job>
     requires pass { IsPassOf queue.now all }
-    requires parts { (view all).parts ≡ all_parts }
+    requires parts { (view all).parts ≡ inbox_parts }
     requires empty { left.items ≡ [] }
     requires room { (inbox_capacity ≤ vec_capacity left) × (ruled_capacity queue.now ≡ inbox_capacity) }
     ensures { IsEven (view all) result.items }

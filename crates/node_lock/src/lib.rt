@@ -10,6 +10,7 @@ mod audits;
 mod gate;
 mod inbox;
 mod job;
+pub mod laws;
 mod locked;
 mod pool;
 mod receipt;

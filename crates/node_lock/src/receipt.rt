@@ -25,7 +25,8 @@ pub enum Outcome {
     Refused(NodeFault),
 }
 
-/// What a caller keeps of one call under the lock.
+/// What a caller keeps of one call under the lock. It is plain data that anyone can write: an audit tells whether it is
+/// true of a node, its seat apart, which no audit looks at.
 #[derive(Drop, Debug)]
 pub struct Receipt {
     /// The number of the caller's seat.

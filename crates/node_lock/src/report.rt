@@ -17,9 +17,9 @@ use std::fmt;
 pub struct PoolReport {
     /// The receipt of each call, in the order of the calls.
     pub receipts: Vec<Receipt>,
-    /// How many events each worker recorded.
+    /// How many receipts of recorded events name the seat of each worker.
     pub recorded: Vec<u32>,
-    /// A node made from the configuration and the name, with the history of the shared node.
+    /// A node made from the configuration and the name, against which the receipts were audited.
     pub node: Node,
 }
 

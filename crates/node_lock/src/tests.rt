@@ -29,8 +29,8 @@ const CHECK: Question = Question::Check {
 /// The most turns that a gate waits.
 const PATIENCE: u32 = 200_000_000;
 
-/// The configuration of a cluster of one node with role 2, and its node's name.
-fn config(alloc: Global) -> Result<(Config, NodeName), Fail>
+/// The configuration of a cluster of one node with role 2, which records so many events, and its node's name.
+fn config(alloc: Global, limit: u32) -> Result<(Config, NodeName), Fail>
     ensures { IfOk result (λ made. made.1 < made.0.roles.sizes.nodes) }
 {
     let sizes = Sizes::new(1, 0)?;
@@ -40,14 +40,15 @@ fn config(alloc: Global) -> Result<(Config, NodeName), Fail>
     }
     let mut table = RoleTable::new(alloc, sizes);
     table.add(2, 0)?;
-    Ok((Config::new(1, table, 10).ok_or("no configuration")?, me))
+    let config = Config::new(1, table, limit).ok_or("no configuration")?;
+    Ok((config, me))
 }
 
 /// A node of this cluster that has recorded nothing.
 fn new_node(alloc: Global) -> Result<Node, Fail>
     ensures { IfOk result (λ node. node.history ≡ []) }
 {
-    let (config, me) = config(alloc)?;
+    let (config, me) = config(alloc, 10)?;
     Ok(Node::new(alloc, config, me)?)
 }
 
@@ -107,8 +108,11 @@ fn open_a_session<L: Ledger, R: Wait + Abort>(
     seat: &mut Seat<L>,
 ) -> Result<Receipt, Fail> {
     let open = shared.node.lock(rt).step(seat, OPEN)?;
-    assert!(rt; (open.seat, open.place) == (1, 0));
-    assert!(rt; session_of(&open) == Some(1));
+    assert!(rt;
+        (open.seat, open.place) == (1, 0),
+        "the first of seat 1: {open:?}"
+    );
+    assert!(rt; session_of(&open) == Some(1), "session 1: {open:?}");
     Ok(open)
 }
 
@@ -121,12 +125,16 @@ fn ask_twice<L: Ledger, R: Wait + Abort>(
 ) -> Result<Vec<Receipt>, Fail> {
     let mut asked = Vec::new(alloc);
     let roles = shared.node.lock(rt).ask(seat, Question::AssignedRoles(7))?;
-    assert!(rt; roles.place == 1);
-    assert!(rt; has_no_roles(&roles));
+    assert!(rt;
+        roles.place == 1 && has_no_roles(&roles),
+        "no roles at 1: {roles:?}"
+    );
     asked.push(roles)?;
     let check = shared.node.lock(rt).ask(seat, CHECK)?;
-    assert!(rt; check.place == 1);
-    assert!(rt; has_no_active_role(&check));
+    assert!(rt;
+        check.place == 1 && has_no_active_role(&check),
+        "no active role at 1: {check:?}"
+    );
     asked.push(check)?;
     Ok(asked)
 }
@@ -155,14 +163,27 @@ fn audit_three(
     open: Receipt,
     mut receipts: Vec<Receipt>,
 ) -> Result<(), Fail> {
-    assert!(rt; audit(alloc, node, &receipts) == Err(AuditFault::Missing(0)));
+    let found = audit(alloc, node, &receipts);
+    assert!(rt;
+        found == Err(AuditFault::Missing(0)),
+        "the first is left out: {found:?}"
+    );
     receipts.push(opened(2))?;
-    assert!(rt; audit(alloc, node, &receipts) == Err(AuditFault::Differs(0)));
+    let found = audit(alloc, node, &receipts);
+    assert!(rt;
+        found == Err(AuditFault::Differs(0)),
+        "the first is altered: {found:?}"
+    );
     let _altered = receipts.pop();
     receipts.push(open)?;
-    assert!(rt; audit(alloc, node, &receipts) == Ok(()));
+    let found = audit(alloc, node, &receipts);
+    assert!(rt; found == Ok(()), "all three: {found:?}");
     receipts.push(opened(1))?;
-    assert!(rt; audit(alloc, node, &receipts) == Err(AuditFault::Doubled(0)));
+    let found = audit(alloc, node, &receipts);
+    assert!(rt;
+        found == Err(AuditFault::Doubled(0)),
+        "the first is doubled: {found:?}"
+    );
     Ok(())
 }
 
@@ -201,9 +222,15 @@ fn issue<L: Ledger, R: Wait + Abort>(
     }
     let issue = Some(Call::Step(Event::Issue(ASSIGN)));
     let (receipt, view) = node.hold(seat, issue, owner, 0)?;
-    assert!(rt; receipt.map(|receipt| receipt.place) == Some(0));
-    assert!(rt; (view.at, view.reach) == (1, 0));
-    assert!(rt; view.again.send == Some(ASSIGN));
+    assert!(rt;
+        receipt.map(|receipt| receipt.place) == Some(0),
+        "the command is issued at place 0"
+    );
+    assert!(rt; (view.at, view.reach) == (1, 0), "at 1, reach 0: {view:?}");
+    assert!(rt;
+        view.again.send == Some(ASSIGN),
+        "the command is sent: {view:?}"
+    );
     Ok(())
 }
 
@@ -255,23 +282,27 @@ fn an_inbox_gives_back_what_is_left(rt: HostRuntime) -> Result<(), Fail> {
     };
     assert!(rt; inbox.put(&rt, &mut pass, job(0)).is_ok());
     assert!(rt; inbox.put(&rt, &mut pass, job(1)).is_ok());
-    assert!(rt; inbox.take(&rt, &mut pass) == Some(job(0)));
+    let taken = inbox.take(&rt, &mut pass);
+    assert!(rt; taken == Some(job(0)), "job 0 is taken: {taken:?}");
     let left = finish_in_two(&rt, alloc, inbox, pass, kept)?;
-    assert!(rt; left.as_slice() == [job(1)].as_slice());
+    assert!(rt;
+        left.as_slice() == [job(1)].as_slice(),
+        "job 1 is left: {left:?}"
+    );
     Ok(())
 }
 
-/// Puts so many jobs into an inbox, and says whether it took them all.
-fn fill<R: Wait>(rt: &R, inbox: &Inbox, pass: &mut InboxPass, count: u32) -> bool
+/// Puts so many jobs into an inbox, up to the first that it hands back, whose number it says.
+fn fill<R: Wait>(rt: &R, inbox: &Inbox, pass: &mut InboxPass, count: u32) -> Option<u32>
     requires { IsPassTo inbox.now pass.old }
     ensures { IsPassTo inbox.now pass.new }
 {
     for number in 0..count {
         if inbox.put(rt, pass, job(number)).is_err() {
-            return false;
+            return Some(number);
         }
     }
-    true
+    None
 }
 
 #[test]
@@ -280,8 +311,13 @@ fn a_full_inbox_hands_the_job_back(rt: HostRuntime) -> Result<(), Fail> {
     let Some(mut pass) = passes.pop() else {
         return Err("no pass".into());
     };
-    assert!(rt; fill(&rt, &inbox, &mut pass, 1_024));
-    assert!(rt; inbox.put(&rt, &mut pass, job(1_024)) == Err(job(1_024)));
+    let back = fill(&rt, &inbox, &mut pass, 1_024);
+    assert!(rt; back.is_none(), "handed back: {back:?}");
+    let last = inbox.put(&rt, &mut pass, job(1_024));
+    assert!(rt;
+        last == Err(job(1_024)),
+        "job 1024 is handed back: {last:?}"
+    );
     Ok(())
 }
 
@@ -324,7 +360,7 @@ impl Gate for Meeting {
 #[test]
 fn two_workers_run_at_once(rt: HostRuntime) -> Result<(), Fail> {
     let alloc = rt.alloc();
-    let (config, me) = config(alloc)?;
+    let (config, me) = config(alloc, 10)?;
     let mut calls = Vec::new(alloc);
     calls.push(Call::Step(OPEN))?;
     calls.push(Call::Step(OPEN_OTHER))?;
@@ -340,8 +376,58 @@ fn two_workers_run_at_once(rt: HostRuntime) -> Result<(), Fail> {
     } = run_pool(&rt, alloc, config, me, calls, 2, &gate)?;
     assert!(rt; gate.late.load(Ordering::SeqCst) == 0);
     assert!(rt; node.history().len() == 2 && receipts.len() == 2);
-    assert!(rt; receipts[1].place == 0 && session_of(&receipts[1]) == Some(1));
-    assert!(rt; receipts[0].place == 1 && session_of(&receipts[0]) == Some(2));
-    assert!(rt; recorded.as_slice() == [1, 1].as_slice());
+    let (first, second) = (&receipts[0], &receipts[1]);
+    assert!(rt;
+        second.place == 0 && session_of(second) == Some(1),
+        "call 1 is the first: {second:?}"
+    );
+    assert!(rt;
+        first.place == 1 && session_of(first) == Some(2),
+        "call 0 is the second: {first:?}"
+    );
+    assert!(rt;
+        recorded.as_slice() == [1, 1].as_slice(),
+        "one of each worker: {recorded:?}"
+    );
+    Ok(())
+}
+
+/// The calls that open a session for each of so many users.
+fn openings(alloc: Global, users: u32) -> Result<Vec<Call>, Fail> {
+    let mut calls = Vec::new(alloc);
+    for user in 0..users {
+        calls.push(Call::Step(Event::Client(ClientEvent::Open { user })))?;
+    }
+    Ok(calls)
+}
+
+/// The user for whom a receipt's call opens a session.
+fn user_of(receipt: &Receipt) -> Option<u32> {
+    match receipt.call {
+        Call::Step(Event::Client(ClientEvent::Open { user })) => Some(user),
+        _ => None,
+    }
+}
+
+#[test]
+fn a_pool_runs_more_calls_than_an_inbox_takes(rt: HostRuntime) -> Result<(), Fail> {
+    let alloc = rt.alloc();
+    let (config, me) = config(alloc, 2_500)?;
+    let calls = openings(alloc, 2_500)?;
+    assert!(rt; calls.len() == 2_500);
+    let report = run_pool(&rt, alloc, config, me, calls, 8, &NoGate)?;
+    assert!(rt; report.receipts.len() == 2_500 && report.recorded.len() == 8);
+    for (receipt, user) in report.receipts.iter().zip(0..2_500) {
+        assert!(rt;
+            user_of(receipt) == Some(user),
+            "receipt {user} of {:?}",
+            receipt.call
+        );
+    }
+    let mut sum = 0u32;
+    for count in &report.recorded {
+        sum = sum.wrapping_add(*count);
+    }
+    assert!(rt; sum == 2_500, "{:?} recorded", report.recorded);
     Ok(())
 }

@@ -3,7 +3,8 @@ use Rattle.std.proofs.Common.{◌∷◌, ◌++◌, length, sym, ap, ◌∙◌, r
 use Rattle.std.specs.Prelude.{count_by, sum_by}
 use Rattle.std.proofs.lemmas.List.Sums.{sum_by-append, sum_by-cons}
 use Rattle.crossbeam_queue.specs.Passes.{view}
-use Rattle.node_lock.specs.Hands.{hand, all_parts, put_in, taken_in, IsEven}
+use Rattle.node_lock.specs.Hands.{hand, put_in, taken_in, IsEven}
+use Rattle.node_lock.specs.Inboxes.{inbox_parts}
 use Rattle.node_lock.specs.declared.inbox.Hand.{Hand}
 use Rattle.node_lock.specs.declared.job.Job.{Job}
 use Rattle.node_lock.proofs.Hauls.{learns, takes}
@@ -14,7 +15,7 @@ every [] = refl
 every (x ∷ xs) = sum_by-cons (λ (y : Job). 1) x xs ∙ let h = every xs in omega arith
 
 -- what is even after some jobs were taken is even with these as what is left
-none_left : (v w : Hand) (left items : List Job) → w ≡ hand all_parts v.put (v.taken ++ left) → IsEven w items → items
+none_left : (v w : Hand) (left items : List Job) → w ≡ hand inbox_parts v.put (v.taken ++ left) → IsEven w items → items
     ≡ [] →
     IsEven v left
 none_left v w left items is even none test =
@@ -30,7 +31,7 @@ empty [] e = refl
 empty (x ∷ xs) e = absurd (omega arith)
 
 -- where as many were taken as there were, none is left
-all_taken : (v w : Hand) (left before items : List Job) → w ≡ hand all_parts v.put (v.taken ++ left) → IsEven v before →
+all_taken : (v w : Hand) (left before items : List Job) → w ≡ hand inbox_parts v.put (v.taken ++ left) → IsEven v before →
     IsEven w items → length left ≡ length before → items ≡ []
 all_taken v w left before items is was even same =
     let test : Job → Bool = λ x. true in
@@ -49,12 +50,12 @@ len_as-count-requires-clause-rule g c = learns _ _ c.requires.parts
 
 pub pop_as-requires-clause-rule : goal.pop_as-requires-clause-rule
 pop_as-requires-clause-rule g c =
-    let whole : (view c.loop-i.all).parts ≡ all_parts = ap (λ (v : Hand). v.parts) c.loop-i.invariant.known in
+    let whole : (view c.loop-i.all).parts ≡ inbox_parts = ap (λ (v : Hand). v.parts) c.loop-i.invariant.known in
     (takes _ _ (omega arith), learns _ _ whole)
 
 pub learn_as-requires-clause-rule : goal.learn_as-requires-clause-rule
 learn_as-requires-clause-rule g c =
-    let whole : (view c.loop-i.all).parts ≡ all_parts = ap (λ (v : Hand). v.parts) c.loop-i.invariant.known in
+    let whole : (view c.loop-i.all).parts ≡ inbox_parts = ap (λ (v : Hand). v.parts) c.loop-i.invariant.known in
     learns _ _ whole
 
 pub returns-in_default : goal.returns-in_default

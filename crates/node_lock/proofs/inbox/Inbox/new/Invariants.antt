@@ -1,13 +1,12 @@
 use Rattle.std.specs.Prelude.{◌≡◌, ◌+◌, [], All, sum_by, vec_len}
 use Rattle.crossbeam_queue.specs.Passes.{view, IsPassOf}
-use Rattle.node_lock.specs.Hands.{hand, all_parts}
-use Rattle.node_lock.specs.Inboxes.{parts_of, IsNewPassTo}
+use Rattle.node_lock.specs.Inboxes.{inbox_parts, parts_of, IsNewPassTo}
 use Rattle.node_lock.proofs.inbox.Inbox.new.Given as goal
 
 abbrev pub invariant-loop-number : goal.invariant-loop-number
 invariant-loop-number l = record {
   pass : IsPassOf l.queue l.first;
-  known : (view l.first).parts + l._number ≡ all_parts + 1;
+  known : (view l.first).parts + l._number ≡ inbox_parts + 1;
   put : (view l.first).put ≡ [];
   taken : (view l.first).taken ≡ [];
   made : vec_len l.made + 1 ≡ l._number;
