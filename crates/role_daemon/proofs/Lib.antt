@@ -1,6 +1,7 @@
 pub mod ShapeLemmas
 pub mod SetupLemmas
 pub mod AnswerLemmas
+pub mod OwnLemmas
 pub mod PipeLemmas
 pub mod RunLemmas
 pub mod OpenLemmas

@@ -267,6 +267,9 @@ LinesRan-fault start k reader a c e (inr is) wrote =
 
 -- ---- when the device has failed
 
+pub not_device : {A : Type 0} (x : A) → ◌≡◌ {A = Result A PipeFault} (Ok x) (Err Device) → ⊥
+not_device x e = absurd cc
+
 pub finish_device : (b c : Option (List ℕ)) (shown : List ℕ) (ending result : Result (Unit {0}) PipeFault)
     (old mid new : Tally) (R E : Type 0)
     → IfErr ending (λ e. e ≡ Device → Appends b c shown → E) → WentOn old mid

@@ -61,17 +61,18 @@ abbrev pub sent_own : NodeValue → Option PacketValue → Option Message
 sent_own node None = None
 sent_own node (Some p) = sent_by (due_at node (event.Take p))
 
--- Own packets are taken until none is left, and so many at most. With one node a message is one packet, and a packet
--- causes one message at most, so no more than one waits.
-unfoldable pub take_own : ℕ → NodeValue → Option Message → NodeValue
-take_own zero node waiting = node
-take_own (suc k) node None = node
+-- The node after so many of its own packets were taken, and the message that then waits. With one node a message is one
+-- packet, and a packet causes one message at most, so no more than one waits.
+unfoldable pub take_own : ℕ → NodeValue → Option Message → NodeValue × Option Message
+take_own zero node waiting = (node, waiting)
+take_own (suc k) node None = (node, None)
 take_own (suc k) node (Some message) =
     take_own k (after_own node (own_packet node message)) (sent_own node (own_packet node message))
 
--- the node after it took its SEND, the ECHO that this causes, and the READY that that causes
+-- The node after it took its own packets until none is left: its SEND, the ECHO that this causes, and the READY that
+-- that causes. `specs/Laws.antt` says that none is left then.
 unfoldable pub settled : NodeValue → Option Message → NodeValue
-settled node waiting = take_own 3 node waiting
+settled node waiting = (take_own 3 node waiting).0
 
 -- The node after the event and its own packets. Only a command that is published sends one.
 unfoldable pub after_taken : NodeValue → Event → NodeValue

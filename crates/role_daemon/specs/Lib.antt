@@ -4,6 +4,7 @@ pub mod TableFaults
 pub mod Setups
 pub mod Statuses
 pub mod Answers
+pub mod Laws
 pub mod Pipes
 pub mod Runs
 pub mod Steps

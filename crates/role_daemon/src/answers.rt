@@ -69,21 +69,14 @@ fn due(node: &mut Node, event: Event) -> Result<Result<Reply, NodeFault>, AllocE
     }
 }
 
-/// Has the node take its own packets: of this message, of the one that it then sends, and so on.
-#[tactic(auto, unfolding(crate::specs::Answers::settled, crate::specs::Answers::take_own))]
+/// Has the node take its own packets until none is left: of this message, of the one that it then sends, and so on.
 fn settle(node: &mut Node, send: Option<Message>) -> Result<(), AllocError>
     ensures { OnOk result (node.new ≡ settled node.old send) }
 {
-    let Some(send) = send else {
-        return Ok(());
-    };
-    let Some(echo) = take_own(node, send)? else {
-        return Ok(());
-    };
-    let Some(ready) = take_own(node, echo)? else {
-        return Ok(());
-    };
-    let _ = take_own(node, ready)?;
+    let mut waiting = send;
+    while let Some(message) = waiting {
+        waiting = take_own(node, message)?;
+    }
     Ok(())
 }
 

@@ -1,6 +1,6 @@
 //! The pipe: one node, whose clients speak in lines.
 
-ghost use Rattle.std.specs.Prelude.{◌≡◌, ◌<◌, ◌≤◌, ◌++◌, ◌⊎◌, length, IfOk, IfErr, OnOk, OnErr, Ok};
+ghost use Rattle.std.specs.Prelude.{◌≡◌, ◌≢◌, ◌<◌, ◌≤◌, ◌++◌, ◌⊎◌, length, IfOk, IfErr, OnOk, OnErr, Ok, Err};
 ghost use Rattle.link_frames.specs.Watching.{watched_inner, watched_tally};
 ghost use Rattle.link_frames.specs.Devices.{WentOn, CallFailed, ReaderFailed, AppendsFront};
 ghost use Rattle.link_frames.specs.Lines.{ended};
@@ -10,6 +10,8 @@ ghost use Rattle.client_lines.specs.AnswerTexts.{IsWritten, answer_text};
 ghost use Rattle.role_daemon.specs.Pipes.{stops, line_text, after_line};
 ghost use Rattle.role_daemon.specs.Runs.{PipeRan, IsEndless};
 ghost use Rattle.role_daemon.specs.Steps.{IsNodeOf, RefusesNode, Opened, Answered, LinesRan, LinesEndless, Finished};
+
+pub mod laws;
 
 use crate::answers::answer;
 use crate::cluster::{MOST_TEXT_BYTES, Mode, read_cluster};
@@ -31,6 +33,7 @@ const MOST_HELD_BYTES: usize = 8192;
 ///
 /// `Cluster` where the first line sets up no node, when nothing is written. `Device` where the reader or the writer has
 /// failed, or where there is no number for another line, and `Memory`; a front of the text that is due is written then.
+/// All but `Device` come only where no read or write broke.
 pub fn run_pipe<R: Read, W: Write>(
     alloc: Global,
     reader: &mut Watched<R>,
@@ -43,6 +46,8 @@ pub fn run_pipe<R: Read, W: Write>(
         ⊎ (CallFailed (watched_tally writer.old) (watched_tally writer.new)
         ⊎ IsEndless (R.remaining (watched_inner reader.old))
         (W.contents (watched_inner writer.old)) (W.contents (watched_inner writer.new)))) }
+    ensures quiet { result ≢ Err PipeFault.Device → WentOn (watched_tally reader.old) (watched_tally reader.new)
+        × WentOn (watched_tally writer.old) (watched_tally writer.new) }
 {
     let mut ahead = Ahead::new(alloc);
     let Some(mut node) = open(alloc, &mut ahead, reader)? else {
@@ -61,7 +66,7 @@ fn open<R: Read>(
         (pending (R.remaining (watched_inner reader.new)) ahead.new) (R.remaining (watched_inner reader.new)) result }
     ensures device { IfErr result (λ e. e ≡ PipeFault.Device →
         ReaderFailed (watched_tally reader.old) (watched_tally reader.new)) }
-    ensures quiet { OnOk result (WentOn (watched_tally reader.old) (watched_tally reader.new)) }
+    ensures quiet { result ≢ Err PipeFault.Device → WentOn (watched_tally reader.old) (watched_tally reader.new) }
 {
     match ahead.peek(reader, MOST_TEXT_BYTES)? {
         Next::End => Err(PipeFault::Cluster(ClusterFault::NotJson)),
@@ -106,6 +111,8 @@ fn answer_lines<R: Read, W: Write>(
         ⊎ (CallFailed (watched_tally writer.old) (watched_tally writer.new)
         ⊎ LinesEndless node.old (pending (R.remaining (watched_inner reader.old)) ahead.old)
         (W.contents (watched_inner writer.old)) (W.contents (watched_inner writer.new)))) }
+    ensures quiet { result ≢ Err PipeFault.Device → WentOn (watched_tally reader.old) (watched_tally reader.new)
+        × WentOn (watched_tally writer.old) (watched_tally writer.new) }
 {
     let mut held = Vec::new(alloc);
     for number in 1..u64::MAX {
@@ -131,7 +138,7 @@ fn answer_next<R: Read>(
     ensures device { IfErr result (λ e. e ≡ PipeFault.Device →
         ReaderFailed (watched_tally reader.old) (watched_tally reader.new)) }
     ensures kind { IfErr result (λ e. (e ≡ PipeFault.Device) ⊎ (e ≡ PipeFault.Memory)) }
-    ensures quiet { OnOk result (WentOn (watched_tally reader.old) (watched_tally reader.new)) }
+    ensures quiet { result ≢ Err PipeFault.Device → WentOn (watched_tally reader.old) (watched_tally reader.new) }
 {
     match ahead.peek(reader, MOST_LINE_BYTES)? {
         Next::End => Ok(false),
@@ -217,8 +224,9 @@ fn finish<W: Write>(
     text: &[u8],
     ending: Result<(), PipeFault>,
 ) -> Result<(), PipeFault>
-    ensures { Finished (W.contents (watched_inner writer.old)) (W.contents (watched_inner writer.new)) text.now
+    ensures ended { Finished (W.contents (watched_inner writer.old)) (W.contents (watched_inner writer.new)) text.now
         ending result (CallFailed (watched_tally writer.old) (watched_tally writer.new)) }
+    ensures quiet { result ≢ Err PipeFault.Device → WentOn (watched_tally writer.old) (watched_tally writer.new) }
 {
     write_whole(writer, text)?;
     ending

@@ -2,7 +2,7 @@ use Rattle.std.proofs.Common.{arith, inl, inr, ◌∙◌, None, sym, subst}
 use Rattle.std.proofs.lemmas.Result.{err_from_is_err_and}
 use Rattle.link_frames.proofs.Exported.{Ran-moved, WentOn-nothing, WentOn-trans, CallFailed-later, ReaderFailed-later}
 use Rattle.role_daemon.proofs.RunLemmas.{Lines-start, Ran-more, Lines-front, Lines-kept, Lines-end}
-use Rattle.role_daemon.proofs.RunLemmas.{Lines-out, Lines-endless, LinesRan-fault, finish_device}
+use Rattle.role_daemon.proofs.RunLemmas.{Lines-out, Lines-endless, LinesRan-fault, finish_device, not_device}
 use Rattle.role_daemon.proofs.pipe.answer_lines.Goals as goal
 
 pub loop-number-init : goal.loop-number-init
@@ -41,12 +41,12 @@ returns-then-not-branch-clause-ran g c =
     let (ran, reads, writes) = c.loop-number.invariant in
     let moved = Ran-moved ran _ _ c.in_ok-write_when_due.ensures.ok in
     let answered = rw c.if-not-branch.true at c.in_ok-answer_next.ensures.answered in
-    Lines-end moved _ None _ c.args.node.now _ _ _ _ answered c.deref.ensures.value c.finish.ensures
+    Lines-end moved _ None _ c.args.node.now _ _ _ _ answered c.deref.ensures.value c.finish.ensures.ended
 
 pub returns-then-not-branch-clause-device : goal.returns-then-not-branch-clause-device
 returns-then-not-branch-clause-device g c =
     let (ran, reads, writes) = c.loop-number.invariant in
-    finish_device _ _ _ _ _ _ _ _ _ _ tt (WentOn-trans writes c.in_ok-write_when_due.ensures.quiet) c.finish.ensures
+    finish_device _ _ _ _ _ _ _ _ _ _ tt (WentOn-trans writes c.in_ok-write_when_due.ensures.quiet) c.finish.ensures.ended
 
 pub loop-number-preserved : goal.loop-number-preserved
 loop-number-preserved g c =
@@ -54,17 +54,17 @@ loop-number-preserved g c =
     let moved = Ran-moved ran _ _ c.in_ok-write_when_due.ensures.ok in
     let answered = rw c.if-not-branch.false at c.in_ok-answer_next.ensures.answered in (
       Ran-more moved _ None _ _ answered,
-      WentOn-trans reads c.in_ok-answer_next.ensures.quiet,
+      WentOn-trans reads (c.in_ok-answer_next.ensures.quiet (not_device _)),
       WentOn-trans writes c.in_ok-write_when_due.ensures.quiet,
     )
 
 pub returns-clause-ran : goal.returns-clause-ran
 returns-clause-ran g c =
     let (ran, reads, writes) = c.loop-number.invariant in
-    Lines-out ran _ _ _ _ _ c.deref-2.ensures.value c.finish-2.ensures
+    Lines-out ran _ _ _ _ _ c.deref-2.ensures.value c.finish-2.ensures.ended
 
 pub returns-clause-device : goal.returns-clause-device
 returns-clause-device g c =
     let (ran, reads, writes) = c.loop-number.invariant in
     finish_device _ _ _ _ _ _ _ _ _ _
-    (λ q sent. Lines-endless ran _ (omega arith) (rw c.deref-2.ensures.value at sent)) writes c.finish-2.ensures
+    (λ q sent. Lines-endless ran _ (omega arith) (rw c.deref-2.ensures.value at sent)) writes c.finish-2.ensures.ended

@@ -1,6 +1,8 @@
 use Rattle.std.proofs.Common.{None}
 use Rattle.std.proofs.lemmas.Result.{err_from_is_err_and}
 use Rattle.role_daemon.proofs.OpenLemmas.{whole_run, whole_endless, alone, not_opened, later_device}
+use Rattle.link_frames.proofs.Exported.{WentOn-trans}
+use Rattle.role_daemon.proofs.RunLemmas.{not_device}
 use Rattle.role_daemon.proofs.pipe.run_pipe.Goals as goal
 
 pub returns-in_err-node-clause-ran : goal.returns-in_err-node-clause-ran
@@ -21,6 +23,11 @@ returns-clause-ran g c =
 pub returns-clause-device : goal.returns-clause-device
 returns-clause-device g c =
     let (first, none, took, made) = rw c.in-Some.is at c.in_ok-node.ensures.opened in
-    later_device _ _ _ _ _ _ _ c.in_ok-node.ensures.quiet
+    later_device _ _ _ _ _ _ _ (c.in_ok-node.ensures.quiet (not_device _))
     (whole_endless _ _ _ first c.in-Some.node c.new-ahead.ensures.front none took made _ _)
     c.answer_lines.ensures.device
+
+pub returns-clause-quiet : goal.returns-clause-quiet
+returns-clause-quiet g c = λ other.
+    let (reads, writes) = c.answer_lines.ensures.quiet other in
+    (WentOn-trans (c.in_ok-node.ensures.quiet (not_device _)) reads, writes)
