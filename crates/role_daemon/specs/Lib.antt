@@ -1,6 +1,5 @@
 pub mod Shapes
 pub mod Results
-pub mod TableFaults
 pub mod Setups
 pub mod Statuses
 pub mod Answers

@@ -1,14 +1,16 @@
 -- The node that a cluster text sets up.
-use Rattle.std.specs.Prelude.{◌≡◌, ◌<◌, ◌⊎◌, ⊤, ℕ, nat_lt, ◌==◌, not, ◌&&◌, if◌then◌else◌, List}
+use Rattle.std.specs.Prelude.{◌≡◌, ◌<◌, ⊤, ℕ, nat_lt, nat_le, ◌==◌, not, if◌then◌else◌, List}
 use Rattle.std.specs.Prelude.{[], ◌∷◌, length, Option, Some, None, is_some, Result, Ok, Err}
+use Rattle.std.specs.List.{list_any}
 use Rattle.serde_json.specs.Data.{Data}
 use Rattle.serde_json.specs.Find.{as_object}
 use Rattle.quorum_sizes.specs.Sizes.{Counts}
 use Rattle.quorum_sizes.specs.Refusals.{sizes_due}
 use Rattle.quorum_sizes.specs.declared.sizes.SizeFault.{SizeFault}
-use Rattle.role_commands.specs.Tables.{Table, no_roles, with_role}
+use Rattle.role_commands.specs.Tables.{Table, no_roles, with_role, most_roles}
 use Rattle.role_commands.specs.TableFaults.{add_due}
 use Rattle.role_commands.specs.declared.table.TableFault.{TableFault}
+use Rattle.role_commands.specs.declared.table.TableFault.TheVariants as table
 use Rattle.role_node.specs.Configs.{most_events}
 use Rattle.client_lines.specs.Json.{json_of}
 use Rattle.client_lines.specs.Results.{◌>>=◌}
@@ -98,10 +100,18 @@ setup_due mode bytes =
 
 -- ---- steps of the code
 
--- the roles were added, or the first fault was met, or memory was wanting
-abbrev pub Adds : Table → List (ℕ × ℕ) → Result (Unit {0}) ClusterFault → Table → Type 0
-Adds old pairs (Ok done) new = table_of old pairs ≡ Ok new
-Adds old pairs (Err f) new = (table_of old pairs ≡ Err f) ⊎ (f ≡ fault.Memory)
+-- the fault alone, where there is one
+abbrev pub checked : {A : Type 0} → Result A ClusterFault → Result (Unit {0}) ClusterFault
+checked (Ok x) = Ok tt
+checked (Err f) = Err f
+
+-- the first fault of a role with its owner behind these others, each of another role
+abbrev pub fault_behind : Counts → List (ℕ × ℕ) → (ℕ × ℕ) → Option TableFault
+fault_behind s before pair =
+    if nat_le s.nodes pair.1 then Some table.NoSuchNode
+    else (if list_any (λ other. pair.0 == other.0) before then Some table.Repeated
+    else (if nat_le most_roles (length before) then Some table.TooManyRoles
+    else None))
 
 -- the node's own name is a node's
 abbrev pub IsNodeSetup : Setup → Type 0

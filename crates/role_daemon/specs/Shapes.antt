@@ -1,6 +1,6 @@
 -- The members of a cluster text, in the order in which they are looked at. Each has its own shape; the first that is
 -- absent or has another is the fault.
-use Rattle.std.specs.Prelude.{ℕ, ◌^◌, ◌-◌, Bool, nat_le, if◌then◌else◌, List, [], ◌∷◌, Option}
+use Rattle.std.specs.Prelude.{ℕ, ◌^◌, ◌-◌, nat_le, if◌then◌else◌, List, [], ◌∷◌, Option}
 use Rattle.std.specs.Prelude.{Some, None, option_map, option_and_then, is_some, Result, Ok, Err}
 use Rattle.std.specs.List.{list_all, filter_map}
 use Rattle.std.specs.Result.{result_ok}

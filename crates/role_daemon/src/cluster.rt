@@ -1,24 +1,28 @@
 //! The cluster text: what a node is told at its start.
 
-ghost use Rattle.std.specs.Prelude.{◌≡◌, ◌<◌, [], ◌∷◌, length, IfOk, OnOk};
-ghost use Rattle.std.specs.List.{filter_map, cons_option};
+ghost use Rattle.std.specs.Prelude.{◌≡◌, ◌<◌, ◌≤◌, ◌==◌, [], length, option_and_then, IfOk, IfErr, OnOk, Ok};
+ghost use Rattle.std.specs.List.{filter_map, cons_option, list_any};
 ghost use Rattle.serde_json.specs.View.{view};
-ghost use Rattle.role_daemon.specs.Results.{IsDueOrMemory};
+ghost use Rattle.role_commands.specs.Tables.{no_roles};
+ghost use Rattle.role_daemon.specs.Results.{IsDueOrMemory, IsDueElseMemory};
 ghost use Rattle.role_daemon.specs.Shapes as shapes;
 ghost use Rattle.role_daemon.specs.Setups as setups;
-ghost use Rattle.role_daemon.specs.Setups.{setup_due, IsNodeSetup, IsSetupIn, AreCounted};
+ghost use Rattle.role_daemon.specs.Setups.{setup_due, most_text_bytes, IsNodeSetup, IsSetupIn, AreCounted};
 
 use crate::fault::ClusterFault;
 use crate::shape::{Shape, key_of, pair_of, port_of, shape_of};
 use client_lines::{Member, read_json};
 use quorum_sizes::{NodeName, Sizes};
-use role_commands::{Items, RoleTable};
+use role_commands::{Items, RoleTable, TableFault};
 use role_node::{Config, MOST_EVENTS};
 use serde_json::Value;
 use std::alloc::{AllocError, Global};
 
 /// The most bytes of a cluster text.
 pub const MOST_TEXT_BYTES: usize = 65_536;
+
+/// The most roles of a cluster.
+const MOST_ROLES: usize = 1024;
 
 /// Which members a cluster text has.
 #[derive(Clone, Copy, Debug, PartialEq, Eq)]
@@ -49,10 +53,12 @@ pub struct Setup {
 /// # Errors
 ///
 /// The first fault that holds: of the text, of a member in the order of the members, of the sizes, of the node's own
-/// name, of a role in the order of the roles, and of the numbers of keys and ports; or `Memory`.
+/// name, of a role in the order of the roles, and of the numbers of keys and ports. `Memory` where there was none to
+/// read the text, of at most [`MOST_TEXT_BYTES`], and else only where no fault holds.
 #[tactic(auto, unfolding(crate::specs::Setups::setup_due))]
 pub fn read_cluster(alloc: Global, bytes: &[u8], mode: Mode) -> Result<Setup, ClusterFault>
     ensures due { IsDueOrMemory (setup_due mode bytes.now) result }
+    ensures memory { IfErr result (λ e. e ≡ ClusterFault.Memory → length bytes.now ≤ most_text_bytes) }
     ensures node { IfOk result IsNodeSetup }
     ensures server { IfOk result (IsSetupIn mode) }
 {
@@ -67,7 +73,7 @@ pub fn read_cluster(alloc: Global, bytes: &[u8], mode: Mode) -> Result<Setup, Cl
 
 #[tactic(auto, unfolding(crate::specs::Setups::setup_of_value))]
 fn setup_of_value(alloc: Global, mode: Mode, text: &Value) -> Result<Setup, ClusterFault>
-    ensures due { IsDueOrMemory (setups.setup_of_value mode (view text.now)) result }
+    ensures due { IsDueElseMemory (setups.setup_of_value mode (view text.now)) result }
     ensures node { IfOk result IsNodeSetup }
     ensures server { IfOk result (IsSetupIn mode) }
 {
@@ -80,16 +86,16 @@ fn setup_of_value(alloc: Global, mode: Mode, text: &Value) -> Result<Setup, Clus
 
 #[tactic(auto, unfolding(crate::specs::Setups::setup_of))]
 fn setup_of(alloc: Global, mode: Mode, shape: &Shape<'_>) -> Result<Setup, ClusterFault>
-    ensures due { IsDueOrMemory (setups.setup_of mode (shapes.shape_view shape.now)) result }
+    ensures due { IsDueElseMemory (setups.setup_of mode (shapes.shape_view shape.now)) result }
     ensures node { IfOk result IsNodeSetup }
     ensures server { IfOk result (IsSetupIn mode) }
 {
     let sizes = Sizes::new(shape.n, shape.f)?;
     let me = name_of(mode, &sizes, shape.me)?;
-    let mut roles = RoleTable::new(alloc, sizes);
-    add_roles(&mut roles, shape.roles)?;
+    check_roles(&sizes, shape.roles)?;
     let links = &shape.links;
     counted(mode, &sizes, key_count(links.keys), port_count(links.nodes))?;
+    let roles = roles_of(alloc, sizes, shape.roles)?;
     Ok(Setup {
         config: Config::new(shape.cluster, roles, MOST_EVENTS).unwrap(),
         me,
@@ -114,38 +120,77 @@ fn name_of(mode: Mode, sizes: &Sizes, me: u8) -> Result<NodeName, ClusterFault>
     }
 }
 
-/// Adds the roles with their owners, in their order.
-fn add_roles(roles: &mut RoleTable, items: &[Value]) -> Result<(), ClusterFault>
-    ensures adds { setups.Adds roles.old (filter_map (λ v. shapes.pair_of (view v)) items.now) result roles.new }
-    ensures sizes { roles.new.sizes ≡ roles.old.sizes }
+/// Refuses the roles with their owners by the first fault of one, in their order. It takes no memory.
+fn check_roles(sizes: &Sizes, items: &[Value]) -> Result<(), ClusterFault>
+    ensures { result ≡ setups.checked
+        (setups.table_of (no_roles sizes.now) (filter_map (λ v. shapes.pair_of (view v)) items.now)) }
 {
-    for item in items {
-        match add_item(roles, item) {
-            Ok(()) => {}
-            Err(fault) => return Err(fault),
+    for (index, item) in items.iter().enumerate() {
+        if let Some(fault) = role_fault(sizes, &items[..index], item) {
+            return Err(ClusterFault::Table(fault));
         }
     }
     Ok(())
 }
 
-#[tactic(auto, unfolding(crate::specs::Setups::table_of))]
-fn add_item(roles: &mut RoleTable, item: &Value) -> Result<(), ClusterFault>
-    ensures adds { setups.Adds roles.old (cons_option (shapes.pair_of (view item.now)) []) result roles.new }
-    ensures sizes { roles.new.sizes ≡ roles.old.sizes }
+/// Why a role is refused behind these others, each of another role.
+fn role_fault(sizes: &Sizes, before: &[Value], item: &Value) -> Option<TableFault>
+    ensures { result ≡ option_and_then
+        (setups.fault_behind sizes.now (filter_map (λ v. shapes.pair_of (view v)) before.now))
+        (shapes.pair_of (view item.now)) }
 {
-    match pair_of(item) {
-        Some((role, owner)) => add_role(roles, role, owner),
-        None => Ok(()),
+    let (role, owner) = pair_of(item)?;
+    if sizes.name(owner).is_none() {
+        Some(TableFault::NoSuchNode)
+    } else if has_role(before, role) {
+        Some(TableFault::Repeated)
+    } else if role_count(before) >= MOST_ROLES {
+        Some(TableFault::TooManyRoles)
+    } else {
+        None
     }
 }
 
-fn add_role(roles: &mut RoleTable, role: u16, owner: u8) -> Result<(), ClusterFault>
-    ensures adds { setups.Adds roles.old ((role, owner) ∷ []) result roles.new }
+fn has_role(items: &[Value], role: u16) -> bool
+    ensures { result ≡ list_any (λ pair. role == pair.0) (filter_map (λ v. shapes.pair_of (view v)) items.now) }
+{
+    items
+        .iter()
+        .filter_map(pair_of)
+        .any(|(other, _)| role == other)
+}
+
+fn role_count(items: &[Value]) -> usize
+    ensures { result ≡ length (filter_map (λ v. shapes.pair_of (view v)) items.now) }
+{
+    items.iter().filter_map(pair_of).count()
+}
+
+/// The table of roles with their owners that were checked, so that it is refused for want of memory alone.
+fn roles_of(alloc: Global, sizes: Sizes, items: &[Value]) -> Result<RoleTable, AllocError>
+    ensures table { IfOk result (λ roles.
+        setups.table_of (no_roles sizes) (filter_map (λ v. shapes.pair_of (view v)) items.now) ≡ Ok roles) }
+    ensures sizes { IfOk result (λ roles. roles.sizes ≡ sizes) }
+{
+    let mut roles = RoleTable::new(alloc, sizes);
+    for item in items {
+        add_role(&mut roles, item)?;
+    }
+    Ok(roles)
+}
+
+#[tactic(auto, unfolding(crate::specs::Setups::table_of))]
+fn add_role(roles: &mut RoleTable, item: &Value) -> Result<(), AllocError>
+    ensures added { OnOk result
+        (setups.table_of roles.old (cons_option (shapes.pair_of (view item.now)) []) ≡ Ok roles.new) }
     ensures sizes { roles.new.sizes ≡ roles.old.sizes }
 {
+    let Some((role, owner)) = pair_of(item) else {
+        return Ok(());
+    };
     match roles.add(role, owner) {
         Ok(()) => Ok(()),
-        Err(fault) => Err(ClusterFault::from(fault)),
+        Err(_) => Err(AllocError),
     }
 }
 

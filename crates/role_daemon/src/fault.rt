@@ -106,19 +106,6 @@ impl From<SizeFault> for ClusterFault {
     }
 }
 
-impl From<TableFault> for ClusterFault {
-    ghost use Rattle.role_daemon.specs.TableFaults.{of_table_fault};
-
-    ghost from_gives = { λ fault e. e ≡ of_table_fault fault };
-
-    fn from(fault: TableFault) -> Self {
-        match fault {
-            TableFault::Memory => ClusterFault::Memory,
-            refusal => ClusterFault::Table(refusal),
-        }
-    }
-}
-
 /// Why a pipe ended before its end.
 #[derive(Debug, Drop, Error)]
 pub enum PipeFault {

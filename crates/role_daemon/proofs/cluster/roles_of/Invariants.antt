@@ -1,7 +1,7 @@
 use Rattle.std.proofs.Common.{◌≡◌, drop}
 use Rattle.role_daemon.specs.Setups.{table_of}
 use Rattle.role_daemon.proofs.SetupLemmas.{pairs}
-use Rattle.role_daemon.proofs.cluster.add_roles.Given as goal
+use Rattle.role_daemon.proofs.cluster.roles_of.Given as goal
 
 abbrev pub invariant-loop-item : goal.invariant-loop-item
 invariant-loop-item l =

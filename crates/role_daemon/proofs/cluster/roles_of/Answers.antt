@@ -1,0 +1,16 @@
+use Rattle.std.proofs.Common.{sym, ap, ◌∙◌}
+use Rattle.role_daemon.specs.Setups.{table_of}
+use Rattle.role_daemon.proofs.SetupLemmas.{pairs, added_on, all_added}
+use Rattle.role_daemon.proofs.cluster.roles_of.Goals as goal
+
+pub loop-item-preserved : goal.loop-item-preserved
+loop-item-preserved c = (
+  added_on _ _ _ _ _ c.loop-item.invariant.0 _ c.item-item.result c.loop-item-test.true c.item-item.is
+      c.in_ok-add_role.ensures.added,
+  c.add_role.ensures.sizes ∙ c.loop-item.invariant.1,
+)
+
+pub returns-clause-table : goal.returns-clause-table
+returns-clause-table c =
+    sym (ap (λ t. table_of t (pairs c.args.items.now)) c.new-roles.ensures)
+    ∙ all_added _ _ _ _ _ c.loop-item.invariant.0 c.loop-item-test.false
