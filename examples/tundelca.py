@@ -1,0 +1,229 @@
+"""A client of `role_daemon serve`, and what it takes to set a cluster up on one machine.
+
+    from tundelca import Client
+
+    with Client(7400) as node:
+        node.ask("assign", user=7, role=2)
+        print(node.check(session=1, user=7, operation=5, object=9))
+
+One file, and nothing beside Python 3.9 and its standard library. A node hears lines of JSON at its client port, one
+answer for each, and whoever reaches that port may say anything in any user's name: keep it behind a service of yours
+that knows its users (gateway.py).
+"""
+import json
+import os
+import random
+import secrets
+import socket
+import subprocess
+import time
+from dataclasses import dataclass
+from typing import Optional
+
+LOOPBACK = "127.0.0.1"
+WINDOW = 64  # a node takes messages for so many places beyond its reach
+
+
+class NodeFault(Exception):
+    """A node didn't answer, or refused."""
+
+
+class Unreachable(NodeFault):
+    """Nobody listens, the connection was closed, or no answer came in time. Whether the line was obeyed isn't known."""
+
+
+class Refused(NodeFault):
+    """The node's refusal: its code and name, such as `A3 NotAssigned`, and the member of the line that it is about."""
+
+    def __init__(self, request, answer):
+        self.code, self.name = answer["error"].split(" ", 1)
+        self.member = answer.get("name")
+        super().__init__(f"{answer['error']}{' ' + self.member if self.member else ''}, to {json.dumps(request)}")
+
+
+@dataclass(frozen=True)
+class Decision:
+    """Whether an access is allowed: in this role, or denied by this rule (N1 to N5).
+
+    `at` is the length of the node's history then.
+    """
+
+    allow: bool
+    at: int
+    role: Optional[int] = None
+    rule: Optional[str] = None
+
+
+class Client:
+    """A connection to a node's client port: one line, one answer, in order. `patience` is in seconds, an answer."""
+
+    def __init__(self, port, patience=10.0):
+        self.port, self.patience = port, patience
+        try:
+            self.socket = socket.create_connection((LOOPBACK, port), timeout=patience)
+        except OSError as error:
+            raise Unreachable(f"no node answers at port {port}: {error}") from None
+        self.socket.setsockopt(socket.IPPROTO_TCP, socket.TCP_NODELAY, 1)
+        self.lines = self.socket.makefile("r", encoding="ascii")
+
+    def __enter__(self):
+        return self
+
+    def __exit__(self, *_):
+        self.close()
+
+    def close(self):
+        """Ends the connection. Sessions stay open."""
+        self.lines.close()
+        self.socket.close()
+
+    def ask(self, op, **members):
+        """The answer to a request, as a dict. Raises `Refused` or `Unreachable`."""
+        request = {"op": op, **members}
+        try:
+            self.socket.sendall(json.dumps(request).encode("ascii") + b"\n")
+            line = self.lines.readline()
+        except OSError as error:
+            raise Unreachable(f"the node at port {self.port} didn't answer {json.dumps(request)}: {error}") from None
+        if not line.endswith("\n"):
+            raise Unreachable(f"the node at port {self.port} closed the connection at {json.dumps(request)}")
+        answer = json.loads(line)
+        if "error" in answer:
+            raise Refused(request, answer)
+        return answer
+
+    def open(self, user):
+        """A new session of the user, at this node alone."""
+        return self.ask("open", user=user)["session"]
+
+    def check(self, session, user, operation, object):
+        """The decision on an access."""
+        answer = self.ask("check", session=session, user=user, operation=operation, object=object)
+        return Decision(answer["allow"], answer["at"], answer.get("role"), answer.get("rule"))
+
+    def listing(self, op, **members):
+        """The items of a review, such as `assigned_users` of a role; permissions are pairs [operation, object]."""
+        answer = self.ask(op, **members)
+        return next(answer[kind] for kind in ("users", "roles", "permissions", "operations") if kind in answer)
+
+    def reach(self, owner):
+        """How many commands of the owner the node has delivered without a gap."""
+        return self.ask("reach", owner=owner)["reach"]
+
+    def length(self, role=0):
+        """How many events the node has recorded. Its limit is 4,194,304."""
+        return self.ask("assigned_users", role=role)["at"]
+
+    def wait_for_reach(self, owner, reach, patience=None):
+        """Waits until the node has delivered so many commands of the owner."""
+        deadline = time.monotonic() + (self.patience if patience is None else patience)
+        while self.reach(owner) < reach:
+            if time.monotonic() > deadline:
+                raise Unreachable(f"the node at port {self.port} has not {reach} commands of node {owner} yet")
+            time.sleep(0.005)
+
+
+def catch_up(behind, others, owner, patience=30.0):
+    """Has the others send again what the node that was away lacks of the owner's stream, place by place.
+
+    How many places it gained. Raises `Unreachable` where it gains none for `patience` seconds.
+    """
+    first = reach = behind.reach(owner)
+    goal = max(other.reach(owner) for other in others)
+    deadline = time.monotonic() + patience
+    while reach < goal:
+        for place in range(reach, min(goal, reach + WINDOW // 2)):
+            for other in others:
+                other.ask("again", owner=owner, place=place)
+        now = behind.reach(owner)
+        for _ in range(100):
+            if now > reach:
+                break
+            time.sleep(0.01)
+            now = behind.reach(owner)
+        if now > reach:
+            reach, deadline = now, time.monotonic() + patience
+        elif time.monotonic() > deadline:
+            raise Unreachable(f"the node at port {behind.port} stays at {reach} of {goal} commands of node {owner}")
+    return reach - first
+
+
+def free_ports(count):
+    """So many ports on which nobody listens now, below those that the system gives to outgoing connections."""
+    found = set()
+    while len(found) < count:
+        port = random.randrange(10_000, 32_000)
+        with socket.socket() as tried:
+            try:
+                tried.bind((LOOPBACK, port))
+            except OSError:
+                continue
+        found.add(port)
+    return list(found)
+
+
+def cluster_files(folder, roles, nodes, clients, may_lie, cluster=1):
+    """Writes a cluster file for each node, readable by you alone, with a new key for each pair of nodes. Their paths.
+
+    `roles` are pairs of a role and its owner, `nodes` and `clients` the ports of all nodes for frames and for clients.
+    A cluster that is begun anew takes new keys, which this makes, and best another number.
+    """
+    names = range(len(nodes))
+    keys = {(a, b): secrets.token_hex(32) for a in names for b in names if a <= b}
+    paths = []
+    for me in names:
+        text = {
+            "cluster": cluster,
+            "n": len(nodes),
+            "f": may_lie,
+            "me": me,
+            "roles": [list(pair) for pair in roles],
+            "keys": [keys[min(me, other), max(me, other)] for other in names],
+            "nodes": list(nodes),
+            "client": clients[me],
+        }
+        path = os.path.join(folder, f"node{me}.json")
+        descriptor = os.open(path, os.O_WRONLY | os.O_CREAT | os.O_TRUNC, 0o600)
+        with open(descriptor, "w", encoding="ascii") as file:
+            json.dump(text, file)
+        paths.append(path)
+    return paths
+
+
+# What a node's exit status says.
+STATUSES = {
+    0: "it was stopped",
+    2: "its words",
+    3: "its cluster file",
+    4: "a port that is held, or a failed listener",
+    5: "want of memory",
+}
+
+
+def start(program, path, patience=10.0):
+    """Starts the node of a cluster file, and waits until its client port answers. The process."""
+    if not os.path.exists(program):
+        raise FileNotFoundError(f"{program} is not there: run `rt run` in crates/role_daemon first")
+    with open(path, encoding="ascii") as file:
+        port = json.load(file)["client"]
+    process = subprocess.Popen([program, "serve", "--cluster", path], stdin=subprocess.DEVNULL)
+    deadline = time.monotonic() + patience
+    while True:
+        if process.poll() is not None:
+            why = STATUSES.get(process.returncode, "a signal")
+            raise NodeFault(f"the node of {path} ended with status {process.returncode}: {why}")
+        try:
+            Client(port).close()
+            return process
+        except Unreachable:
+            if time.monotonic() > deadline:
+                process.kill()
+                raise
+            time.sleep(0.01)
+
+
+def stop(port, process=None, patience=10.0):
+    """Stops a node by its client port. Its exit status, where its process is given."""
+    with Client(port, patience) as client:
+        client.ask("stop")
+    return None if process is None else process.wait(patience)
