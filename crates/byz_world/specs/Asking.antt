@@ -1,16 +1,15 @@
--- What is due to those who make a world and who ask it.
+-- What is due to those who make a world and who review it.
 use Rattle.std.specs.Prelude.{◌≡◌, ℕ, true, false, if◌then◌else◌, IsTrue}
 use Rattle.std.specs.Prelude.{Option, Some, None, option_map, Result, Ok, Err}
 use Rattle.quorum_sizes.specs.NodeSets.{Nodes}
-use Rattle.role_node.specs.Access.{sessions_at, verdict_at}
+use Rattle.role_node.specs.Access.{sessions_at}
 use Rattle.role_node.specs.Configs.{ConfigValue}
 use Rattle.role_node.specs.Questions.{ask_due, takes_memory}
 use Rattle.role_node.specs.declared.faults.AskFault.{AskFault}
 use Rattle.role_node.specs.declared.faults.AskFault.TheVariants as ask
 use Rattle.role_node.specs.declared.question.Answer.{Answer}
 use Rattle.role_node.specs.declared.question.Question.{Question}
-use Rattle.role_sessions.specs.declared.verdict.Verdict.{Verdict}
-use Rattle.byz_world.specs.Runs.{Run, history_of, is_correct}
+use Rattle.byz_world.specs.Runs.{history_of}
 use Rattle.byz_world.specs.Worlds.{WorldValue, too_many_lie, is_correct_in}
 use Rattle.byz_world.specs.declared.faults.WorldFault.{WorldFault}
 use Rattle.byz_world.specs.declared.faults.WorldFault.TheVariants.{TooManyLiars, NotCorrect, NoSuchPacket, NotSent}
@@ -51,10 +50,3 @@ IsQuestionAnswer w node question (Err (Link fault)) = ⊥
 IsQuestionAnswer w node question (Err (Node fault)) = ⊥
 IsQuestionAnswer w node question (Err NoSession) = question_due w node question ≡ Some NoSession
 IsQuestionAnswer w node question (Err Memory) = (question_due w node question ≡ None) × IsTrue (takes_memory question)
-
--- the decision on an access at a correct node
-abbrev pub decision_due : ConfigValue → Nodes → Run → ℕ → ℕ → ℕ → ℕ → ℕ → Option Verdict
-decision_due config liars run node session user operation object =
-    if is_correct config.roles.sizes liars node
-    then Some (verdict_at config.roles (history_of node run) session user operation object)
-    else None

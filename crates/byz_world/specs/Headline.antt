@@ -13,7 +13,7 @@ use Rattle.role_sessions.specs.declared.verdict.Verdict.TheVariants.{Allow, Deny
 use Rattle.role_node.specs.Access.{relations_at, session_at}
 use Rattle.role_node.specs.Configs.{ConfigValue}
 use Rattle.role_node.specs.Histories.{issued}
-use Rattle.byz_world.specs.Asking.{decision_due}
+use Rattle.byz_world.specs.Checks.{decision_due}
 use Rattle.byz_world.specs.Steps.{IsSound}
 use Rattle.byz_world.specs.Laws.{stream_of, reach_of}
 use Rattle.byz_world.specs.Runs.{Run, history_of, is_correct, IsClusterRun}

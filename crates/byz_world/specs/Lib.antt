@@ -10,6 +10,7 @@ pub mod Laws
 pub mod Limits
 pub mod Inside
 pub mod Example
+pub mod Checks
 pub mod Headline
 pub mod Fields
 pub mod Asking

@@ -18,7 +18,8 @@ ghost use Rattle.byz_world.specs.Steps.{with_run, adds, after_step, after_steps,
 ghost use Rattle.byz_world.specs.Agreement.{agree_due};
 ghost use Rattle.byz_world.specs.Laws.{reach_of};
 ghost use Rattle.byz_world.specs.Resting.{IsAtRest};
-ghost use Rattle.byz_world.specs.Asking.{IsMade, IsQuestionAnswer, decision_due};
+ghost use Rattle.byz_world.specs.Asking.{IsMade, IsQuestionAnswer};
+ghost use Rattle.byz_world.specs.Checks.{decision_due};
 ghost use Rattle.byz_world.specs.Inside.{MayHappen, MayArrive, told_of};
 ghost use Rattle.byz_world.specs.Steps.{IsSound};
 ghost use Rattle.byz_world.specs.Worlds.{IsClusterRunOf};

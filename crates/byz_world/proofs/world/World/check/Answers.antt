@@ -1,5 +1,5 @@
 use Rattle.std.proofs.Common.{◌≡◌, true, ap, sym, ◌∙◌}
-use Rattle.byz_world.specs.Asking.{decision_due}
+use Rattle.byz_world.specs.Checks.{decision_due}
 use Rattle.byz_world.specs.Inside.{member_in}
 use Rattle.byz_world.specs.Worlds.{is_correct_in}
 use Rattle.byz_world.specs.Fields.{world_value}
