@@ -278,11 +278,7 @@ fn came_of(node: &mut Node, step: &Step) -> Result<Came, Fail> {
 fn stream(node: &Node, place: Place) -> Result<Came, Fail> {
     let owner = name(node, 0)?;
     let again = node.again(owner, place);
-    Ok(Came::Stream(
-        node.reach(owner),
-        node.command(owner, place),
-        again.ready,
-    ))
+    Ok(Came::Stream(node.reach(owner), node.command(owner, place), again.ready))
 }
 
 fn run(rt: &impl Abort, node: &mut Node, steps: &[Step]) -> Result<(), Fail> {
