@@ -1,15 +1,14 @@
 -- What an audit of one place tells of the receipts and the history.
-use Rattle.std.proofs.Common.{◌≡◌, ℕ, zero, suc, ◌+◌, ◌-◌, ◌<◌, ◌≤◌, ◌⊎◌, ⊎_elim, inl, inr}
-use Rattle.std.proofs.Common.{Bool, true, false, List, [], ◌∷◌, ◌++◌, length, get_or, take}
-use Rattle.std.proofs.Common.{drop, Option, Some, None, refl, sym, ap, ◌∙◌, subst, arith}
-use Rattle.std.specs.Prelude.{slice_get, IsSome, IsTrue, All, Contains}
+use Rattle.std.proofs.Common.{◌≡◌, ℕ, zero, suc, ◌+◌, ◌<◌, ◌≤◌, ⊎_elim}
+use Rattle.std.proofs.Common.{List, [], ◌∷◌, ◌++◌, length, get_or}
+use Rattle.std.proofs.Common.{Option, refl, sym, ap, ◌∙◌, subst, arith}
+use Rattle.std.specs.Prelude.{slice_get, IsSome, All, Contains}
 use Rattle.std.proofs.lemmas.Bool.{cases_lt}
 use Rattle.std.proofs.lemmas.List.Elements.{All-contains, All-contains_itself, Contains-append_cases}
 use Rattle.std.proofs.lemmas.List.Elements.{Contains-append_left, Contains-append_right}
 use Rattle.role_node.specs.Nodes.{NodeValue}
 use Rattle.role_node.specs.declared.event.Event.{Event}
-use Rattle.node_lock.specs.Receipts.{outcome_due, is_recorded_outcome}
-use Rattle.node_lock.specs.Audits.{node_at, IsEventOf, IsTrueOf, recorded_at, AreTrue}
+use Rattle.node_lock.specs.Audits.{node_at, IsTrueOf, recorded_at, AreTrue}
 use Rattle.node_lock.specs.Audits.{AreTrueAt, IsRightAt, AreRightBefore, IsAuditFault}
 use Rattle.node_lock.specs.Walks.{IsRest, IsTrueHere, recorded_in, AreRightHere, IsFaultHere}
 use Rattle.node_lock.specs.declared.audits.AuditFault.{AuditFault}

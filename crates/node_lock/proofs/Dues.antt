@@ -1,6 +1,6 @@
 -- What is due at a place of a legal history, and which receipts are true there.
-use Rattle.std.proofs.Common.{◌≡◌, ℕ, ◌+◌, ◌<◌, ◌≤◌, Bool, true, false, List, [], ◌∷◌, ◌++◌, length, take}
-use Rattle.std.proofs.Common.{map, Option, Some, None, Result, Ok, Err, refl, sym, ap, ◌∙◌, subst, arith}
+use Rattle.std.proofs.Common.{◌≡◌, ℕ, ◌+◌, ◌<◌, true, List, [], ◌∷◌, ◌++◌, length, take}
+use Rattle.std.proofs.Common.{map, Option, Some, None, Result, Ok, Err, refl, sym, ap, ◌∙◌, subst}
 use Rattle.std.specs.Prelude.{slice_get, option_map, IsTrue}
 use Rattle.std.proofs.lemmas.List.{take_more}
 use Rattle.std.proofs.lemmas.Option.{slice_get-map, slice_get_within, get_or_from_slice_get}
@@ -14,8 +14,7 @@ use Rattle.node_lock.specs.Receipts.{outcome_from, outcome_due, is_recorded_outc
 use Rattle.node_lock.specs.Audits.{node_at, IsEventOf}
 use Rattle.node_lock.specs.Walks.{event_in, IsNext, IsEntryOf, IsTrueHere}
 use Rattle.node_lock.specs.declared.receipt.Call.{Call}
-use Rattle.node_lock.specs.declared.receipt.Call.TheVariants.{Step, Ask}
-use Rattle.node_lock.specs.declared.receipt.Outcome.{Outcome}
+use Rattle.node_lock.specs.declared.receipt.Call.TheVariants.{Step}
 use Rattle.node_lock.specs.declared.receipt.Outcome.TheVariants.{Reply as Replied}
 use Rattle.node_lock.specs.declared.receipt.Receipt.{Receipt}
 

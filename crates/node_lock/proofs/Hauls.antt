@@ -1,11 +1,10 @@
 -- Each move of a pass keeps the rule of the inbox's queue.
-use Rattle.std.proofs.Common.{◌≡◌, ◌≢◌, ℕ, zero, suc, ◌+◌, ◌-◌, ◌<◌, ◌≤◌, ◌*◌, Bool, true, false, List, [], ◌∷◌}
-use Rattle.std.proofs.Common.{◌++◌, length, set, get_or, sym, refl, ap, ◌∙◌, subst, ⊎_elim, append_assoc, arith}
+use Rattle.std.proofs.Common.{◌≡◌, ℕ, zero, suc, ◌+◌, ◌-◌, ◌<◌, ◌≤◌, ◌*◌, Bool, List, [], ◌∷◌}
+use Rattle.std.proofs.Common.{◌++◌, length, set, get_or, sym, refl, ap, ◌∙◌, arith}
 use Rattle.std.specs.Prelude.{All, sum_by, count_by}
-use Rattle.std.proofs.lemmas.List.{length-set, get_or-set_same, get_or-set_other}
 use Rattle.std.proofs.lemmas.List.Elements.{All-set, All-push, All-cons, All-nil}
 use Rattle.std.proofs.lemmas.List.Sums.{sum_by-set, sum_by_push, sum_by-append}
-use Rattle.std.proofs.lemmas.List.Sums.{sum_by-cons, sum_by-le, get_or-le-sum_by}
+use Rattle.std.proofs.lemmas.List.Sums.{sum_by-le, get_or-le-sum_by}
 use mathlib.Core.Option.{some, some-ne-none, some-injective}
 use lib.ListN.{get_elem?}
 use Rattle.crossbeam_queue.specs.Fifo.{Pushes, Pops, Forks, Merges, Learns}
@@ -127,8 +126,9 @@ joins port v other w held items views fair at apart there =
     }
 
 -- beside the pass that has all parts no other counts
-alone : (f : Hand → ℕ) (views : List Hand) (port : ℕ) (v : Hand) → get_elem? views port ≡ some v → v.parts ≡ inbox_parts →
-    sum_by parts_in views ≡ inbox_parts → All IsIdle views → ((u : Hand) → (u.put ≡ []) × (u.taken ≡ []) → f u ≡ 0) →
+alone : (f : Hand → ℕ) (views : List Hand) (port : ℕ) (v : Hand) → get_elem? views port ≡ some v →
+    v.parts ≡ inbox_parts → sum_by parts_in views ≡ inbox_parts → All IsIdle views →
+    ((u : Hand) → (u.put ≡ []) × (u.taken ≡ []) → f u ≡ 0) →
     sum_by f views ≡ f v
 alone f views port v at whole parts idle none =
     let spent = hand 0 [] [] in

@@ -1,6 +1,6 @@
 -- The rule of an inbox's queue: of what it holds, and of what each pass put and took. Serves the code, and no public
 -- contract.
-use Rattle.std.specs.Prelude.{◌≡◌, ℕ, ◌+◌, ◌-◌, Bool, List, [], ◌∷◌, ◌++◌, All, sum_by, count_by}
+use Rattle.std.specs.Prelude.{◌≡◌, ℕ, ◌+◌, Bool, List, [], ◌∷◌, ◌++◌, All, sum_by, count_by}
 use Rattle.node_lock.specs.Inboxes.{inbox_parts}
 use Rattle.node_lock.specs.declared.inbox.Hand.{Hand}
 use Rattle.node_lock.specs.declared.job.Job.{Job}

@@ -1,5 +1,5 @@
 -- What an inbox that is not finished hands back, and why.
-use Rattle.std.specs.Prelude.{◌≡◌, List}
+use Rattle.std.specs.Prelude.{List}
 use Rattle.atomic_table.specs.Seated.{TableId}
 use Rattle.node_lock.specs.Inboxes.{Passing, AreAllPasses}
 use Rattle.node_lock.specs.declared.inbox.InboxFault.{InboxFault}

@@ -6,7 +6,6 @@ use Rattle.role_node.specs.Answers.{is_recorded}
 use Rattle.role_node.specs.Listed.{answer_after}
 use Rattle.role_node.specs.Nodes.{NodeValue, due_at}
 use Rattle.role_node.specs.Questions.{ask_due, takes_memory}
-use Rattle.role_node.specs.declared.event.Event.{Event}
 use Rattle.role_node.specs.declared.event.Reply.{Reply}
 use Rattle.role_node.specs.declared.faults.AskFault.{AskFault}
 use Rattle.role_node.specs.declared.faults.AskFault.TheVariants as ask

@@ -11,8 +11,8 @@ use std::fmt;
 use std::sync::Mutex;
 use std::sync::ledger::{Blank, Book, Ledger, Share};
 
-/// A node that threads share. A caller locks the `Mutex` and calls [`Locked::step`], [`Locked::ask`] or [`Locked::hold`]
-/// with its seat.
+/// A node that threads share. A caller locks the `Mutex` and calls [`Locked::step`], [`Locked::ask`] or
+/// [`Locked::hold`] with its seat.
 #[derive(Drop)]
 pub struct SharedNode<L: Ledger> {
     pub node: Mutex<Locked<L>>,

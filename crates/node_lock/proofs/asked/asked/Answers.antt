@@ -1,4 +1,4 @@
-use Rattle.std.proofs.Common.{◌≡◌, refl, ap, ◌∙◌, sym}
+use Rattle.std.proofs.Common.{refl}
 use Rattle.role_node.proofs.Exported.{one_answer}
 use Rattle.node_lock.proofs.asked.asked.Goals as goal
 

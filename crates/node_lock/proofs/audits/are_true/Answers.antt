@@ -1,4 +1,4 @@
-use Rattle.std.proofs.Common.{◌≡◌, ◌+◌, take, Bool, true, false, refl, sym, ap, ◌∙◌, subst, arith}
+use Rattle.std.proofs.Common.{◌+◌, take, refl, sym, ◌∙◌, subst}
 use Rattle.std.specs.Prelude.{All, IsTrue}
 use Rattle.role_node.specs.Nodes.{NodeValue}
 use Rattle.node_lock.specs.Walks.{receipts_of, event_in, IsTrueHere}

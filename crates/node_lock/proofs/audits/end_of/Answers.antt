@@ -1,4 +1,4 @@
-use Rattle.std.proofs.Common.{◌≡◌, ◌≤◌, ◌<◌, ◌^◌, length, map, ap, sym, ◌∙◌, arith}
+use Rattle.std.proofs.Common.{◌≡◌, ◌≤◌, length, ap, sym, ◌∙◌, arith}
 use Rattle.role_node.specs.Configs.{most_events}
 use Rattle.role_node.proofs.Exported.{events-length}
 use Rattle.node_lock.proofs.Histories.{legal_within}

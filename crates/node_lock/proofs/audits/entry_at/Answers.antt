@@ -1,8 +1,5 @@
-use Rattle.std.proofs.Common.{◌≡◌, ◌<◌, length, sym, ap, ◌∙◌, subst, arith, refl, Some, Ok}
-use Rattle.std.specs.Prelude.{slice_get, IsTrue}
-use Rattle.std.proofs.lemmas.Option.{slice_get_read, slice_get-map}
-use Rattle.role_node.specs.Answers.{is_recorded, answer_due}
-use Rattle.role_node.specs.Kept.{event_of}
+use Rattle.std.proofs.Common.{◌≡◌, length, sym, ap, ◌∙◌, arith, refl}
+use Rattle.std.proofs.lemmas.Option.{slice_get_read}
 use Rattle.role_node.proofs.Exported.{events-length}
 use Rattle.node_lock.proofs.Dues.{next_entry}
 use Rattle.node_lock.proofs.audits.entry_at.Goals as goal

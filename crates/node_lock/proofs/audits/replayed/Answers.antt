@@ -1,11 +1,10 @@
-use Rattle.std.proofs.Common.{◌≡◌, ℕ, ◌+◌, ◌-◌, ◌<◌, ◌≤◌, List, [], length, take, drop}
-use Rattle.std.proofs.Common.{Option, Some, None, refl, sym, ap, ◌∙◌, subst, arith}
+use Rattle.std.proofs.Common.{◌≡◌, ℕ, ◌+◌, ◌-◌, ◌<◌, ◌≤◌, List, length, take, drop}
+use Rattle.std.proofs.Common.{Some, None, sym, ap, ◌∙◌, subst, arith}
 use Rattle.std.specs.Prelude.{slice_get, All}
 use Rattle.std.specs.Borrow.{Bor}
 use Rattle.std.proofs.lemmas.List.{take_rest}
 use Rattle.std.proofs.lemmas.Option.{slice_get_past}
 use Rattle.role_node.specs.Nodes.{NodeValue, with_event}
-use Rattle.role_node.specs.declared.event.Event.{Event}
 use Rattle.node_lock.specs.Audits.{node_at, AreRightBefore}
 use Rattle.node_lock.specs.Walks.{receipts_of, IsRest}
 use Rattle.node_lock.specs.declared.receipt.Receipt.{Receipt}

@@ -1,6 +1,6 @@
-use Rattle.std.proofs.Common.{◌≡◌, ◌≢◌, ℕ, ◌+◌, ◌<◌, ◌≤◌, Bool, true, List, []}
-use Rattle.std.proofs.Common.{◌∷◌, ◌++◌, length, sym, ap, ◌∙◌, refl, arith}
-use Rattle.std.specs.Prelude.{count_by, sum_by}
+use Rattle.std.proofs.Common.{◌≡◌, ◌+◌, Bool, true, List, []}
+use Rattle.std.proofs.Common.{◌∷◌, ◌++◌, length, ap, ◌∙◌, refl, arith}
+use Rattle.std.specs.Prelude.{count_by}
 use Rattle.std.proofs.lemmas.List.Sums.{sum_by-append, sum_by-cons}
 use Rattle.crossbeam_queue.specs.Passes.{view}
 use Rattle.node_lock.specs.Hands.{hand, put_in, taken_in, IsEven}
@@ -31,8 +31,8 @@ empty [] e = refl
 empty (x ∷ xs) e = absurd (omega arith)
 
 -- where as many were taken as there were, none is left
-all_taken : (v w : Hand) (left before items : List Job) → w ≡ hand inbox_parts v.put (v.taken ++ left) → IsEven v before →
-    IsEven w items → length left ≡ length before → items ≡ []
+all_taken : (v w : Hand) (left before items : List Job) → w ≡ hand inbox_parts v.put (v.taken ++ left) →
+    IsEven v before → IsEven w items → length left ≡ length before → items ≡ []
 all_taken v w left before items is was even same =
     let test : Job → Bool = λ x. true in
     let e : put_in test w ≡ taken_in test w + count_by test items = even test in

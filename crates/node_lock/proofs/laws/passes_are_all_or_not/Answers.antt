@@ -1,7 +1,7 @@
-use Rattle.std.proofs.Common.{◌≡◌, ◌+◌, ◌<◌, ◌∷◌, ◌++◌, refl, arith}
+use Rattle.std.proofs.Common.{◌≡◌, ◌+◌, ◌∷◌, ◌++◌, refl, arith}
 use Rattle.std.specs.Prelude.{sum_by}
 use Rattle.std.proofs.lemmas.List.Sums.{sum_by-append, sum_by-cons}
-use Rattle.node_lock.specs.Inboxes.{parts_of, inbox_parts}
+use Rattle.node_lock.specs.Inboxes.{parts_of}
 use Rattle.node_lock.proofs.laws.passes_are_all_or_not.Goals as goal
 
 pub returns-clause-stay : goal.returns-clause-stay

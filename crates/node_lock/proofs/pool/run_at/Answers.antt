@@ -1,4 +1,4 @@
-use Rattle.std.proofs.Common.{◌≡◌, ◌∙◌}
+use Rattle.std.proofs.Common.{◌∙◌}
 use Rattle.node_lock.proofs.pool.run_at.Goals as goal
 
 pub closed-requires : goal.closed-requires

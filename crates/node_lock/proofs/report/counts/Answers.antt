@@ -1,6 +1,6 @@
-use Rattle.std.proofs.Common.{◌≡◌, ℕ, ◌++◌, [], ◌∷◌, List, sym, ap, ◌∙◌, arith}
+use Rattle.std.proofs.Common.{ℕ, ◌++◌, [], ◌∷◌, List, sym, ap, ◌∙◌, arith}
 use Rattle.std.proofs.lemmas.List.FromFn.{map-range_with_len_more}
-use Rattle.node_lock.specs.Pools.{recorded_by, recorded_counts}
+use Rattle.node_lock.specs.Pools.{recorded_by}
 use Rattle.node_lock.proofs.report.counts.Goals as goal
 
 pub loop-worker-preserved : goal.loop-worker-preserved

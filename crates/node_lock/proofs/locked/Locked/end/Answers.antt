@@ -1,8 +1,6 @@
-use Rattle.std.proofs.Common.{◌≡◌, ◌≤◌, ◌<◌, ◌^◌, length, map, ap, sym, ◌∙◌, arith}
+use Rattle.std.proofs.Common.{◌≡◌, ◌≤◌, length, ap, sym, ◌∙◌, arith}
 use Rattle.role_node.specs.Configs.{most_events}
-use Rattle.role_node.specs.Kept.{event_of}
 use Rattle.role_node.proofs.Exported.{events-length}
-use Rattle.node_lock.specs.Holds.{end_of}
 use Rattle.node_lock.proofs.Histories.{legal_within}
 use Rattle.node_lock.proofs.locked.Locked.end.Goals as goal
 
