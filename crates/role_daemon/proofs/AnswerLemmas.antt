@@ -1,7 +1,7 @@
 -- What a node answers, and how many events it has recorded.
-use Rattle.std.proofs.Common.{◌⊎◌, inl, inr, ◌≡◌, ℕ, zero, suc, ◌+◌, ◌<◌, ◌≤◌, Bool, true, false}
-use Rattle.std.proofs.Common.{nat_le, List, [], ◌∷◌, length, take, get_or, slice_get, Option, Some}
-use Rattle.std.proofs.Common.{None, Result, Ok, Err, refl, sym, ap, ◌∙◌, subst, arith, length-take-le}
+use Rattle.std.proofs.Common.{◌⊎◌, inl, inr, ◌≡◌, ℕ, zero, suc, ◌<◌, ◌≤◌, Bool, true, false}
+use Rattle.std.proofs.Common.{nat_le, List, [], ◌∷◌, length, take, get_or, slice_get, Some}
+use Rattle.std.proofs.Common.{None, Result, Ok, Err, refl, sym, ap, ◌∙◌, arith, length-take-le}
 use Rattle.std.proofs.lemmas.Option.{slice_get_cases}
 use Rattle.std.specs.Option.{option_map_or}
 use Rattle.std.specs.List.{AllByRecursion}
@@ -10,7 +10,7 @@ use Rattle.bracha_instance.specs.declared.instance.Effect.{Effect}
 use Rattle.bracha_instance.specs.declared.instance.Effect.TheVariants as effect
 use Rattle.role_sessions.specs.declared.faults.SessionFault.TheVariants as session
 use Rattle.role_node.specs.Access.{sessions_at}
-use Rattle.role_node.specs.Answers.{answered, unless_full, outlook_with_room, reply_to, is_recorded, answer_due}
+use Rattle.role_node.specs.Answers.{answered, unless_full, outlook_with_room, reply_to, is_recorded}
 use Rattle.role_node.specs.Configs.{most_events}
 use Rattle.role_node.specs.Listed.{IsWithin, answer_after}
 use Rattle.role_node.specs.Nodes.{NodeValue, due_at, after_reply, IsLegalNode}

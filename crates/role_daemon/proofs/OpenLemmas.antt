@@ -1,5 +1,5 @@
 -- The first line of a pipe, and the run behind it.
-use Rattle.std.proofs.Common.{◌≡◌, ℕ, ◌+◌, ◌-◌, ◌^◌, ◌<◌, ◌≤◌, ◌⊎◌, inl, inr, Bool, true, false, nat_lt, List}
+use Rattle.std.proofs.Common.{◌≡◌, ℕ, ◌+◌, ◌<◌, ◌⊎◌, inl, inr, true, nat_lt, List}
 use Rattle.std.proofs.Common.{[], ◌∷◌, ◌++◌, length, take, drop, Option, Some, None, Result, Ok, Err, IfErr}
 use Rattle.std.proofs.Common.{refl, sym, ap, ◌∙◌, subst, arith, append_assoc, length-take-le, take-append-drop}
 use Rattle.std.specs.Result.{result_err}
@@ -27,7 +27,6 @@ use Rattle.link_frames.proofs.Exported.{ReaderFailed-later}
 use Rattle.role_daemon.specs.Steps.{of_ahead_fault, IsNodeOf, RefusesNode, Opened, client_text, LinesRan, LinesEndless}
 use Rattle.role_daemon.specs.declared.cluster.Mode.TheVariants.{Pipe}
 use Rattle.role_daemon.specs.declared.cluster.Setup.{Setup}
-use Rattle.role_daemon.specs.declared.fault.ClusterFault.{ClusterFault}
 use Rattle.role_daemon.specs.declared.fault.ClusterFault.TheVariants.{NotJson}
 use Rattle.role_daemon.specs.declared.fault.PipeFault.{PipeFault}
 use Rattle.role_daemon.specs.declared.fault.PipeFault.TheVariants.{Cluster, Device, Memory}

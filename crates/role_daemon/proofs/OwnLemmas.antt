@@ -5,7 +5,6 @@ use Rattle.std.proofs.Common.{Option, Some, None, Result, Ok, Err, refl, sym, ap
 use Rattle.std.specs.Prelude.{◌==◌, if◌then◌else◌}
 use Rattle.std.proofs.lemmas.Option.{none-some}
 use Rattle.std.specs.Option.{option_or}
-use Rattle.quorum_sizes.specs.Sizes.{Counts}
 use Rattle.role_commands.specs.declared.command.Command.{Command}
 use Rattle.link_frames.specs.Kinds.{same_kind}
 use Rattle.link_frames.specs.Packets.{PacketValue, packet_of}
@@ -16,7 +15,7 @@ use Rattle.bracha_instance.specs.Broadcast.{Take, echoed, readied}
 use Rattle.bracha_instance.specs.Taking.{newly, sent_for, newly_sent}
 use Rattle.bracha_instance.specs.declared.instance.Effect.{Effect}
 use Rattle.bracha_instance.specs.declared.instance.Effect.TheVariants as effect
-use Rattle.bracha_instance.proofs.Exported.{echoed_push, ready_stays}
+use Rattle.bracha_instance.proofs.Exported.{echoed_push}
 use Rattle.owner_streams.specs.Places.{take_of, takes_at}
 use Rattle.owner_streams.proofs.Exported.{takes_at-own}
 use Rattle.role_node.specs.Answers.{answered, outlook, reply_to, said_at}

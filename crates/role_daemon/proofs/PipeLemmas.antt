@@ -1,10 +1,10 @@
 -- The text of client lines, line by line.
-use Rattle.std.proofs.Common.{◌≡◌, ℕ, ◌+◌, ◌<◌, Bool, true, false, nat_lt, if◌then◌else◌, List, [], ◌∷◌, ◌++◌}
+use Rattle.std.proofs.Common.{◌≡◌, ℕ, ◌+◌, ◌<◌, Bool, true, false, nat_lt, List, [], ◌∷◌, ◌++◌}
 use Rattle.std.proofs.Common.{length, Option, Some, None, Result, Ok, Err, refl, sym, ap, ◌∙◌, arith, append-nil}
 use Rattle.std.specs.Prelude.{is_some}
 use Rattle.std.specs.Option.{option_map_or}
 use Rattle.std.proofs.lemmas.Bool.Decides.{nat_tests}
-use Rattle.link_frames.specs.Lines.{ended, lines_of}
+use Rattle.link_frames.specs.Lines.{ended}
 use Rattle.link_frames.specs.LinePrograms.{text_by, bad_by}
 use Rattle.link_frames.proofs.Exported.{lines_of-nil, text_by-nil, text_by-good}
 use Rattle.link_frames.proofs.Exported.{text_by-bad, bad_by-nil, bad_by-good, bad_by-bad}

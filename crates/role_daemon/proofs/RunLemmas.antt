@@ -1,19 +1,19 @@
 -- Client lines that were run so far, and how a run ends.
-use Rattle.std.proofs.Common.{◌≡◌, ℕ, ◌+◌, ◌-◌, ◌^◌, ◌<◌, ◌≤◌, ◌⊎◌, inl, inr, Bool, true, false, not}
+use Rattle.std.proofs.Common.{◌≡◌, ℕ, ◌+◌, ◌-◌, ◌^◌, ◌≤◌, ◌⊎◌, inl, inr, Bool, true, false, not}
 use Rattle.std.proofs.Common.{List, [], ◌∷◌, ◌++◌, length, take, drop, Option, Some, None, Result, Ok}
 use Rattle.std.proofs.Common.{Err, IfErr, refl, sym, ap, ◌∙◌, subst, arith, append_assoc, append-nil}
 use Rattle.std.specs.Prelude.{is_some}
 use Rattle.std.proofs.KnownBytes.{Consumes-trans, Consumes-kept, Consumes-nil, Appends-trans, Appends-nil}
 use Rattle.std.specs.Io.KnownBytes.{Consumes, Appends, Keeps, IsAtEnd, prepend_known}
 use Rattle.link_frames.specs.Watching.{Tally}
-use Rattle.link_frames.specs.Devices.{WentOn, CallFailed, ReaderFailed, AppendsFront}
-use Rattle.link_frames.specs.Lines.{line_end, lines_of, ended, NoLineEnd}
+use Rattle.link_frames.specs.Devices.{WentOn, CallFailed, AppendsFront}
+use Rattle.link_frames.specs.Lines.{line_end, lines_of, ended}
 use Rattle.link_frames.specs.LinePrograms.{text_by, HasBytes, WroteFront}
 use Rattle.link_frames.specs.Nexts.{Begins, EndsAt, PassedLine}
 use Rattle.link_frames.specs.declared.next.Next.TheVariants.{TooLong, Last}
 use Rattle.link_frames.proofs.Exported.{lines_of-nil, lines_of-line, lines_of-last, Consumes-front}
 use Rattle.link_frames.proofs.Exported.{Ran, Ran-taken, Ran-front, HasBytes-done, CallFailed-later}
-use Rattle.link_frames.proofs.Exported.{ReaderFailed-later, AppendsFront-nothing, AppendsFront-whole}
+use Rattle.link_frames.proofs.Exported.{AppendsFront-nothing, AppendsFront-whole}
 use Rattle.role_node.specs.Nodes.{NodeValue}
 use Rattle.client_lines.specs.AnswerTexts.{answer_text}
 use Rattle.client_lines.specs.Requests.{most_line_bytes}

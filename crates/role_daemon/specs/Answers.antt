@@ -1,6 +1,6 @@
 -- What a node answers to a client's request, and what the request makes of it.
-use Rattle.std.specs.Prelude.{ℕ, zero, suc, ◌+◌, List, length, Option, Some, None}
-use Rattle.std.specs.Prelude.{is_some, Bool, true, false, if◌then◌else◌, Result, Ok, Err}
+use Rattle.std.specs.Prelude.{ℕ, zero, suc, ◌+◌, length, Option, Some, None}
+use Rattle.std.specs.Prelude.{is_some, if◌then◌else◌, Result, Ok, Err}
 use Rattle.std.specs.Option.{option_map_or}
 use Rattle.link_frames.specs.Packets.{PacketValue, packet_due}
 use Rattle.link_frames.specs.declared.packet.Message.{Message}
@@ -8,7 +8,7 @@ use Rattle.role_commands.specs.declared.command.Command.{Command}
 use Rattle.role_sessions.specs.declared.faults.SessionFault.TheVariants as session
 use Rattle.role_node.specs.Access.{reach_at, sessions_at, sent_at}
 use Rattle.role_node.specs.Listed.{answer_after}
-use Rattle.role_node.specs.Nodes.{NodeValue, due_at, after_reply, with_event}
+use Rattle.role_node.specs.Nodes.{NodeValue, due_at, after_reply}
 use Rattle.role_node.specs.Questions.{ask_due}
 use Rattle.role_node.specs.declared.event.Event.{Event}
 use Rattle.role_node.specs.declared.event.Event.TheVariants as event

@@ -1,5 +1,5 @@
 -- What running a pipe does to its reader and writer.
-use Rattle.std.specs.Prelude.{◌≡◌, ℕ, ◌-◌, ◌^◌, ◌≤◌, ◌⊎◌, Bool, true, List, length, Option, None, Some, Result, Ok, Err}
+use Rattle.std.specs.Prelude.{◌≡◌, ℕ, ◌-◌, ◌^◌, ◌≤◌, ◌⊎◌, true, List, length, Option, None, Some, Result, Ok, Err}
 use Rattle.std.specs.Io.KnownBytes.{Consumes, Appends, Keeps, IsAtEnd}
 use Rattle.link_frames.specs.Lines.{lines_of}
 use Rattle.link_frames.specs.LinePrograms.{HasBytes, WroteFront}

@@ -12,7 +12,6 @@ use Rattle.role_daemon.specs.Pipes.{answers_text, one_stops, stops, line_text, a
 use Rattle.role_daemon.specs.Setups.{setup_due}
 use Rattle.role_daemon.specs.declared.cluster.Mode.TheVariants.{Pipe}
 use Rattle.role_daemon.specs.declared.cluster.Setup.{Setup}
-use Rattle.role_daemon.specs.declared.fault.ClusterFault.{ClusterFault}
 use Rattle.role_daemon.specs.declared.fault.ClusterFault.TheVariants.{NotJson}
 use Rattle.role_daemon.specs.declared.fault.PipeFault.{PipeFault}
 use Rattle.role_daemon.specs.declared.fault.PipeFault.TheVariants.{Cluster, Device, Memory}

@@ -1,4 +1,4 @@
-//! What the node of a pipe answers.
+//! What a node answers to a client, and how the pipe's node takes its own packets before it answers.
 
 ghost use Rattle.std.specs.Prelude.{◌≡◌, ◌<◌, ◌≤◌, ◌^◌, length, IfOk, IfErr, OnOk};
 ghost use Rattle.std.specs.List.{AllByRecursion};

@@ -4,10 +4,8 @@ use crate::cluster::{Mode, read_cluster};
 use crate::fault::{ClusterFault, PipeFault, WordsFault};
 use crate::pipe::run_pipe;
 use crate::words::{Words, read_words};
-use link_frames::Watched;
+use link_frames::{Faulty, Mishap, Watched};
 use std::alloc::Global;
-use std::io;
-use std::io::{ErrorKind, Read, Write};
 use std::test::Fail;
 
 /// The fault of a cluster text, as it is written; empty where it has none.
@@ -53,8 +51,9 @@ fn cluster_texts(rt: HostRuntime) -> Result<(), Fail> {
             "",
         ),
     ];
-    for (text, fault) in cases {
-        assert!(rt; fault_of(rt.alloc(), text, Mode::Pipe)?.as_str() == fault);
+    for (row, (text, due)) in cases.into_iter().enumerate() {
+        let fault = fault_of(rt.alloc(), text, Mode::Pipe)?;
+        assert!(rt; fault.as_str() == due, "row {row}: {fault:?}, due {due:?}");
     }
     Ok(())
 }
@@ -85,8 +84,9 @@ fn a_server_has_keys_and_ports(rt: HostRuntime) -> Result<(), Fail> {
             "U4 OutOfRange nodes",
         ),
     ];
-    for (text, fault) in cases {
-        assert!(rt; fault_of(rt.alloc(), text, Mode::Serve)?.as_str() == fault);
+    for (row, (text, due)) in cases.into_iter().enumerate() {
+        let fault = fault_of(rt.alloc(), text, Mode::Serve)?;
+        assert!(rt; fault.as_str() == due, "row {row}: {fault:?}, due {due:?}");
     }
     Ok(())
 }
@@ -110,80 +110,97 @@ fn words(rt: HostRuntime) -> Result<(), Fail> {
     }
     for words in [["x"].as_slice(), &["--help"], &["serve"]] {
         match words_of(alloc, words)? {
-            Ok(_) => assert!(rt; false),
-            Err(fault) => assert!(rt; fault.status() == 2),
+            Ok(taken) => assert!(rt; false, "{words:?} are taken as {taken:?}"),
+            Err(fault) => assert!(rt; fault.status() == 2, "{words:?}: {fault:?}"),
         }
     }
     Ok(())
 }
 
-/// A reader that fails where its bytes end.
-#[derive(Drop)]
-struct Failing<'a> {
-    rest: &'a [u8],
-}
-
-impl Read for Failing<'_> {
-    ghost use Rattle.std.specs.Prelude.{Some};
-
-    ghost remaining = { λ s. Some s.rest.now };
-
-    fn read(&mut self, buf: &mut [u8]) -> io::Result<usize> {
-        if self.rest.is_empty() {
-            return Err(io::Error::from(ErrorKind::TimedOut));
-        }
-        self.rest.read(buf)
-    }
-}
-
 const OPENING: &str = "{\"cluster\":1,\"f\":0,\"me\":0,\"n\":1,\"roles\":[[2,0]]}\n";
+
+/// Client lines, each with the answer that is due; nothing is behind the one that stops the node.
+static REFUSALS: [(&str, &str); 12] = [
+    ("nope", "{\"error\":\"J1 NotJson\"}"),
+    ("[1]", "{\"error\":\"J2 NotObject\"}"),
+    ("{}", "{\"error\":\"J3 NoOp\"}"),
+    ("{\"op\":\"fly\"}", "{\"error\":\"J4 UnknownOp\"}"),
+    (
+        "{\"op\":\"open\"}",
+        "{\"error\":\"J5 Missing\",\"name\":\"user\"}",
+    ),
+    (
+        "{\"op\":\"open\",\"user\":4294967296}",
+        "{\"error\":\"J6 OutOfRange\",\"name\":\"user\"}",
+    ),
+    (
+        "{\"op\":\"open\",\"user\":4294967295,\"x\":null}",
+        "{\"session\":1}",
+    ),
+    (
+        "{\"op\":\"reach\",\"owner\":1}",
+        "{\"error\":\"J6 OutOfRange\",\"name\":\"owner\"}",
+    ),
+    (
+        "{\"op\":\"again\",\"owner\":0,\"place\":0}",
+        "{\"again\":0}",
+    ),
+    (
+        "{\"op\":\"grant\",\"object\":9,\"operation\":5,\"role\":3}",
+        "{\"error\":\"F1 NotMine\"}",
+    ),
+    ("{\"op\":\"stop\"}", "{\"stopped\":true}"),
+    ("nope", ""),
+];
+
+/// The first line of a text, without its end, and what is behind it.
+fn first_line(text: &[u8]) -> (&[u8], &[u8]) {
+    let end = text.iter().position(|byte| *byte == b'\n');
+    let (line, behind) = text.split_at(end.unwrap_or(text.len()));
+    (line, behind.get(1..).unwrap_or(&[]))
+}
 
 #[test]
 fn refusals(rt: HostRuntime) -> Result<(), Fail> {
-    let lines = "nope\n\
-        [1]\n\
-        {}\n\
-        {\"op\":\"fly\"}\n\
-        {\"op\":\"open\"}\n\
-        {\"op\":\"open\",\"user\":4294967296}\n\
-        {\"op\":\"open\",\"user\":4294967295,\"x\":null}\n\
-        {\"op\":\"reach\",\"owner\":1}\n\
-        {\"op\":\"again\",\"owner\":0,\"place\":0}\n\
-        {\"op\":\"grant\",\"object\":9,\"operation\":5,\"role\":3}\n\
-        {\"op\":\"stop\"}\n\
-        nope\n";
-    let due = "{\"error\":\"J1 NotJson\"}\n\
-        {\"error\":\"J2 NotObject\"}\n\
-        {\"error\":\"J3 NoOp\"}\n\
-        {\"error\":\"J4 UnknownOp\"}\n\
-        {\"error\":\"J5 Missing\",\"name\":\"user\"}\n\
-        {\"error\":\"J6 OutOfRange\",\"name\":\"user\"}\n\
-        {\"session\":1}\n\
-        {\"error\":\"J6 OutOfRange\",\"name\":\"owner\"}\n\
-        {\"again\":0}\n\
-        {\"error\":\"F1 NotMine\"}\n\
-        {\"stopped\":true}\n";
-    let input = format!(in rt.alloc(); "{OPENING}{lines}")?;
+    let mut input = String::from_str(rt.alloc(), OPENING)?;
+    for (line, _) in &REFUSALS {
+        input.push_str(line)?;
+        input.push('\n')?;
+    }
     let mut held = Vec::new(rt.alloc());
-    let mut writer = Watched::new(&mut held);
-    let mut reader = Watched::new(input.as_bytes());
-    run_pipe(rt.alloc(), &mut reader, &mut writer)?;
-    assert!(rt; held.as_slice() == due.as_bytes());
+    run_pipe(
+        rt.alloc(),
+        &mut Watched::new(input.as_bytes()),
+        &mut Watched::new(&mut held),
+    )?;
+    let mut written = held.as_slice();
+    for (row, (line, due)) in REFUSALS.iter().enumerate() {
+        let (answer, behind) = first_line(written);
+        assert!(rt;
+            answer == due.as_bytes(),
+            "row {row}, {line:?}: {:?}, due {due:?}",
+            str::from_utf8(answer)
+        );
+        written = behind;
+    }
+    assert!(rt; written.is_empty());
     Ok(())
 }
 
 #[test]
 fn an_answer_is_written_before_the_next_line_is_waited_for(rt: HostRuntime) -> Result<(), Fail> {
-    let line = "{\"op\":\"assign\",\"role\":2,\"user\":7}\n{\"op\":";
-    let input = format!(in rt.alloc(); "{OPENING}{line}")?;
+    let lines = "{\"op\":\"assign\",\"role\":2,\"user\":7}\n{\"op\":";
+    let input = format!(in rt.alloc(); "{OPENING}{lines}")?;
     let mut held = Vec::new(rt.alloc());
+    let mut reader = Watched::new(Faulty::new(input.as_bytes(), Mishap::Fail, 1, 1));
     let mut writer = Watched::new(&mut held);
-    let mut reader = Watched::new(Failing {
-        rest: input.as_bytes(),
-    });
     let ended = run_pipe(rt.alloc(), &mut reader, &mut writer);
-    assert!(rt; matches!(ended, Err(PipeFault::Device)));
-    assert!(rt; held.as_slice() == "{\"issued\":0,\"reach\":1}\n".as_bytes());
+    assert!(rt; matches!(&ended, Err(PipeFault::Device)), "{ended:?}");
+    let written = str::from_utf8(held.as_slice());
+    assert!(rt;
+        written == Ok("{\"issued\":0,\"reach\":1}\n"),
+        "{written:?}"
+    );
     Ok(())
 }
 
@@ -198,8 +215,11 @@ fn a_long_line_is_passed_over(rt: HostRuntime) -> Result<(), Fail> {
     let mut writer = Watched::new(&mut held);
     let mut reader = Watched::new(input.as_bytes());
     run_pipe(rt.alloc(), &mut reader, &mut writer)?;
-    let due = "{\"error\":\"J1 NotJson\"}\n{\"stopped\":true}\n";
-    assert!(rt; held.as_slice() == due.as_bytes());
+    let written = str::from_utf8(held.as_slice());
+    assert!(rt;
+        written == Ok("{\"error\":\"J1 NotJson\"}\n{\"stopped\":true}\n"),
+        "{written:?}"
+    );
     Ok(())
 }
 
@@ -210,10 +230,13 @@ fn an_absent_line_sets_up_no_node(rt: HostRuntime) -> Result<(), Fail> {
     let mut reader = Watched::new([].as_slice());
     match run_pipe(rt.alloc(), &mut reader, &mut writer) {
         Err(fault) => {
-            assert!(rt; matches!(&fault, PipeFault::Cluster(ClusterFault::NotJson)));
+            assert!(rt;
+                matches!(&fault, PipeFault::Cluster(ClusterFault::NotJson)),
+                "{fault:?}"
+            );
             assert!(rt; fault.status() == 3);
         }
-        Ok(()) => assert!(rt; false),
+        Ok(()) => assert!(rt; false, "no fault"),
     }
     assert!(rt; held.is_empty());
     Ok(())

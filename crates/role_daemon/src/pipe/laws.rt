@@ -1,7 +1,7 @@
-//! The promises of a node's own packets.
+//! What holds of a node's own packets, whatever it recorded before.
 ghost use Rattle.role_daemon.specs.Laws.{OwnPacketsEnd};
 
-/// Whatever a node recorded before: when its own packets were taken none is left, and it took them until none was.
+/// After a node took three of its own packets none is left, and the node that took them until none was is `settled`.
 pub fn own_packets_end()
     ensures { OwnPacketsEnd }
 {}

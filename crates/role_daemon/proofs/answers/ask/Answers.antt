@@ -1,4 +1,4 @@
-use Rattle.std.proofs.Common.{sym, ap, ◌∙◌}
+use Rattle.std.proofs.Common.{ap, ◌∙◌}
 use Rattle.role_daemon.specs.Answers.{listed}
 use Rattle.role_daemon.proofs.AnswerLemmas.{asked-answer}
 use Rattle.role_daemon.proofs.answers.ask.Goals as goal

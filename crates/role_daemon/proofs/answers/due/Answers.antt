@@ -1,4 +1,4 @@
-use Rattle.std.proofs.Common.{◌≡◌, rules, Ok, Err}
+use Rattle.std.proofs.Common.{◌≡◌, rules, Err}
 use Rattle.role_node.specs.Nodes.{due_at}
 use Rattle.role_daemon.proofs.AnswerLemmas.{event_done, event_refused}
 use Rattle.role_daemon.proofs.answers.due.Goals as goal
