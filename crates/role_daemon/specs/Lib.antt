@@ -7,3 +7,4 @@ pub mod Pipes
 pub mod Runs
 pub mod Steps
 pub mod Served
+pub mod Linked
