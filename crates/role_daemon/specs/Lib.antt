@@ -8,3 +8,4 @@ pub mod Pipes
 pub mod Runs
 pub mod Steps
 pub mod Served
+pub mod Linked

@@ -2,6 +2,8 @@
 use Rattle.std.specs.Prelude.{ℕ}
 use Rattle.role_daemon.specs.declared.fault.ClusterFault.{ClusterFault}
 use Rattle.role_daemon.specs.declared.fault.ClusterFault.TheVariants as cluster
+use Rattle.role_daemon.specs.declared.fault.FileFault.{FileFault}
+use Rattle.role_daemon.specs.declared.fault.FileFault.TheVariants as file
 use Rattle.role_daemon.specs.declared.fault.PipeFault.{PipeFault}
 use Rattle.role_daemon.specs.declared.fault.PipeFault.TheVariants as pipe
 use Rattle.role_daemon.specs.declared.fault.ServeFault.{ServeFault}
@@ -21,6 +23,11 @@ cluster_status (cluster.OutOfRange member) = 3
 cluster_status (cluster.Sizes fault) = 3
 cluster_status (cluster.Table fault) = 3
 cluster_status cluster.Memory = 5
+
+abbrev pub file_status : FileFault → ℕ
+file_status file.Unread = 3
+file_status (file.Cluster fault) = cluster_status fault
+file_status file.Memory = 5
 
 abbrev pub pipe_status : PipeFault → ℕ
 pipe_status (pipe.Cluster fault) = cluster_status fault

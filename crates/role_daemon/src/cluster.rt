@@ -194,7 +194,7 @@ fn add_role(roles: &mut RoleTable, item: &Value) -> Result<(), AllocError>
     }
 }
 
-/// Whether a server has a key and a port of each node, where it has so many of them.
+/// Refuses a server that has so many keys and ports, where they are not as many as the nodes.
 #[tactic(auto, unfolding(crate::specs::Setups::counted))]
 fn counted(mode: Mode, sizes: &Sizes, keys: usize, nodes: usize) -> Result<(), ClusterFault>
     ensures value { result ≡ setups.counted mode sizes.now keys nodes }

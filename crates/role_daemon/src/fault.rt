@@ -1,7 +1,7 @@
 //! Why the program ends before its end.
 
 ghost use Rattle.std.specs.Prelude.{◌≡◌};
-ghost use Rattle.role_daemon.specs.Statuses.{words_status, cluster_status, pipe_status, serve_status};
+ghost use Rattle.role_daemon.specs.Statuses.{words_status, cluster_status, file_status, pipe_status, serve_status};
 
 use client_lines::Member;
 use link_frames::{AheadFault, DeviceFault};
@@ -103,6 +103,33 @@ impl From<SizeFault> for ClusterFault {
 
     fn from(fault: SizeFault) -> Self {
         ClusterFault::Sizes(fault)
+    }
+}
+
+/// Why a cluster file sets up no node.
+#[derive(Debug, Drop, Error)]
+pub enum FileFault {
+    /// The file could not be read.
+    #[error("cluster file")]
+    Unread,
+    /// Its text sets up no node; never for want of memory.
+    #[error(transparent)]
+    Cluster(ClusterFault),
+    /// There was no memory.
+    #[error("out of memory")]
+    Memory,
+}
+
+impl FileFault {
+    /// The exit status of the program: 3 at a file that is not read or refused, 5 for want of memory.
+    pub fn status(&self) -> u8
+        ensures { result ≡ file_status self.now }
+    {
+        match self {
+            FileFault::Unread => 3,
+            FileFault::Cluster(fault) => fault.status(),
+            FileFault::Memory => 5,
+        }
     }
 }
 

@@ -17,7 +17,7 @@ mod shape;
 pub mod words;
 
 use cluster::{MOST_TEXT_BYTES, Mode, Setup, read_cluster};
-use fault::{ClusterFault, PipeFault, WordsFault};
+use fault::{ClusterFault, FileFault, PipeFault, WordsFault};
 use link_frames::Watched;
 use pipe::run_pipe;
 use serve::serve;
@@ -39,7 +39,7 @@ fn main(rt: HostRuntime) -> ExitCode {
                 Ok(()) => ExitCode::SUCCESS,
                 Err(fault) => ExitCode::from(fault.status()),
             },
-            Err(code) => code,
+            Err(fault) => refuse_file(&rt, &fault),
         },
         Err(fault) => refuse(&rt, &fault),
     }
@@ -82,8 +82,16 @@ fn run(rt: &HostRuntime) -> ExitCode {
     }
 }
 
-/// The setup of a cluster file, or the program's exit status.
-fn setup_of(rt: &HostRuntime, file: &str) -> Result<Setup, ExitCode>
+/// Ends without a setup.
+fn refuse_file(rt: &HostRuntime, fault: &FileFault) -> ExitCode {
+    if !matches!(fault, FileFault::Memory) {
+        let _ = eprintln!(rt; "role_daemon: {fault}");
+    }
+    ExitCode::from(fault.status())
+}
+
+/// The setup of a cluster file.
+fn setup_of(rt: &HostRuntime, file: &str) -> Result<Setup, FileFault>
     ensures node { IfOk result IsNodeSetup }
     ensures server { IfOk result IsServerSetup }
 {
@@ -91,20 +99,15 @@ fn setup_of(rt: &HostRuntime, file: &str) -> Result<Setup, ExitCode>
         Ok(text) => text,
         Err(error) => {
             if error.kind() == ErrorKind::OutOfMemory {
-                return Err(ExitCode::from(ClusterFault::Memory.status()));
+                return Err(FileFault::Memory);
             }
-            let _ = eprintln!(rt; "role_daemon: cluster file");
-            return Err(ExitCode::from(ClusterFault::NotJson.status()));
+            return Err(FileFault::Unread);
         }
     };
     match read_cluster(rt.alloc(), &text, Mode::Serve) {
         Ok(setup) => Ok(setup),
-        Err(fault) => {
-            if !matches!(fault, ClusterFault::Memory) {
-                let _ = eprintln!(rt; "role_daemon: {fault}");
-            }
-            Err(ExitCode::from(fault.status()))
-        }
+        Err(ClusterFault::Memory) => Err(FileFault::Memory),
+        Err(fault) => Err(FileFault::Cluster(fault)),
     }
 }
 

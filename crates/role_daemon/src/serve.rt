@@ -3,7 +3,8 @@
 //! Connections are served by threads of their own, which put jobs into one inbox; four workers make their calls under
 //! the node's lock. A thread that waits sleeps.
 
-ghost use Rattle.std.specs.Prelude.{◌≡◌, length};
+ghost use Rattle.std.specs.Prelude.{◌≡◌, length, IfOk};
+ghost use Rattle.role_daemon.specs.Linked.{ring_of};
 ghost use Rattle.role_daemon.specs.Setups.{IsNodeSetup, IsServerSetup};
 
 mod accept;
@@ -130,6 +131,9 @@ fn hub_of<L: Ledger>(
     requires name { blank.name ≡ L.name }
     requires parts { (blank.parts ≡ L.parts) × (5 ≡ L.parts) }
     requires me { IsNodeSetup setup }
+    requires peers { IsServerSetup setup }
+    ensures keys { IfOk result (λ made. made.0.links.keys ≡ ring_of setup) }
+    ensures cluster { IfOk result (λ made. made.0.links.cluster ≡ setup.config.cluster) }
 {
     let links = Links::new(alloc, &setup)?;
     let rooms = Rooms::new(alloc, setup.nodes.as_slice().len())?;

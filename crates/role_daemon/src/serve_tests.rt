@@ -2,9 +2,10 @@
 
 use crate::cluster::{Mode, read_cluster};
 use crate::serve::serve;
+use hex::FromHex;
 use std::alloc::Global;
-use std::io::{BufRead, BufReader, Write};
-use std::net::{Ipv4Addr, Net, SocketAddr, SocketAddrV4, TcpListener, TcpStream};
+use std::io::{BufRead, BufReader, Read, Write};
+use std::net::{Ipv4Addr, Net, Shutdown, SocketAddr, SocketAddrV4, TcpListener, TcpStream};
 use std::sync::Wait;
 use std::test::Fail;
 use std::thread;
@@ -144,6 +145,86 @@ fn a_node_serves_and_stops(rt: HostRuntime) -> Result<(), Fail> {
     Ok(())
 }
 
+/// Sends bytes to a node's port for peers, and waits until the node has read them all.
+fn send_bytes<R>(rt: &R, port: u16, bytes: &[u8]) -> Result<(), Fail>
+where
+    R: Net<Listener = TcpListener, Stream = TcpStream> + Clock,
+{
+    let mut stream = connected(rt, port)?;
+    stream.write_all(bytes)?;
+    stream.shutdown(Shutdown::Write)?;
+    let mut rest = [0; 1];
+    let _ = stream.read(&mut rest)?;
+    Ok(())
+}
+
+/// The frame from node 0 to node 1 in cluster 1, a SEND of `assign 7 2` at place 0 of node 0. Its tag was computed by
+/// another program.
+const SEND_FRAME: &str = "0100000001000101000000010002000000070000\
+    7748227dd60fa0e7d9fe50a5b9ac4a3a2e2f051b6d9ef19e52f2813c9887255a";
+
+/// The line that has a node send again what it sent at the first place of node 0.
+const AGAIN: &str = "{\"op\":\"again\",\"owner\":0,\"place\":0}";
+
+/// Whether a node has one message to send again, at the last of some questions.
+fn sends_one_again<R>(rt: &R, alloc: Global, stream: &TcpStream) -> Result<bool, Fail>
+where
+    R: Clock,
+{
+    for _ in 0..5_000u32 {
+        if ask(alloc, stream, AGAIN)?.as_str() == "{\"again\":1}\n" {
+            return Ok(true);
+        }
+        thread::sleep(rt, Duration::from_millis(1));
+    }
+    Ok(false)
+}
+
+/// Whether node 1 echoes the command of the frame, and not that of one whose tag has another bit.
+fn talk_to_second<R>(rt: &R, alloc: Global, peers: u16, client: u16) -> Result<bool, Fail>
+where
+    R: Net<Listener = TcpListener, Stream = TcpStream> + Clock,
+{
+    let Ok(frame) = <[u8; 52] as FromHex>::from_hex(SEND_FRAME) else {
+        return Ok(false);
+    };
+    let mut forged = frame;
+    forged[51] ^= 1;
+    let stream = connected(rt, client)?;
+    send_bytes(rt, peers, &forged)?;
+    thread::sleep(rt, Duration::from_millis(50));
+    let lost = ask(alloc, &stream, AGAIN)?.as_str() == "{\"again\":0}\n";
+    send_bytes(rt, peers, &frame)?;
+    let echoed = sends_one_again(rt, alloc, &stream)?;
+    ask(alloc, &stream, "{\"op\":\"stop\"}")?;
+    Ok(lost && echoed)
+}
+
+/// Whether node 1 of four, alone, takes a frame that was written out elsewhere.
+fn second_node<R>(rt: &R, alloc: Global) -> Result<bool, Fail>
+where
+    R: Net<Listener = TcpListener, Stream = TcpStream> + Threads + Wait + Clock + Sync,
+{
+    let ports = free_ports(rt, alloc, 5)?;
+    let (peers, client) = match ports.as_slice() {
+        [peers @ .., client] => (peers, *client),
+        _ => return Ok(false),
+    };
+    let text = text_of(alloc, 1, 1, peers, client)?;
+    let shown = text.as_str();
+    thread::scope(thread::scope_env(), rt, |scope| -> Result<bool, Fail> {
+        let server = scope.spawn(move || serve_text(rt, alloc, shown))?;
+        let right = talk_to_second(rt, alloc, peers[1], client)?;
+        Ok(right && server.join(rt) == 0)
+    })
+}
+
+#[test]
+fn a_frame_of_another_program_counts(rt: HostRuntime) -> Result<(), Fail> {
+    assert!(rt; second_node(&rt, rt.alloc())?);
+    Ok(())
+}
+
 /// Has node 0 issue, and all send once more, until node 3 has delivered. Whether it has, when all have stopped.
 fn talk_to_four(alloc: Global, streams: &[TcpStream]) -> Result<bool, Fail> {
     let mut right = false;
@@ -154,7 +235,7 @@ fn talk_to_four(alloc: Global, streams: &[TcpStream]) -> Result<bool, Fail> {
     ask(alloc, first, "{\"op\":\"assign\",\"user\":7,\"role\":2}")?;
     for _ in 0..10_000u32 {
         for stream in streams {
-            ask(alloc, stream, "{\"op\":\"again\",\"owner\":0,\"place\":0}")?;
+            ask(alloc, stream, AGAIN)?;
         }
         right = ask(alloc, last, "{\"op\":\"reach\",\"owner\":0}")?.as_str() == "{\"reach\":1}\n";
         if right {

@@ -1,16 +1,15 @@
 //! A node's keys, with which it seals frames and opens them.
 
-ghost use Rattle.std.specs.Prelude.{◌≡◌, ◌<◌, IfOk, IfSome};
+ghost use Rattle.std.specs.Prelude.{◌≡◌, ◌<◌, IfOk};
 ghost use Rattle.std.specs.Result.{result_ok};
-ghost use Rattle.link_frames.specs.Frames as frames;
-ghost use Rattle.link_frames.specs.KeyRings.{key_with};
+ghost use Rattle.quorum_sizes.specs.Sizes.{name_due};
 ghost use Rattle.link_frames.specs.Opening.{open_due};
-ghost use Rattle.link_frames.specs.Packets.{packet_of};
-ghost use Rattle.role_daemon.specs.Setups.{IsNodeSetup};
+ghost use Rattle.role_daemon.specs.Linked.{ring_of, frame_due};
+ghost use Rattle.role_daemon.specs.Setups.{IsNodeSetup, IsServerSetup};
 
 use crate::cluster::Setup;
 use crate::serve::outbox::Frame;
-use link_frames::{Message, Packet, PairKeys, open_frame, seal};
+use link_frames::{KeyFault, Message, Packet, PairKeys, open_frame, seal};
 use quorum_sizes::{NodeName, Sizes};
 use std::alloc::{AllocError, Global};
 
@@ -27,18 +26,22 @@ pub struct Links {
 }
 
 impl Links {
-    /// The links of a setup.
+    /// The links of a setup: by its keys, in its cluster.
     ///
     /// # Errors
     ///
     /// Only for want of memory.
     pub fn new(alloc: Global, setup: &Setup) -> Result<Links, AllocError>
-        requires { IsNodeSetup setup.now }
-        ensures { IfOk result (λ links. links.me ≡ setup.now.me) }
+        requires me { IsNodeSetup setup.now }
+        requires peers { IsServerSetup setup.now }
+        ensures keys { IfOk result (λ links. links.keys ≡ ring_of setup.now) }
+        ensures cluster { IfOk result (λ links. links.cluster ≡ setup.now.config.cluster) }
     {
         let sizes = setup.config.roles().sizes();
-        let Ok(keys) = PairKeys::new(alloc, &sizes, setup.me, setup.keys.as_slice()) else {
-            return Err(AllocError);
+        let keys = match PairKeys::new(alloc, &sizes, setup.me, setup.keys.as_slice()) {
+            Ok(keys) => keys,
+            Err(KeyFault::Memory) => return Err(AllocError),
+            Err(KeyFault::WrongCount) => unreachable!(),
         };
         Ok(Links {
             keys,
@@ -63,10 +66,13 @@ impl Links {
     }
 
     /// The name of the node of this index.
-    pub fn name(&self, index: usize) -> Option<NodeName> {
-        match u8::try_from(index) {
-            Ok(index) => self.sizes.name(index),
-            Err(_) => None,
+    pub fn name(&self, index: usize) -> Option<NodeName>
+        ensures { result ≡ name_due self.now.sizes index }
+    {
+        if index < usize::from(self.sizes.n()) {
+            self.sizes.name(index as u8)
+        } else {
+            None
         }
     }
 
@@ -77,10 +83,9 @@ impl Links {
         open_frame(&self.keys, &self.sizes, self.cluster, frame).ok()
     }
 
-    /// The frame of a message to a node, if a packet of this node may have it.
+    /// The frame of a message to a node of the cluster, if a packet of this node may have the message.
     pub fn seal(&self, to: NodeName, message: &Message) -> Option<Frame>
-        ensures { IfSome result (λ frame. frame
-            ≡ frames.frame (key_with self.now.keys to) self.now.cluster (packet_of self.now.me to message.now)) }
+        ensures { result ≡ frame_due self.now.keys self.now.cluster to message.now }
     {
         let packet = Packet::new(self.me, to, *message)?;
         if self.sizes.has(to) {
