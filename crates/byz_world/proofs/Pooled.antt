@@ -291,6 +291,8 @@ pooled_is_sent config liars run p is c =
     })
 
 pub pool_is_what_was_sent : PoolIsWhatWasSent
-pool_is_what_was_sent config liars run p is =
-    (pooled_is_sent config liars run p is, λ was. sent_is_pooled config liars run p.from p.to (message_of p) is was.sent
-    was.to)
+pool_is_what_was_sent config liars run p is = (
+  pooled_is_sent config liars run p is,
+  λ was. sent_is_pooled config liars run p.from p.to (message_of p) is was.sent
+      was.to,
+)

@@ -28,7 +28,7 @@ ghost use Rattle.byz_world.specs.declared.step.Step.TheVariants.{Issue, Give, Li
 
 use crate::faults::WorldFault;
 use crate::keys::{keys_of, new_keys};
-use crate::members::{ask_at, check_at, has_sent, member, new_members, record_at, has_taken_all};
+use crate::members::{ask_at, check_at, has_sent, has_taken_all, member, new_members, record_at};
 use crate::notes::{note_name, note_sent, sent_by, told};
 use crate::step::{Came, Step, StepReply};
 use bracha_instance::Effect;
