@@ -1,12 +1,16 @@
 //! Frames that wait for a peer.
 
+use crate::serve::waiting::{Awaited, Waiting};
+use quorum_sizes::NodeName;
 use std::alloc::{AllocError, Global};
 use std::collections::VecDeque;
-use std::sync::{Condvar, Mutex, Wait};
+use std::sync::Wait;
 use std::time::{Clock, Duration};
 
 /// The bytes of a frame.
-pub type Frame = [u8; 52];
+pub const FRAME_LEN: usize = 52;
+
+pub type Frame = [u8; FRAME_LEN];
 
 /// The most frames that wait for a peer.
 const MOST_FRAMES: usize = 1_024;
@@ -15,70 +19,75 @@ const MOST_FRAMES: usize = 1_024;
 pub const BATCH_FRAMES: usize = 128;
 
 #[derive(Drop)]
-struct Waiting {
+struct Frames {
     frames: VecDeque<Frame>,
-    ended: bool,
+}
+
+impl Awaited for Frames {
+    fn is_due(&self) -> bool {
+        !self.frames.is_empty()
+    }
 }
 
 /// The frames to one peer, oldest first. A frame stays until it is written.
 #[derive(Drop)]
 pub struct Outbox {
-    waiting: Mutex<Waiting>,
-    more: Condvar,
+    /// The peer.
+    pub to: NodeName,
+    /// Its port for other nodes.
+    pub port: u16,
+    waiting: Waiting<Frames>,
 }
 
 impl Outbox {
     /// An empty outbox.
-    pub fn new(alloc: Global) -> Outbox {
-        let waiting = Mutex::new(Waiting {
-            frames: VecDeque::new(alloc),
-            ended: false,
-        });
+    pub fn new(alloc: Global, to: NodeName, port: u16) -> Outbox {
+        let frames = VecDeque::new(alloc);
         Outbox {
-            waiting,
-            more: Condvar::new(),
+            to,
+            port,
+            waiting: Waiting::new(Frames { frames }),
         }
     }
 
-    /// Puts a frame at the end. It is lost where 1,024 frames wait, or where memory is wanting.
-    pub fn push<R: Wait>(&self, rt: &R, frame: &Frame) {
-        {
-            let mut waiting = self.waiting.lock(rt);
-            if waiting.frames.len() >= MOST_FRAMES {
-                return;
+    /// Puts frames at the end. What does not fit into 1,024 frames is lost, and so is all for want of memory.
+    pub fn push<R: Wait>(&self, rt: &R, frames: &[Frame]) {
+        let was_empty = {
+            let mut state = self.waiting.lock(rt);
+            let waiting = &mut *state;
+            let was_empty = waiting.value.frames.is_empty();
+            for frame in frames {
+                if waiting.value.frames.len() < MOST_FRAMES {
+                    let _ = waiting.value.frames.push_back(*frame);
+                }
             }
-            let _ = waiting.frames.push_back(*frame);
+            was_empty
+        };
+        if was_empty {
+            self.waiting.wake();
         }
-        self.more.notify_one();
     }
 
     /// Waits until a frame is there; false at the end.
     pub fn wait<R: Wait>(&self, rt: &R) -> bool {
-        let waiting = self.more.wait_while(
-            rt,
-            self.waiting.lock(rt),
-            |w| w.frames.is_empty() && !w.ended,
-        );
-        !waiting.ended
+        let state = self.waiting.lock(rt);
+        self.waiting.wait(rt, state).is_some()
     }
 
     /// Waits for so long; false at the end.
-    pub fn pause<R: Wait + Clock>(&self, rt: &R, pause: Duration) -> bool {
-        let (waiting, _) = self
-            .more
-            .wait_timeout_while(rt, self.waiting.lock(rt), pause, |w| !w.ended);
-        !waiting.ended
+    pub fn pause<R: Wait + Clock>(&self, rt: &R, time: Duration) -> bool {
+        self.waiting.pause(rt, time)
     }
 
-    /// Writes the bytes of the oldest frames, 128 at most, behind `batch`. How many they are.
+    /// Writes the bytes of the oldest frames, 128 at most, behind `batch`. How many frames they are.
     ///
     /// # Errors
     ///
     /// Only for want of memory.
     pub fn copy_front<R: Wait>(&self, rt: &R, batch: &mut Vec<u8>) -> Result<usize, AllocError> {
-        let waiting = self.waiting.lock(rt);
-        let count = waiting.frames.len().min(BATCH_FRAMES);
-        for frame in waiting.frames.iter().take(count) {
+        let state = self.waiting.lock(rt);
+        let count = state.value.frames.len().min(BATCH_FRAMES);
+        for frame in state.value.frames.iter().take(count) {
             batch.extend_from_slice(frame)?;
         }
         Ok(count)
@@ -86,15 +95,14 @@ impl Outbox {
 
     /// The oldest frames, so many, were written.
     pub fn forget<R: Wait>(&self, rt: &R, count: usize) {
-        let mut waiting = self.waiting.lock(rt);
+        let mut state = self.waiting.lock(rt);
         for _ in 0..count {
-            let _ = waiting.frames.pop_front();
+            let _ = state.value.frames.pop_front();
         }
     }
 
     /// Wakes the thread that writes, for the last time. Frames that wait are lost.
     pub fn end<R: Wait>(&self, rt: &R) {
-        self.waiting.lock(rt).ended = true;
-        self.more.notify_all();
+        self.waiting.end(rt);
     }
 }
