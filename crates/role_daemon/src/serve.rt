@@ -89,7 +89,7 @@ where
     requires peers { IsServerSetup setup }
 {
     let listeners = Listeners::new(rt, &setup)?;
-    let ready = Waiting::new(Ready::new());
+    let ready = Waiting::new(Ready::new(usize::from(WORKERS)));
     let (inbox, passes) = Inbox::new(alloc, PASSES)?;
     let mut queues = job_queues(alloc, &inbox, &ready, passes)?;
     let (shared, seats) = shared_of::<L>(alloc, blank, setup, &ready, &mut queues)?;

@@ -26,12 +26,23 @@ struct Slot<'a> {
     done: u64,
     /// How many its thread waits for.
     wanted: u64,
+    /// The connection was shut down from this side. What it had received is not to be read any more.
+    is_cut: bool,
     answers: Vec<Answers>,
 }
 
 impl Awaited for Slot<'_> {
     fn is_due(&self) -> bool {
-        self.done >= self.wanted
+        self.is_cut || self.done >= self.wanted
+    }
+}
+
+impl Slot<'_> {
+    fn cut(&mut self) {
+        self.is_cut = true;
+        if let Some(stream) = &self.stream {
+            let _ = stream.shutdown(Shutdown::Both);
+        }
     }
 }
 
@@ -50,6 +61,7 @@ impl<'a> Connection<'a> {
                 queue: Some(queue),
                 done: 0,
                 wanted: 0,
+                is_cut: false,
                 answers: Vec::new(alloc),
             }),
         }
@@ -61,7 +73,7 @@ impl<'a> Connection<'a> {
             return false;
         };
         let mut slot = self.slot.lock(rt);
-        if slot.ended || slot.value.stream.is_some() {
+        if slot.ended || slot.value.stream.is_some() || slot.value.queue.is_none() {
             return false;
         }
         slot.value.stream = Some(other);
@@ -81,21 +93,31 @@ impl<'a> Connection<'a> {
     /// The place is free again once all jobs that were put are done, so that none of them meets the next connection.
     pub fn free<R: Wait>(&self, rt: &R, queue: JobQueue<'a>, put: u64) {
         let mut slot = self.slot.lock(rt);
+        slot.value.stream = None;
+        slot.value.is_cut = false;
         slot.value.wanted = put;
         if let Some(mut slot) = self.slot.wait(rt, slot) {
-            slot.value.queue = Some(queue);
             slot.value.done = 0;
             slot.value.wanted = 0;
             slot.value.answers.clear();
-            slot.value.stream = None;
+            slot.value.queue = Some(queue);
         }
     }
 
-    /// Waits until so many jobs are done. How many are, and the answers; `None` at the end.
+    /// Whether nobody has shut the connection down.
+    pub fn is_live<R: Wait>(&self, rt: &R) -> bool {
+        !self.slot.lock(rt).value.is_cut
+    }
+
+    /// Waits until so many jobs are done. How many are, and the answers; `None` where the connection was shut down,
+    /// and at the end.
     pub fn wait<R: Wait>(&self, rt: &R, wanted: u64, answers: &mut Vec<Answers>) -> Option<u64> {
         let mut slot = self.slot.lock(rt);
         slot.value.wanted = wanted;
         let mut slot = self.slot.wait(rt, slot)?;
+        if slot.value.is_cut {
+            return None;
+        }
         mem::swap(&mut slot.value.answers, answers);
         Some(slot.value.done)
     }
@@ -121,9 +143,8 @@ impl<'a> Connection<'a> {
 
     /// Shuts the connection down, so that whoever reads or writes there goes on.
     pub fn cut<R: Wait>(&self, rt: &R) {
-        if let Some(stream) = &self.slot.lock(rt).value.stream {
-            let _ = stream.shutdown(Shutdown::Both);
-        }
+        self.slot.lock(rt).value.cut();
+        self.slot.wake();
     }
 
     /// Shuts the connection down, and takes no other.

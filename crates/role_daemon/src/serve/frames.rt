@@ -123,7 +123,7 @@ impl<L: Ledger> Peer<'_, '_, L> {
             if !block.read(&mut reader) || !self.take(rt, stream, block.frames()) {
                 return;
             }
-            if self.from.is_none() && !is_early(rt, &begin) {
+            if !self.connection.is_live(rt) || (self.from.is_none() && !is_early(rt, &begin)) {
                 return;
             }
         }

@@ -34,12 +34,12 @@ impl Awaited for Ready {
 }
 
 impl Ready {
-    /// No jobs, and no worker.
-    pub fn new() -> Ready {
+    /// No jobs, and so many workers, who are about to look for some.
+    pub fn new(workers: usize) -> Ready {
         Ready {
             jobs: 0,
             taking: false,
-            awake: 0,
+            awake: workers,
             summoned: false,
         }
     }
