@@ -8,13 +8,13 @@ use crate::held::Held;
 use crate::serve::caller::{Caller, MOST_LINES};
 use crate::serve::connection::{Answers, Connection};
 use crate::serve::job_queue::JobQueue;
-use crate::serve::shared::Shared;
+use crate::serve::shared::{Room, Shared};
 use client_lines::{ClientAnswer, LineFault, MOST_LINE_BYTES, Request, read_request};
 use link_frames::{Ahead, Kind, Message, Next, Place, Watched};
 use node_lock::{Call, Job, View};
 use quorum_sizes::NodeName;
 use role_node::{Event, NodeAgain};
-use std::alloc::Global;
+use std::alloc::{AllocError, Global};
 use std::mem;
 use std::net::TcpStream;
 use std::sync::Wait;
@@ -27,6 +27,9 @@ pub const IDLE: u64 = 600_000;
 
 /// The milliseconds before a job is put again that the inbox did not take.
 const NEXT_PUT: u64 = 1;
+
+/// After so many lines the workers hear of them, though more lines are there.
+const RING_LINES: u32 = 16;
 
 /// What a client's line leaves to be done.
 #[derive(Clone, Copy, Debug, PartialEq, Eq)]
@@ -163,7 +166,7 @@ impl<L: Ledger> Client<'_, '_, L> {
             }
             Request::Again { owner, place } => {
                 let sent = self.look(rt, owner, place)?.again;
-                self.send_again(rt, owner, place, &sent);
+                self.send_again(rt, owner, place, &sent)?;
                 self.say(rt, &ClientAnswer::Again(sent_count(&sent)))
             }
             Request::Stop => {
@@ -197,6 +200,9 @@ impl<L: Ledger> Client<'_, '_, L> {
             if self.queue.put(rt, *job).is_ok() {
                 self.put = self.put.saturating_add(1);
                 self.in_flight = self.in_flight.saturating_add(1);
+                if self.in_flight % RING_LINES == 0 {
+                    self.queue.ring(rt);
+                }
                 return Ok(Then::GoOn);
             }
             self.queue.ring(rt);
@@ -242,23 +248,31 @@ impl<L: Ledger> Client<'_, '_, L> {
     }
 
     /// Sends to all once more what was sent at a place.
-    fn send_again<R: Wait>(&mut self, rt: &R, owner: NodeName, place: Place, sent: &NodeAgain) {
-        let mut frames = Vec::new(self.alloc);
+    fn send_again<R: Wait>(
+        &mut self,
+        rt: &R,
+        owner: NodeName,
+        place: Place,
+        sent: &NodeAgain,
+    ) -> Result<(), AllocError> {
+        let mut messages = Vec::new(self.alloc);
         for (kind, command) in [
             (Kind::Send, sent.send),
             (Kind::Echo, sent.echo),
             (Kind::Ready, sent.ready),
         ] {
             if let Some(command) = command {
-                let message = Message {
+                messages.push(Message {
                     kind,
                     owner,
                     place,
                     command,
-                };
-                self.shared.send_to_all(rt, &mut self.queue, &[message], &mut frames);
+                })?;
             }
         }
+        let mut room = Room::new(self.alloc, messages.len())?;
+        self.shared.send_to_all(rt, &mut self.queue, &messages, &mut room);
+        Ok(())
     }
 
     /// The place is free again, once no job is in flight.

@@ -1,10 +1,13 @@
-//! Frames that wait for a peer.
+//! Frames that wait for a peer, and the connection by which they go.
 
 use crate::serve::waiting::{Awaited, Waiting};
 use quorum_sizes::NodeName;
 use std::alloc::{AllocError, Global};
 use std::collections::VecDeque;
-use std::sync::Wait;
+use std::io;
+use std::io::Write;
+use std::net::TcpStream;
+use std::sync::{Arc, Wait};
 use std::time::{Clock, Duration};
 
 /// The bytes of a frame.
@@ -16,20 +19,79 @@ pub type Frame = [u8; FRAME_LEN];
 const MOST_FRAMES: usize = 1_024;
 
 /// The most frames that are written at once.
-pub const BATCH_FRAMES: usize = 128;
+const BATCH_FRAMES: usize = 128;
 
+/// How often a thread that put frames writes a batch, before it leaves the rest to the outbox's own thread.
+const MOST_BATCHES: u32 = 4;
+
+/// The frames, oldest first. A frame stays until it is written.
 #[derive(Drop)]
 struct Frames {
     frames: VecDeque<Frame>,
+    /// The connection, which never waits. Absent while there is none.
+    stream: Option<Arc<TcpStream>>,
+    /// A thread writes the oldest frames, as one at a time does.
+    writing: bool,
+    /// Who wrote has left it to the outbox's own thread.
+    left: bool,
+    /// How many bytes of the oldest frames are written.
+    written: usize,
 }
 
+/// The outbox's own thread waits for frames while there is no connection, and else until writing is left to it.
 impl Awaited for Frames {
     fn is_due(&self) -> bool {
-        !self.frames.is_empty()
+        self.left || (self.stream.is_none() && !self.frames.is_empty())
     }
 }
 
-/// The frames to one peer, oldest first. A frame stays until it is written.
+impl Frames {
+    /// Puts frames at the end, as far as there is room.
+    fn push(&mut self, frames: &[Frame]) {
+        for frame in frames {
+            if self.frames.len() < MOST_FRAMES {
+                let _ = self.frames.push_back(*frame);
+            }
+        }
+    }
+
+    /// The connection, where nobody writes and there are frames. The caller writes then.
+    fn begin(&mut self) -> Option<Arc<TcpStream>> {
+        if self.writing || self.frames.is_empty() {
+            return None;
+        }
+        let stream = match &self.stream {
+            Some(stream) => Arc::try_clone(stream).ok()?,
+            None => return None,
+        };
+        self.writing = true;
+        Some(stream)
+    }
+
+    /// So many bytes more are written.
+    fn forget(&mut self, bytes: usize) {
+        let written = self.written.saturating_add(bytes);
+        for _ in 0..written / FRAME_LEN {
+            let _ = self.frames.pop_front();
+        }
+        self.written = written % FRAME_LEN;
+    }
+}
+
+/// How far a batch was written.
+#[derive(Clone, Copy, Debug, PartialEq, Eq)]
+pub enum Progress {
+    /// No frame is left.
+    Finished,
+    /// Some bytes were written.
+    Some,
+    /// The connection takes none now.
+    Full,
+    /// It has ended or failed.
+    Broken,
+}
+
+/// The frames to one peer.
 #[derive(Drop)]
 pub struct Outbox {
     /// The peer.
@@ -42,36 +104,117 @@ pub struct Outbox {
 impl Outbox {
     /// An empty outbox.
     pub fn new(alloc: Global, to: NodeName, port: u16) -> Outbox {
-        let frames = VecDeque::new(alloc);
         Outbox {
             to,
             port,
-            waiting: Waiting::new(Frames { frames }),
+            waiting: Waiting::new(Frames {
+                frames: VecDeque::new(alloc),
+                stream: None,
+                writing: false,
+                left: false,
+                written: 0,
+            }),
         }
     }
 
-    /// Puts frames at the end. What does not fit into 1,024 frames is lost, and so is all for want of memory.
-    pub fn push<R: Wait>(&self, rt: &R, frames: &[Frame]) {
-        let was_empty = {
-            let mut state = self.waiting.lock(rt);
-            let waiting = &mut *state;
-            let was_empty = waiting.value.frames.is_empty();
-            for frame in frames {
-                if waiting.value.frames.len() < MOST_FRAMES {
-                    let _ = waiting.value.frames.push_back(*frame);
+    /// Puts frames at the end, and writes them where there is a connection. What does not fit into 1,024 frames is lost.
+    /// `batch` is room for bytes.
+    pub fn send<R: Wait>(&self, rt: &R, frames: &[Frame], batch: &mut Vec<u8>) {
+        if let Some(stream) = self.push(rt, frames) {
+            for _ in 0..MOST_BATCHES {
+                match self.write(rt, &stream, batch) {
+                    Progress::Finished => return,
+                    Progress::Some => {}
+                    Progress::Full | Progress::Broken => break,
                 }
             }
-            was_empty
-        };
-        if was_empty {
+            self.waiting.lock(rt).value.left = true;
             self.waiting.wake();
         }
     }
 
-    /// Waits until a frame is there; false at the end.
+    /// Puts frames at the end. The connection, where this thread has to write.
+    fn push<R: Wait>(&self, rt: &R, frames: &[Frame]) -> Option<Arc<TcpStream>> {
+        let mut state = self.waiting.lock(rt);
+        let was_due = state.value.is_due();
+        state.value.push(frames);
+        let stream = state.value.begin();
+        let is_due = state.value.is_due();
+        drop(state);
+        if is_due && !was_due {
+            self.waiting.wake();
+        }
+        stream
+    }
+
+    /// Writes the oldest frames, 128 at most. The thread that writes calls it.
+    pub fn write<R: Wait>(&self, rt: &R, stream: &TcpStream, batch: &mut Vec<u8>) -> Progress {
+        let Ok(written) = self.copy_front(rt, batch) else {
+            return Progress::Full;
+        };
+        if batch.is_empty() {
+            return self.forget(rt, 0);
+        }
+        if has_ended(stream) {
+            return Progress::Broken;
+        }
+        let mut writer = stream;
+        match writer.write(batch.get(written..).unwrap_or(&[])) {
+            Ok(0) => Progress::Broken,
+            Ok(count) => self.forget(rt, count),
+            Err(error) if is_later(&error) => Progress::Full,
+            Err(_) => Progress::Broken,
+        }
+    }
+
+    /// The bytes of the oldest frames, in place of those that are there. How many of them are written already.
+    fn copy_front<R: Wait>(&self, rt: &R, batch: &mut Vec<u8>) -> Result<usize, AllocError> {
+        batch.clear();
+        let state = self.waiting.lock(rt);
+        for frame in state.value.frames.iter().take(BATCH_FRAMES) {
+            batch.extend_from_slice(frame)?;
+        }
+        Ok(state.value.written)
+    }
+
+    /// So many bytes more are written. Where no frame is left this thread writes no more.
+    fn forget<R: Wait>(&self, rt: &R, bytes: usize) -> Progress {
+        let mut state = self.waiting.lock(rt);
+        state.value.forget(bytes);
+        if state.value.frames.is_empty() {
+            state.value.writing = false;
+            Progress::Finished
+        } else {
+            Progress::Some
+        }
+    }
+
+    /// Waits until the outbox's own thread has something to do; false at the end.
     pub fn wait<R: Wait>(&self, rt: &R) -> bool {
         let state = self.waiting.lock(rt);
-        self.waiting.wait(rt, state).is_some()
+        match self.waiting.wait(rt, state) {
+            Some(mut state) => {
+                state.value.left = false;
+                true
+            }
+            None => false,
+        }
+    }
+
+    /// There is a connection now, where the outbox's own thread writes first.
+    pub fn open<R: Wait>(&self, rt: &R, stream: Arc<TcpStream>) {
+        let mut state = self.waiting.lock(rt);
+        state.value.stream = Some(stream);
+        state.value.writing = true;
+    }
+
+    /// There is no connection any more. A frame of which a part was written is written again.
+    pub fn close<R: Wait>(&self, rt: &R) {
+        let mut state = self.waiting.lock(rt);
+        state.value.stream = None;
+        state.value.writing = false;
+        state.value.left = false;
+        state.value.written = 0;
     }
 
     /// Waits for so long; false at the end.
@@ -79,30 +222,33 @@ impl Outbox {
         self.waiting.pause(rt, time)
     }
 
-    /// Writes the bytes of the oldest frames, 128 at most, behind `batch`. How many frames they are.
-    ///
-    /// # Errors
-    ///
-    /// Only for want of memory.
-    pub fn copy_front<R: Wait>(&self, rt: &R, batch: &mut Vec<u8>) -> Result<usize, AllocError> {
-        let state = self.waiting.lock(rt);
-        let count = state.value.frames.len().min(BATCH_FRAMES);
-        for frame in state.value.frames.iter().take(count) {
-            batch.extend_from_slice(frame)?;
-        }
-        Ok(count)
-    }
-
-    /// The oldest frames, so many, were written.
-    pub fn forget<R: Wait>(&self, rt: &R, count: usize) {
-        let mut state = self.waiting.lock(rt);
-        for _ in 0..count {
-            let _ = state.value.frames.pop_front();
-        }
-    }
-
-    /// Wakes the thread that writes, for the last time. Frames that wait are lost.
+    /// Wakes the outbox's own thread, for the last time. Frames that wait are lost.
     pub fn end<R: Wait>(&self, rt: &R) {
         self.waiting.end(rt);
     }
+}
+
+/// Room for the bytes that are written at once.
+///
+/// # Errors
+///
+/// Only for want of memory.
+pub fn batch_room(alloc: Global) -> Result<Vec<u8>, AllocError> {
+    Vec::with_capacity(alloc, BATCH_FRAMES * FRAME_LEN)
+}
+
+/// Whether the peer has closed the connection. It sends nothing here.
+pub fn has_ended(stream: &TcpStream) -> bool {
+    match stream.peek(&mut [0u8; 1]) {
+        Ok(count) => count == 0,
+        Err(error) => !is_later(&error),
+    }
+}
+
+/// Whether the call may be made again.
+fn is_later(error: &io::Error) -> bool {
+    matches!(
+        error.kind(),
+        io::ErrorKind::WouldBlock | io::ErrorKind::Interrupted
+    )
 }

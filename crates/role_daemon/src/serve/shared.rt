@@ -4,12 +4,13 @@ use crate::serve::caller::Caller;
 use crate::serve::connection::Connection;
 use crate::serve::job_queue::{JobQueue, Ready};
 use crate::serve::links::Links;
-use crate::serve::outbox::{Frame, Outbox};
+use crate::serve::outbox::{Frame, Outbox, batch_room};
 use crate::serve::waiting::{Awaited, Waiting};
 use link_frames::{Message, Packet, Place};
 use node_lock::{Call, Job, Seat, SharedNode, View};
 use quorum_sizes::NodeName;
 use role_node::Event;
+use std::alloc::{AllocError, Global};
 use std::mem;
 use std::net::{Ipv4Addr, SocketAddr, SocketAddrV4};
 use std::sync::ledger::Ledger;
@@ -44,6 +45,27 @@ pub struct Shared<'a, L: Ledger> {
     pub life: Waiting<Life>,
 }
 
+/// Room for the frames to one node, and for their bytes.
+#[derive(Drop)]
+pub struct Room {
+    frames: Vec<Frame>,
+    bytes: Vec<u8>,
+}
+
+impl Room {
+    /// Room for the frames of so many messages.
+    ///
+    /// # Errors
+    ///
+    /// Only for want of memory.
+    pub fn new(alloc: Global, messages: usize) -> Result<Room, AllocError> {
+        Ok(Room {
+            frames: Vec::with_capacity(alloc, messages)?,
+            bytes: batch_room(alloc)?,
+        })
+    }
+}
+
 /// The address of a port on this machine.
 pub fn local(port: u16) -> SocketAddr {
     SocketAddr::V4(SocketAddrV4::new(Ipv4Addr::LOCALHOST, port))
@@ -71,20 +93,20 @@ impl<L: Ledger> Shared<'_, L> {
         self.end(rt);
     }
 
-    /// Sends messages to all nodes. What does not fit is lost. `frames` is room for the frames of one node.
+    /// Sends messages to all nodes. What does not fit is lost.
     pub fn send_to_all<R: Wait>(
         &self,
         rt: &R,
         queue: &mut JobQueue<'_>,
         messages: &[Message],
-        frames: &mut Vec<Frame>,
+        room: &mut Room,
     ) {
         if messages.is_empty() {
             return;
         }
         for outbox in &self.outboxes {
-            self.seal_all(outbox.to, messages, frames);
-            outbox.push(rt, frames);
+            self.seal_all(outbox.to, messages, &mut room.frames);
+            outbox.send(rt, &room.frames, &mut room.bytes);
         }
         for message in messages {
             self.send_to_itself(rt, queue, message);

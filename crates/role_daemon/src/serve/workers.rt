@@ -9,8 +9,7 @@ use crate::held::Held;
 use crate::serve::caller::Caller;
 use crate::serve::connection::{Answers, Connection};
 use crate::serve::job_queue::{JobQueue, MOST_BATCH};
-use crate::serve::outbox::Frame;
-use crate::serve::shared::Shared;
+use crate::serve::shared::{Room, Shared};
 use client_lines::ClientAnswer;
 use link_frames::Message;
 use node_lock::{Call, Locked, Outcome, Seat, View};
@@ -48,7 +47,7 @@ pub struct Worker<'a, L: Ledger> {
     seat: Seat<L>,
     done: Vec<Done>,
     messages: Vec<Message>,
-    frames: Vec<Frame>,
+    room: Room,
     shares: Vec<Share>,
 }
 
@@ -69,7 +68,7 @@ impl<'a, L: Ledger> Worker<'a, L> {
             seat,
             done: Vec::with_capacity(alloc, MOST_BATCH)?,
             messages: Vec::with_capacity(alloc, MOST_BATCH)?,
-            frames: Vec::with_capacity(alloc, MOST_BATCH)?,
+            room: Room::new(alloc, MOST_BATCH)?,
             shares: Vec::with_capacity(alloc, MOST_BATCH)?,
         })
     }
@@ -115,7 +114,7 @@ impl<'a, L: Ledger> Worker<'a, L> {
                 }
             }
         }
-        shared.send_to_all(rt, &mut self.queue, &self.messages, &mut self.frames);
+        shared.send_to_all(rt, &mut self.queue, &self.messages, &mut self.room);
     }
 
     /// Tells each connection what was done for it, and its answers.
