@@ -11,6 +11,7 @@ ghost use Rattle.role_daemon.specs.Setups.{IsNodeSetup, IsServerSetup};
 mod answers;
 pub mod cluster;
 pub mod fault;
+mod held;
 pub mod pipe;
 pub mod serve;
 mod shape;
@@ -122,5 +123,7 @@ fn text_of(rt: &HostRuntime, file: &str) -> io::Result<Vec<u8>> {
 
 #[cfg(test)]
 mod serve_tests;
+#[cfg(test)]
+mod serve_trials;
 #[cfg(test)]
 mod tests;

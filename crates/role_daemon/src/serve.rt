@@ -1,6 +1,6 @@
 //! The node over TCP: frames of its peers, and lines of its clients.
 //!
-//! Connections are served by threads of their own, which put jobs into one inbox; four workers make their calls under
+//! Each connection is served by a thread of its own, which puts jobs into one inbox; four workers make their calls under
 //! the node's lock. A thread that waits sleeps.
 
 ghost use Rattle.std.specs.Prelude.{◌≡◌, length, IfOk};
@@ -8,47 +8,54 @@ ghost use Rattle.role_daemon.specs.Linked.{ring_of};
 ghost use Rattle.role_daemon.specs.Setups.{IsNodeSetup, IsServerSetup};
 
 mod accept;
-mod bell;
+mod caller;
 mod clients;
+mod connection;
 mod frames;
-mod hub;
+mod job_queue;
 mod links;
-mod mailbox;
 mod outbox;
-mod peers;
-mod porter;
-mod slot;
+mod senders;
+mod shared;
 mod task;
+mod waiting;
 mod workers;
 
 use crate::cluster::Setup;
 use crate::fault::ServeFault;
-use bell::Bell;
-use hub::{Hub, MOST_CLIENTS, MOST_PEERS, Rooms, local};
+use accept::Side;
+use caller::{MOST_CLIENTS, MOST_PEERS};
+use connection::connections;
+use job_queue::{JobQueue, Ready, job_queues};
 use links::Links;
 use node_lock::{Inbox, Seat, SharedNode};
-use porter::{Porter, porters};
+use outbox::Outbox;
 use role_node::Node;
+use shared::{Life, Shared, local};
 use std::alloc::{AllocError, Global};
 use std::marker::Brand;
 use std::net::{Net, TcpListener, TcpStream};
-use std::sync::atomic::{AtomicBool, Ordering};
 use std::sync::ledger::{Blank, Ledger};
 use std::sync::{Mutex, Wait};
 use std::thread::Threads;
 use std::time::Clock;
 use std::{io, thread};
 use task::Task;
+use waiting::Waiting;
+use workers::Worker;
+
+/// How many workers there are.
+const WORKERS: u8 = 4;
 
 /// The workers have a seat each, and those who only look share one more.
-const SEATS: u8 = 5;
+const SEATS: u8 = WORKERS + 1;
 
-/// One pass for each connection, and one for each worker.
-const PASSES: u8 = 84;
+/// One pass for each worker, and one for each connection.
+const PASSES: u8 = WORKERS + MOST_CLIENTS as u8 + MOST_PEERS as u8;
 
 /// The two listeners.
 #[derive(Drop)]
-struct Doors {
+struct Listeners {
     peers: TcpListener,
     clients: TcpListener,
 }
@@ -82,26 +89,31 @@ where
     requires me { IsNodeSetup setup }
     requires peers { IsServerSetup setup }
 {
-    let ports = ports_of(&setup);
-    let doors = Doors::new(rt, ports)?;
-    let (hub, seats) = hub_of::<L>(alloc, blank, setup, ports)?;
-    serve_hub(rt, alloc, &hub, &doors, seats)
+    let listeners = Listeners::new(rt, &setup)?;
+    let ready = Waiting::new(Ready::new(usize::from(WORKERS)));
+    let (inbox, passes) = Inbox::new(alloc, PASSES)?;
+    let mut queues = job_queues(alloc, &inbox, &ready, passes)?;
+    let (shared, seats) = shared_of::<L>(alloc, blank, setup, &ready, &mut queues)?;
+    let tasks = tasks(alloc, &shared, &listeners, seats, queues)?;
+    run(rt, alloc, &shared, tasks)?;
+    if shared.life.lock(rt).value.failed {
+        return Err(ServeFault::Device);
+    }
+    Ok(())
 }
 
-/// The ports for the other nodes and for clients.
-fn ports_of(setup: &Setup) -> [u16; 2] {
-    let own = setup.nodes.as_slice().get(usize::from(setup.me.index()));
-    [own.copied().unwrap_or(0), setup.client]
-}
-
-impl Doors {
-    fn new<R>(rt: &R, ports: [u16; 2]) -> Result<Doors, ServeFault>
+impl Listeners {
+    /// The listeners of a setup's node.
+    fn new<R>(rt: &R, setup: &Setup) -> Result<Listeners, ServeFault>
     where
         R: Net<Listener = TcpListener, Stream = TcpStream>,
+        requires me { IsNodeSetup setup.now }
+        requires peers { IsServerSetup setup.now }
     {
-        let peers = listener(rt, ports[0])?;
-        let clients = listener(rt, ports[1])?;
-        Ok(Doors { peers, clients })
+        let own = setup.nodes.as_slice()[usize::from(setup.me.index())];
+        let peers = listener(rt, own)?;
+        let clients = listener(rt, setup.client)?;
+        Ok(Listeners { peers, clients })
     }
 }
 
@@ -109,7 +121,7 @@ fn listener<R: Net<Listener = TcpListener, Stream = TcpStream>>(
     rt: &R,
     port: u16,
 ) -> Result<TcpListener, ServeFault> {
-    match TcpListener::bind(rt, local(port)) {
+    match bound(rt, port) {
         Ok(listener) => Ok(listener),
         Err(error) => {
             if error.kind() == io::ErrorKind::OutOfMemory {
@@ -121,13 +133,24 @@ fn listener<R: Net<Listener = TcpListener, Stream = TcpStream>>(
     }
 }
 
-/// The hub of a setup's node, and the seats of its workers.
-fn hub_of<L: Ledger>(
+/// A listener that never waits.
+fn bound<R: Net<Listener = TcpListener, Stream = TcpStream>>(
+    rt: &R,
+    port: u16,
+) -> io::Result<TcpListener> {
+    let listener = TcpListener::bind(rt, local(port))?;
+    listener.set_nonblocking(true)?;
+    Ok(listener)
+}
+
+/// What the threads of a setup's node share, and the seats of its workers.
+fn shared_of<'a, L: Ledger>(
     alloc: Global,
     blank: Blank,
     setup: Setup,
-    ports: [u16; 2],
-) -> Result<(Hub<L>, Vec<Seat<L>>), AllocError>
+    ready: &'a Waiting<Ready>,
+    queues: &mut Vec<JobQueue<'a>>,
+) -> Result<(Shared<'a, L>, Vec<Seat<L>>), AllocError>
     requires name { blank.name ≡ L.name }
     requires parts { (blank.parts ≡ L.parts) × (5 ≡ L.parts) }
     requires me { IsNodeSetup setup }
@@ -136,124 +159,86 @@ fn hub_of<L: Ledger>(
     ensures cluster { IfOk result (λ made. made.0.links.cluster ≡ setup.config.cluster) }
 {
     let links = Links::new(alloc, &setup)?;
-    let rooms = Rooms::new(alloc, setup.nodes.as_slice().len())?;
-    let Setup {
-        config,
-        me,
-        keys: _,
-        nodes,
-        client: _,
-    } = setup;
-    let node = Node::new(alloc, config, me)?;
+    let outboxes = outboxes(alloc, &links, setup.nodes.as_slice())?;
+    let speakers = Vec::from_elem(alloc, None, setup.nodes.as_slice().len())?;
+    let node = Node::new(alloc, setup.config, setup.me)?;
     let (node, mut seats) = SharedNode::<L>::new(alloc, blank, node, SEATS)?;
-    let Some(looker) = seats.pop() else {
+    let Some(view_seat) = seats.pop() else {
         unreachable!()
     };
-    let hub = Hub {
+    let shared = Shared {
         node,
-        looker: Mutex::new(looker),
+        view_seat: Mutex::new(view_seat),
         links,
-        bell: Bell::new(),
-        rooms,
-        nodes,
-        ports,
-        ended: AtomicBool::new(false),
-        failed: AtomicBool::new(false),
+        ready,
+        outboxes,
+        clients: connections(alloc, queues, MOST_CLIENTS)?,
+        peers: connections(alloc, queues, MOST_PEERS)?,
+        speakers: Mutex::new(speakers),
+        life: Waiting::new(Life { failed: false }),
     };
-    Ok((hub, seats))
+    Ok((shared, seats))
 }
 
-/// Serves a hub's node, until it ends.
-fn serve_hub<L: Ledger + Send + Sync, R>(
-    rt: &R,
-    alloc: Global,
-    hub: &Hub<L>,
-    doors: &Doors,
-    seats: Vec<Seat<L>>,
-) -> Result<(), ServeFault>
-where
-    R: Net<Listener = TcpListener, Stream = TcpStream> + Threads + Wait + Clock + Sync,
-{
-    let (inbox, passes) = Inbox::new(alloc, PASSES)?;
-    let porters = porters(alloc, &inbox, &hub.bell, passes)?;
-    let tasks = tasks(alloc, hub, doors, seats, porters)?;
-    run(rt, alloc, hub, tasks)?;
-    if hub.failed.load(Ordering::SeqCst) {
-        return Err(ServeFault::Device);
+/// An empty outbox for each other node.
+fn outboxes(alloc: Global, links: &Links, ports: &[u16]) -> Result<Vec<Outbox>, AllocError> {
+    let mut made = Vec::new(alloc);
+    for (index, port) in ports.iter().enumerate() {
+        if let Some(name) = links.name(index) {
+            if name != links.me() {
+                made.push(Outbox::new(alloc, name, *port))?;
+            }
+        }
     }
-    Ok(())
+    Ok(made)
 }
 
-/// What each thread does: four workers, a thread for each slot, one for each node, and one for each listener.
-fn tasks<'a, L: Ledger>(
+/// What the threads do that are there from the start: the workers, one for each other node, and one for each listener.
+fn tasks<'a, 'b, L: Ledger>(
     alloc: Global,
-    hub: &'a Hub<L>,
-    doors: &'a Doors,
+    shared: &'b Shared<'a, L>,
+    listeners: &'b Listeners,
     seats: Vec<Seat<L>>,
-    mut porters: Vec<Porter<'a>>,
-) -> Result<Vec<Task<'a, L>>, AllocError> {
+    queues: Vec<JobQueue<'a>>,
+) -> Result<Vec<Task<'a, 'b, L>>, AllocError> {
     let mut tasks = Vec::new(alloc);
-    for seat in seats {
-        if let Some(porter) = porters.pop() {
-            tasks.push(Task::Work { porter, seat })?;
-        }
+    for (seat, queue) in seats.into_iter().zip(queues) {
+        tasks.push(Task::Work(Worker::new(alloc, queue, seat)?))?;
     }
-    for (index, slot) in (0..MOST_CLIENTS).zip(&hub.rooms.clients) {
-        if let Some(porter) = porters.pop() {
-            tasks.push(Task::AnswerClients {
-                index,
-                slot,
-                porter,
-            })?;
-        }
+    for outbox in &shared.outboxes {
+        tasks.push(Task::SendFrames(outbox))?;
     }
-    for (number, slot) in (MOST_CLIENTS..MOST_CLIENTS + MOST_PEERS).zip(&hub.rooms.peers) {
-        if let Some(porter) = porters.pop() {
-            tasks.push(Task::TakeFrames {
-                number,
-                slot,
-                porter,
-            })?;
-        }
-    }
-    for (outbox, port) in hub
-        .rooms
-        .outboxes
-        .iter()
-        .zip(hub.nodes.as_slice().iter().copied())
-    {
-        tasks.push(Task::SendFrames { outbox, port })?;
-    }
-    tasks.push(Task::Accept {
-        listener: &doors.peers,
-        slots: hub.rooms.peers.as_slice(),
-    })?;
-    tasks.push(Task::Accept {
-        listener: &doors.clients,
-        slots: hub.rooms.clients.as_slice(),
-    })?;
+    let peers = Task::Accept {
+        listener: &listeners.peers,
+        side: Side::Peers,
+    };
+    let clients = Task::Accept {
+        listener: &listeners.clients,
+        side: Side::Clients,
+    };
+    tasks.push(peers)?;
+    tasks.push(clients)?;
     Ok(tasks)
 }
 
 /// Does each task in a thread of its own, until the node ends.
-fn run<L: Ledger + Send + Sync, R>(
+fn run<'a, L: Ledger + Send + Sync, R>(
     rt: &R,
     alloc: Global,
-    hub: &Hub<L>,
-    tasks: Vec<Task<'_, L>>,
+    shared: &Shared<'a, L>,
+    tasks: Vec<Task<'a, '_, L>>,
 ) -> Result<(), AllocError>
 where
     R: Net<Listener = TcpListener, Stream = TcpStream> + Threads + Wait + Clock + Sync,
 {
     let started = thread::scope(thread::scope_env(), rt, move |scope| -> bool {
-        let mut all = true;
         for task in tasks {
-            all &= scope.spawn(move || task.run(rt, alloc, hub)).is_ok();
+            if scope.spawn(move || task.run(rt, alloc, shared)).is_err() {
+                shared.end(rt);
+                return false;
+            }
         }
-        if !all {
-            hub.end(rt);
-        }
-        all
+        true
     });
     if started { Ok(()) } else { Err(AllocError) }
 }

@@ -1,26 +1,35 @@
 //! Connections of clients: lines in, answers out.
 
+ghost use Rattle.client_lines.specs.AnswerTexts.{IsWritten};
+
 use crate::answers::sent_count;
 use crate::fault::PipeFault;
-use crate::pipe::{hold, write_when_due};
-use crate::serve::hub::Hub;
-use crate::serve::porter::Porter;
-use crate::serve::slot::Slot;
+use crate::held::Held;
+use crate::serve::caller::{Caller, MOST_LINES};
+use crate::serve::connection::{Answers, Connection};
+use crate::serve::job_queue::JobQueue;
+use crate::serve::shared::{Room, Shared};
 use client_lines::{ClientAnswer, LineFault, MOST_LINE_BYTES, Request, read_request};
-use link_frames::{Ahead, Kind, Message, Next, Place, Watched, write_whole};
-use node_lock::{Call, Job};
+use link_frames::{Ahead, Kind, Message, Next, Place, Watched};
+use node_lock::{Call, Job, View};
 use quorum_sizes::NodeName;
-use role_commands::Command;
-use role_node::Event;
+use role_node::{Event, NodeAgain};
 use std::alloc::{AllocError, Global};
-use std::net::{Net, TcpStream};
+use std::mem;
+use std::net::TcpStream;
 use std::sync::Wait;
 use std::sync::ledger::Ledger;
 use std::thread;
 use std::time::{Clock, Duration};
 
+/// The milliseconds after which a client that sends nothing is closed.
+pub const IDLE: u64 = 600_000;
+
 /// The milliseconds before a job is put again that the inbox did not take.
 const NEXT_PUT: u64 = 1;
+
+/// After so many lines the workers hear of them, though more lines are there.
+const RING_LINES: u32 = 16;
 
 /// What a client's line leaves to be done.
 #[derive(Clone, Copy, Debug, PartialEq, Eq)]
@@ -32,93 +41,101 @@ enum Then {
 
 /// A client's connection, and what its thread needs.
 #[derive(Drop)]
-struct Client<'a, L: Ledger> {
+struct Client<'a, 'b, L: Ledger> {
     alloc: Global,
-    hub: &'a Hub<L>,
-    /// The index of its slot.
-    index: u32,
-    porter: Porter<'a>,
+    shared: &'b Shared<'a, L>,
+    connection: &'b Connection<'a>,
+    queue: JobQueue<'a>,
+    slot: u32,
+    /// How many jobs were put.
+    put: u64,
+    /// How many of them the answers of which are still to come.
+    in_flight: u32,
+    answers: Vec<Answers>,
+    held: Held,
 }
 
-/// Serves the connections that the slot of this index is given, one after another, until the end.
-pub fn answer_clients<L: Ledger, R: Net + Wait + Clock>(
+/// Serves a connection of a client, up to its end.
+pub fn answer_client<L: Ledger, R: Wait + Clock>(
     rt: &R,
     alloc: Global,
-    hub: &Hub<L>,
-    index: u32,
-    slot: &Slot,
-    porter: Porter<'_>,
+    shared: &Shared<'_, L>,
+    slot: u32,
+    stream: &TcpStream,
 ) {
+    let Some(connection) = shared.clients.get(slot as usize) else {
+        return;
+    };
+    let Some(queue) = connection.begin(rt) else {
+        return;
+    };
     let mut client = Client {
         alloc,
-        hub,
-        index,
-        porter,
+        shared,
+        connection,
+        queue,
+        slot,
+        put: 0,
+        in_flight: 0,
+        answers: Vec::new(alloc),
+        held: Held::new(alloc),
     };
-    for _ in rt.forever() {
-        let Some(stream) = slot.next(rt) else {
-            return;
-        };
-        if matches!(client.answer_lines(rt, &stream), Ok(true)) {
-            hub.end(rt);
-        }
-        slot.free(rt);
+    if client.answer_lines(rt, stream) {
+        shared.end(rt);
     }
+    client.close(rt);
 }
 
-impl<L: Ledger> Client<'_, L> {
+impl<L: Ledger> Client<'_, '_, L> {
     /// Answers the lines of a connection, up to its end. Whether one of them stops the node.
-    fn answer_lines<R: Wait + Clock>(
-        &mut self,
-        rt: &R,
-        stream: &TcpStream,
-    ) -> Result<bool, PipeFault> {
+    fn answer_lines<R: Wait + Clock>(&mut self, rt: &R, stream: &TcpStream) -> bool {
         let mut reader = Watched::new(stream);
         let mut writer = Watched::new(stream);
         let mut ahead = Ahead::new(self.alloc);
-        let mut held = Vec::new(self.alloc);
         for _ in rt.forever() {
-            write_when_due(&ahead, &mut held, &mut writer)?;
-            match self.answer_next(rt, &mut ahead, &mut held, &mut reader)? {
-                Then::GoOn => {}
-                Then::Stop => {
-                    write_whole(&mut writer, &held)?;
-                    return Ok(true);
-                }
-                Then::Close => {
-                    write_whole(&mut writer, &held)?;
-                    return Ok(false);
-                }
+            let next = self.answer_next(rt, &mut ahead, &mut reader, &mut writer);
+            if matches!(next, Ok(Then::GoOn)) {
+                continue;
             }
+            if !matches!(next, Err(PipeFault::Device)) {
+                let _ = self.settle(rt);
+                let _ = self.held.write_all(&mut writer);
+            }
+            return matches!(next, Ok(Then::Stop));
         }
         unreachable!()
     }
 
-    /// Answers what comes next, and holds the answer.
+    /// Answers what comes next. All that is due is written before the program waits for it.
     fn answer_next<R: Wait + Clock>(
         &mut self,
         rt: &R,
         ahead: &mut Ahead,
-        held: &mut Vec<u8>,
         reader: &mut Watched<&TcpStream>,
+        writer: &mut Watched<&TcpStream>,
     ) -> Result<Then, PipeFault> {
-        match ahead.peek(reader, MOST_LINE_BYTES)? {
+        let next = match ahead.begins(MOST_LINE_BYTES) {
+            Some(Next::Line(count)) if self.in_flight < MOST_LINES => Next::Line(count),
+            _ => {
+                self.settle(rt)?;
+                self.held.write_when_due(ahead, writer)?;
+                ahead.peek(reader, MOST_LINE_BYTES)?
+            }
+        };
+        match next {
             Next::End => Ok(Then::Close),
             Next::Line(count) => {
-                let then = self.answer_line(rt, held, &ahead.front()[..count])?;
+                let then = self.answer_line(rt, &ahead.front()[..count])?;
                 ahead.take(count + 1);
                 Ok(then)
             }
-            Next::Last(_) => {
-                let then = self.answer_line(rt, held, ahead.front())?;
-                match then {
-                    Then::GoOn => Ok(Then::Close),
-                    last => Ok(last),
-                }
-            }
+            Next::Last(_) => match self.answer_line(rt, ahead.front())? {
+                Then::GoOn => Ok(Then::Close),
+                last => Ok(last),
+            },
             Next::TooLong => {
                 let had_end = ahead.pass_line(reader)?;
-                hold(self.alloc, held, &ClientAnswer::BadLine(LineFault::NotJson))?;
+                self.say(rt, &ClientAnswer::BadLine(LineFault::NotJson))?;
                 if had_end {
                     Ok(Then::GoOn)
                 } else {
@@ -128,122 +145,139 @@ impl<L: Ledger> Client<'_, L> {
         }
     }
 
-    /// Answers a line, and holds the answer.
-    fn answer_line<R: Wait + Clock>(
-        &mut self,
-        rt: &R,
-        held: &mut Vec<u8>,
-        line: &[u8],
-    ) -> Result<Then, AllocError> {
-        let sizes = self.hub.links.sizes();
+    /// Answers a line, or puts a job for it.
+    fn answer_line<R: Wait + Clock>(&mut self, rt: &R, line: &[u8]) -> Result<Then, PipeFault> {
+        let sizes = self.shared.links.sizes();
         match read_request(self.alloc, &sizes, line) {
-            Ok(request) => self.answer(rt, held, request),
-            Err(LineFault::Memory) => Err(AllocError),
-            Err(fault) => {
-                hold(self.alloc, held, &ClientAnswer::BadLine(fault))?;
-                Ok(Then::GoOn)
-            }
+            Ok(request) => self.answer(rt, request),
+            Err(LineFault::Memory) => Err(PipeFault::Memory),
+            Err(fault) => self.say(rt, &ClientAnswer::BadLine(fault)),
         }
     }
 
-    /// Answers a request, and holds the answer.
-    fn answer<R: Wait + Clock>(
-        &mut self,
-        rt: &R,
-        held: &mut Vec<u8>,
-        request: Request,
-    ) -> Result<Then, AllocError> {
+    fn answer<R: Wait + Clock>(&mut self, rt: &R, request: Request) -> Result<Then, PipeFault> {
         match request {
-            Request::Issue(command) => self.call(rt, held, Call::Step(Event::Issue(command))),
-            Request::Client(act) => self.call(rt, held, Call::Step(Event::Client(act))),
-            Request::Ask(question) => self.call(rt, held, Call::Ask(question)),
-            Request::Reach(owner) => self.tell_reach(rt, held, owner),
-            Request::Again { owner, place } => self.send_again(rt, held, owner, place),
+            Request::Issue(command) => self.call(rt, Call::Step(Event::Issue(command))),
+            Request::Client(act) => self.call(rt, Call::Step(Event::Client(act))),
+            Request::Ask(question) => self.call(rt, Call::Ask(question)),
+            Request::Reach(owner) => {
+                let view = self.look(rt, owner, 0)?;
+                self.say(rt, &ClientAnswer::Reach(view.reach))
+            }
+            Request::Again { owner, place } => {
+                let sent = self.look(rt, owner, place)?.again;
+                self.send_again(rt, owner, place, &sent)?;
+                self.say(rt, &ClientAnswer::Again(sent_count(&sent)))
+            }
             Request::Stop => {
-                hold(self.alloc, held, &ClientAnswer::Stopped)?;
+                let _ = self.say(rt, &ClientAnswer::Stopped);
                 Ok(Then::Stop)
             }
         }
     }
 
-    /// Has a worker make the call, and holds the answer.
-    fn call<R: Wait + Clock>(
-        &mut self,
-        rt: &R,
-        held: &mut Vec<u8>,
-        call: Call,
-    ) -> Result<Then, AllocError> {
-        let number = self.index;
-        if !self.put(rt, &Job { number, call }) {
-            return Ok(Then::Close);
-        }
-        let Some(mailbox) = self.hub.rooms.mailboxes.get(number as usize) else {
-            return Ok(Then::Close);
-        };
-        let Some(text) = mailbox.wait(rt) else {
-            return Ok(Then::Close);
-        };
-        held.extend_from_slice(text.as_bytes())?;
-        held.push(b'\n')?;
+    /// Holds an answer, behind those of the lines before.
+    fn say<R: Wait>(&mut self, rt: &R, answer: &ClientAnswer) -> Result<Then, PipeFault>
+        requires { IsWritten answer.now }
+    {
+        self.settle(rt)?;
+        self.held.push_line(answer)?;
         Ok(Then::GoOn)
     }
 
-    /// Puts a job into the inbox, again until it is taken. False at the node's end.
-    fn put<R: Wait + Clock>(&mut self, rt: &R, job: &Job) -> bool {
+    fn call<R: Wait + Clock>(&mut self, rt: &R, call: Call) -> Result<Then, PipeFault> {
+        let caller = Caller::Client {
+            slot: self.slot,
+            line: self.in_flight,
+        };
+        let number = caller.number();
+        self.put_job(rt, &Job { number, call })
+    }
+
+    /// Puts a job, again until the inbox takes it.
+    fn put_job<R: Wait + Clock>(&mut self, rt: &R, job: &Job) -> Result<Then, PipeFault> {
         for _ in rt.forever() {
-            let taken = self.porter.put(rt, *job).is_ok();
-            if taken {
-                return true;
+            if self.queue.put(rt, *job).is_ok() {
+                self.put = self.put.saturating_add(1);
+                self.in_flight = self.in_flight.saturating_add(1);
+                if self.in_flight % RING_LINES == 0 {
+                    self.queue.ring(rt);
+                }
+                return Ok(Then::GoOn);
             }
-            if self.hub.has_ended() {
-                return false;
+            self.queue.ring(rt);
+            if self.shared.life.has_ended(rt) {
+                return Err(PipeFault::Device);
             }
             thread::sleep(rt, Duration::from_millis(NEXT_PUT));
         }
         unreachable!()
     }
 
-    fn tell_reach<R: Wait>(
-        &mut self,
-        rt: &R,
-        held: &mut Vec<u8>,
-        owner: NodeName,
-    ) -> Result<Then, AllocError> {
-        let Some(view) = self.hub.look(rt, owner, 0) else {
-            return Ok(Then::Close);
-        };
-        hold(self.alloc, held, &ClientAnswer::Reach(view.reach))?;
-        Ok(Then::GoOn)
+    /// Waits for the answers to all lines that are in flight, and holds them.
+    ///
+    /// # Errors
+    ///
+    /// `Memory` where one of them has no answer. Those before it are held.
+    fn settle<R: Wait>(&mut self, rt: &R) -> Result<(), PipeFault> {
+        let due = mem::replace(&mut self.in_flight, 0);
+        if due == 0 {
+            return Ok(());
+        }
+        self.queue.ring(rt);
+        if self.connection.wait(rt, self.put, &mut self.answers).is_none() {
+            return Err(PipeFault::Device);
+        }
+        let mut next = 0u32;
+        for _ in 0..due {
+            let Some(at) = self.answers.iter().position(|a| a.first == next && a.count > 0) else {
+                break;
+            };
+            let answers = self.answers.swap_remove(at);
+            self.held.bytes.extend_from_slice(&answers.lines.bytes)?;
+            next = next.saturating_add(answers.count);
+        }
+        self.answers.clear();
+        if next == due { Ok(()) } else { Err(PipeFault::Memory) }
+    }
+
+    /// Looks at a place of the owner's stream, after the lines before were answered.
+    fn look<R: Wait>(&mut self, rt: &R, owner: NodeName, place: Place) -> Result<View, PipeFault> {
+        self.settle(rt)?;
+        self.shared.look(rt, owner, place).ok_or(PipeFault::Memory)
     }
 
     /// Sends to all once more what was sent at a place.
     fn send_again<R: Wait>(
         &mut self,
         rt: &R,
-        held: &mut Vec<u8>,
         owner: NodeName,
         place: Place,
-    ) -> Result<Then, AllocError> {
-        let Some(view) = self.hub.look(rt, owner, place) else {
-            return Ok(Then::Close);
-        };
-        let sent = view.again;
+        sent: &NodeAgain,
+    ) -> Result<(), AllocError> {
+        let mut messages = Vec::new(self.alloc);
         for (kind, command) in [
             (Kind::Send, sent.send),
             (Kind::Echo, sent.echo),
             (Kind::Ready, sent.ready),
         ] {
             if let Some(command) = command {
-                let message = Message {
+                messages.push(Message {
                     kind,
                     owner,
                     place,
                     command,
-                };
-                self.hub.send_to_all(rt, &mut self.porter, &message);
+                })?;
             }
         }
-        hold(self.alloc, held, &ClientAnswer::Again(sent_count(&sent)))?;
-        Ok(Then::GoOn)
+        let mut room = Room::new(self.alloc, messages.len())?;
+        self.shared.send_to_all(rt, &mut self.queue, &messages, &mut room);
+        Ok(())
+    }
+
+    /// The place is free again, once no job is in flight.
+    fn close<R: Wait>(mut self, rt: &R) {
+        self.queue.ring(rt);
+        self.connection.free(rt, self.queue, self.put);
     }
 }

@@ -1,58 +1,192 @@
 //! Connections of peers: frames in.
 
-use crate::serve::hub::Hub;
-use crate::serve::porter::Porter;
-use crate::serve::slot::Slot;
-use link_frames::{Watched, read_frame};
+ghost use Rattle.std.specs.Prelude.{◌≡◌, ◌≤◌, vec_len};
+
+use crate::serve::caller::Caller;
+use crate::serve::connection::{Answers, Connection};
+use crate::serve::job_queue::JobQueue;
+use crate::serve::outbox::{FRAME_LEN, Frame};
+use crate::serve::shared::Shared;
+use link_frames::{Packet, Watched, read_patiently};
 use node_lock::{Call, Job};
+use quorum_sizes::NodeName;
 use role_node::Event;
-use std::alloc::Global;
-use std::io;
-use std::io::BufReader;
+use std::alloc::{AllocError, Global};
 use std::net::TcpStream;
 use std::sync::Wait;
 use std::sync::ledger::Ledger;
+use std::time::{Clock, Duration, Instant};
 
-/// Serves the connections that a slot is given, one after another, until the end. Their jobs have this number.
-pub fn take_frames<L: Ledger, R: Wait>(
-    rt: &R,
-    alloc: Global,
-    hub: &Hub<L>,
-    number: u32,
-    slot: &Slot,
-    mut porter: Porter<'_>,
-) {
-    for _ in rt.forever() {
-        let Some(stream) = slot.next(rt) else {
-            return;
-        };
-        let _ = read_frames(rt, alloc, hub, number, &stream, &mut porter);
-        slot.free(rt);
+/// How many frames are read at once.
+const BLOCK_FRAMES: usize = 160;
+
+/// How many jobs of all connections of frames together are in flight at most; each peer has its part of them.
+const MOST_IN_FLIGHT: u64 = 384;
+
+/// The milliseconds in which the first frame has to open.
+pub const FIRST_FRAME: u64 = 2_000;
+
+/// Bytes of frames, whole ones and a part of the next.
+#[derive(Drop)]
+struct Block {
+    bytes: Vec<u8>,
+    have: usize,
+    ghost within: { have ≤ vec_len bytes },
+}
+
+impl Block {
+    fn new(alloc: Global) -> Result<Block, AllocError> {
+        let bytes = Vec::from_elem(alloc, 0u8, BLOCK_FRAMES * FRAME_LEN)?;
+        Ok(Block { bytes, have: 0 })
+    }
+
+    /// The whole frames.
+    fn frames(&self) -> &[Frame] {
+        self.bytes[..self.have].as_chunks::<FRAME_LEN>().0
+    }
+
+    /// Reads on behind the part of a frame that is left. False where the reader has ended or failed.
+    fn read(&mut self, reader: &mut Watched<&TcpStream>) -> bool {
+        let rest = self.have % FRAME_LEN;
+        let whole = self.have - rest;
+        self.bytes.copy_within(whole..self.have, 0);
+        self.have = rest;
+        match read_patiently(reader, &mut self.bytes[rest..]) {
+            Ok(0) | Err(_) => false,
+            Ok(count) => {
+                self.have = rest + count;
+                true
+            }
+        }
     }
 }
 
-/// Reads frames and puts their packets into the inbox, until the connection ends or fails. A frame that does not open
-/// is lost, and so is a packet that the inbox does not take.
-fn read_frames<L: Ledger, R: Wait>(
+/// A peer's connection, and what its thread needs.
+#[derive(Drop)]
+struct Peer<'a, 'b, L: Ledger> {
+    shared: &'b Shared<'a, L>,
+    connection: &'b Connection<'a>,
+    queue: JobQueue<'a>,
+    slot: u32,
+    /// The node whose frame was the first that opened.
+    from: Option<NodeName>,
+    /// How many jobs were put, and how many of them are known to be done.
+    put: u64,
+    done: u64,
+    /// How many jobs may be in flight.
+    most: u64,
+    /// Stays empty.
+    answers: Vec<Answers>,
+}
+
+/// Serves a connection of a peer, up to its end.
+pub fn take_frames<L: Ledger, R: Wait + Clock>(
     rt: &R,
     alloc: Global,
-    hub: &Hub<L>,
-    number: u32,
+    shared: &Shared<'_, L>,
+    slot: u32,
     stream: &TcpStream,
-    porter: &mut Porter<'_>,
-) -> io::Result<()> {
-    let mut reader = Watched::new(BufReader::new(alloc, stream)?);
-    for _ in rt.forever() {
-        let Ok(Some(frame)) = read_frame(&mut reader) else {
-            return Ok(());
+) {
+    let Some(connection) = shared.peers.get(slot as usize) else {
+        return;
+    };
+    let Some(queue) = connection.begin(rt) else {
+        return;
+    };
+    let peers = (shared.outboxes.len() as u64).max(1);
+    let mut peer = Peer {
+        shared,
+        connection,
+        queue,
+        slot,
+        from: None,
+        put: 0,
+        done: 0,
+        most: (MOST_IN_FLIGHT / peers).max(1),
+        answers: Vec::new(alloc),
+    };
+    if let Ok(mut block) = Block::new(alloc) {
+        peer.read_frames(rt, stream, &mut block);
+    }
+    peer.close(rt);
+}
+
+impl<L: Ledger> Peer<'_, '_, L> {
+    /// Reads frames and puts their packets into the inbox, until the connection ends or fails, or none has opened in
+    /// two seconds.
+    fn read_frames<R: Wait + Clock>(&mut self, rt: &R, stream: &TcpStream, block: &mut Block) {
+        let mut reader = Watched::new(stream);
+        let Ok(begin) = Instant::now(rt) else {
+            return;
         };
-        if hub.has_ended() {
-            return Ok(());
-        }
-        if let Some(packet) = hub.links.open(&frame) {
-            let call = Call::Step(Event::Take(packet));
-            let _ = porter.put(rt, Job { number, call });
+        for _ in rt.forever() {
+            if !block.read(&mut reader) || !self.take(rt, stream, block.frames()) {
+                return;
+            }
+            if !self.connection.is_live(rt) || (self.from.is_none() && !is_early(rt, &begin)) {
+                return;
+            }
         }
     }
-    unreachable!()
+
+    /// Puts the packets of frames into the inbox, and rings. A frame that does not open is lost. False at the end.
+    fn take<R: Wait>(&mut self, rt: &R, stream: &TcpStream, frames: &[Frame]) -> bool {
+        for frame in frames {
+            if let Some(packet) = self.shared.links.open(frame) {
+                if self.from.is_none() && !self.speak(rt, stream, packet.from()) {
+                    return false;
+                }
+                if !self.put(rt, packet) {
+                    return false;
+                }
+            }
+        }
+        self.queue.ring(rt);
+        true
+    }
+
+    /// The first frame has opened, so that the connection may be silent for long, and is the one of its node.
+    fn speak<R: Wait>(&mut self, rt: &R, stream: &TcpStream, from: NodeName) -> bool {
+        self.from = Some(from);
+        self.shared.speaks(rt, from, self.slot);
+        stream.set_read_timeout(None).is_ok()
+    }
+
+    /// Puts a packet into the inbox, where it is lost if there is no room. Waits where too many jobs are in flight.
+    /// False at the end.
+    fn put<R: Wait>(&mut self, rt: &R, packet: Packet) -> bool {
+        if self.put.saturating_sub(self.done) >= self.most {
+            self.queue.ring(rt);
+            let wanted = self.put.saturating_sub(self.most / 2);
+            match self.connection.wait(rt, wanted, &mut self.answers) {
+                Some(done) => self.done = done,
+                None => return false,
+            }
+        }
+        let job = Job {
+            number: Caller::Peer { slot: self.slot }.number(),
+            call: Call::Step(Event::Take(packet)),
+        };
+        if self.queue.put(rt, job).is_ok() {
+            self.put = self.put.saturating_add(1);
+        }
+        true
+    }
+
+    /// The place is free again, once no job is in flight.
+    fn close<R: Wait>(mut self, rt: &R) {
+        if let Some(from) = self.from {
+            self.shared.is_silent(rt, from, self.slot);
+        }
+        self.queue.ring(rt);
+        self.connection.free(rt, self.queue, self.put);
+    }
+}
+
+/// Whether less than two seconds went by.
+fn is_early<R: Clock>(rt: &R, begin: &Instant) -> bool {
+    match begin.elapsed(rt) {
+        Ok(time) => time < Duration::from_millis(FIRST_FRAME),
+        Err(_) => false,
+    }
 }

@@ -1,100 +1,254 @@
-//! Frames that wait for a peer.
+//! Frames that wait for a peer, and the connection by which they go.
 
+use crate::serve::waiting::{Awaited, Waiting};
+use quorum_sizes::NodeName;
 use std::alloc::{AllocError, Global};
 use std::collections::VecDeque;
-use std::sync::{Condvar, Mutex, Wait};
+use std::io;
+use std::io::Write;
+use std::net::TcpStream;
+use std::sync::{Arc, Wait};
 use std::time::{Clock, Duration};
 
 /// The bytes of a frame.
-pub type Frame = [u8; 52];
+pub const FRAME_LEN: usize = 52;
+
+pub type Frame = [u8; FRAME_LEN];
 
 /// The most frames that wait for a peer.
 const MOST_FRAMES: usize = 1_024;
 
 /// The most frames that are written at once.
-pub const BATCH_FRAMES: usize = 128;
+const BATCH_FRAMES: usize = 128;
 
+/// How often a thread that put frames writes a batch, before it leaves the rest to the outbox's own thread.
+const MOST_BATCHES: u32 = 4;
+
+/// The frames, oldest first. A frame stays until it is written.
 #[derive(Drop)]
-struct Waiting {
+struct Frames {
     frames: VecDeque<Frame>,
-    ended: bool,
+    /// The connection, which never waits. Absent while there is none.
+    stream: Option<Arc<TcpStream>>,
+    /// A thread writes the oldest frames, as one at a time does.
+    writing: bool,
+    /// Who wrote has left it to the outbox's own thread.
+    left: bool,
+    /// How many bytes of the oldest frames are written.
+    written: usize,
 }
 
-/// The frames to one peer, oldest first. A frame stays until it is written.
+/// The outbox's own thread waits for frames while there is no connection, and else until writing is left to it.
+impl Awaited for Frames {
+    fn is_due(&self) -> bool {
+        self.left || (self.stream.is_none() && !self.frames.is_empty())
+    }
+}
+
+impl Frames {
+    /// Puts frames at the end, as far as there is room.
+    fn push(&mut self, frames: &[Frame]) {
+        for frame in frames {
+            if self.frames.len() < MOST_FRAMES {
+                let _ = self.frames.push_back(*frame);
+            }
+        }
+    }
+
+    /// The connection, where nobody writes and there are frames. The caller writes then.
+    fn begin(&mut self) -> Option<Arc<TcpStream>> {
+        if self.writing || self.frames.is_empty() {
+            return None;
+        }
+        let stream = match &self.stream {
+            Some(stream) => Arc::try_clone(stream).ok()?,
+            None => return None,
+        };
+        self.writing = true;
+        Some(stream)
+    }
+
+    /// So many bytes more are written.
+    fn forget(&mut self, bytes: usize) {
+        let written = self.written.saturating_add(bytes);
+        for _ in 0..written / FRAME_LEN {
+            let _ = self.frames.pop_front();
+        }
+        self.written = written % FRAME_LEN;
+    }
+}
+
+/// How far a batch was written.
+#[derive(Clone, Copy, Debug, PartialEq, Eq)]
+pub enum Progress {
+    /// No frame is left.
+    Finished,
+    /// Some bytes were written.
+    Some,
+    /// The connection takes none now.
+    Full,
+    /// It has ended or failed.
+    Broken,
+}
+
+/// The frames to one peer.
 #[derive(Drop)]
 pub struct Outbox {
-    waiting: Mutex<Waiting>,
-    more: Condvar,
+    /// The peer.
+    pub to: NodeName,
+    /// Its port for other nodes.
+    pub port: u16,
+    waiting: Waiting<Frames>,
 }
 
 impl Outbox {
     /// An empty outbox.
-    pub fn new(alloc: Global) -> Outbox {
-        let waiting = Mutex::new(Waiting {
-            frames: VecDeque::new(alloc),
-            ended: false,
-        });
+    pub fn new(alloc: Global, to: NodeName, port: u16) -> Outbox {
         Outbox {
-            waiting,
-            more: Condvar::new(),
+            to,
+            port,
+            waiting: Waiting::new(Frames {
+                frames: VecDeque::new(alloc),
+                stream: None,
+                writing: false,
+                left: false,
+                written: 0,
+            }),
         }
     }
 
-    /// Puts a frame at the end. It is lost where 1,024 frames wait, or where memory is wanting.
-    pub fn push<R: Wait>(&self, rt: &R, frame: &Frame) {
-        {
-            let mut waiting = self.waiting.lock(rt);
-            if waiting.frames.len() >= MOST_FRAMES {
-                return;
+    /// Puts frames at the end, and writes them where there is a connection. What does not fit into 1,024 frames is lost.
+    /// `batch` is room for bytes.
+    pub fn send<R: Wait>(&self, rt: &R, frames: &[Frame], batch: &mut Vec<u8>) {
+        if let Some(stream) = self.push(rt, frames) {
+            for _ in 0..MOST_BATCHES {
+                match self.write(rt, &stream, batch) {
+                    Progress::Finished => return,
+                    Progress::Some => {}
+                    Progress::Full | Progress::Broken => break,
+                }
             }
-            let _ = waiting.frames.push_back(*frame);
+            self.waiting.lock(rt).value.left = true;
+            self.waiting.wake();
         }
-        self.more.notify_one();
     }
 
-    /// Waits until a frame is there; false at the end.
+    /// Puts frames at the end. The connection, where this thread has to write.
+    fn push<R: Wait>(&self, rt: &R, frames: &[Frame]) -> Option<Arc<TcpStream>> {
+        let mut state = self.waiting.lock(rt);
+        let was_due = state.value.is_due();
+        state.value.push(frames);
+        let stream = state.value.begin();
+        let is_due = state.value.is_due();
+        drop(state);
+        if is_due && !was_due {
+            self.waiting.wake();
+        }
+        stream
+    }
+
+    /// Writes the oldest frames, 128 at most. The thread that writes calls it.
+    pub fn write<R: Wait>(&self, rt: &R, stream: &TcpStream, batch: &mut Vec<u8>) -> Progress {
+        let Ok(written) = self.copy_front(rt, batch) else {
+            return Progress::Full;
+        };
+        if batch.is_empty() {
+            return self.forget(rt, 0);
+        }
+        if has_ended(stream) {
+            return Progress::Broken;
+        }
+        let mut writer = stream;
+        match writer.write(batch.get(written..).unwrap_or(&[])) {
+            Ok(0) => Progress::Broken,
+            Ok(count) => self.forget(rt, count),
+            Err(error) if is_later(&error) => Progress::Full,
+            Err(_) => Progress::Broken,
+        }
+    }
+
+    /// The bytes of the oldest frames, in place of those that are there. How many of them are written already.
+    fn copy_front<R: Wait>(&self, rt: &R, batch: &mut Vec<u8>) -> Result<usize, AllocError> {
+        batch.clear();
+        let state = self.waiting.lock(rt);
+        for frame in state.value.frames.iter().take(BATCH_FRAMES) {
+            batch.extend_from_slice(frame)?;
+        }
+        Ok(state.value.written)
+    }
+
+    /// So many bytes more are written. Where no frame is left this thread writes no more.
+    fn forget<R: Wait>(&self, rt: &R, bytes: usize) -> Progress {
+        let mut state = self.waiting.lock(rt);
+        state.value.forget(bytes);
+        if state.value.frames.is_empty() {
+            state.value.writing = false;
+            Progress::Finished
+        } else {
+            Progress::Some
+        }
+    }
+
+    /// Waits until the outbox's own thread has something to do; false at the end.
     pub fn wait<R: Wait>(&self, rt: &R) -> bool {
-        let waiting = self.more.wait_while(
-            rt,
-            self.waiting.lock(rt),
-            |w| w.frames.is_empty() && !w.ended,
-        );
-        !waiting.ended
+        let state = self.waiting.lock(rt);
+        match self.waiting.wait(rt, state) {
+            Some(mut state) => {
+                state.value.left = false;
+                true
+            }
+            None => false,
+        }
+    }
+
+    /// There is a connection now, where the outbox's own thread writes first.
+    pub fn open<R: Wait>(&self, rt: &R, stream: Arc<TcpStream>) {
+        let mut state = self.waiting.lock(rt);
+        state.value.stream = Some(stream);
+        state.value.writing = true;
+    }
+
+    /// There is no connection any more. A frame of which a part was written is written again.
+    pub fn close<R: Wait>(&self, rt: &R) {
+        let mut state = self.waiting.lock(rt);
+        state.value.stream = None;
+        state.value.writing = false;
+        state.value.left = false;
+        state.value.written = 0;
     }
 
     /// Waits for so long; false at the end.
-    pub fn pause<R: Wait + Clock>(&self, rt: &R, pause: Duration) -> bool {
-        let (waiting, _) = self
-            .more
-            .wait_timeout_while(rt, self.waiting.lock(rt), pause, |w| !w.ended);
-        !waiting.ended
+    pub fn pause<R: Wait + Clock>(&self, rt: &R, time: Duration) -> bool {
+        self.waiting.pause(rt, time)
     }
 
-    /// Writes the bytes of the oldest frames, 128 at most, behind `batch`. How many they are.
-    ///
-    /// # Errors
-    ///
-    /// Only for want of memory.
-    pub fn copy_front<R: Wait>(&self, rt: &R, batch: &mut Vec<u8>) -> Result<usize, AllocError> {
-        let waiting = self.waiting.lock(rt);
-        let count = waiting.frames.len().min(BATCH_FRAMES);
-        for frame in waiting.frames.iter().take(count) {
-            batch.extend_from_slice(frame)?;
-        }
-        Ok(count)
-    }
-
-    /// The oldest frames, so many, were written.
-    pub fn forget<R: Wait>(&self, rt: &R, count: usize) {
-        let mut waiting = self.waiting.lock(rt);
-        for _ in 0..count {
-            let _ = waiting.frames.pop_front();
-        }
-    }
-
-    /// Wakes the thread that writes, for the last time. Frames that wait are lost.
+    /// Wakes the outbox's own thread, for the last time. Frames that wait are lost.
     pub fn end<R: Wait>(&self, rt: &R) {
-        self.waiting.lock(rt).ended = true;
-        self.more.notify_all();
+        self.waiting.end(rt);
     }
+}
+
+/// Room for the bytes that are written at once.
+///
+/// # Errors
+///
+/// Only for want of memory.
+pub fn batch_room(alloc: Global) -> Result<Vec<u8>, AllocError> {
+    Vec::with_capacity(alloc, BATCH_FRAMES * FRAME_LEN)
+}
+
+/// Whether the peer has closed the connection. It sends nothing here.
+pub fn has_ended(stream: &TcpStream) -> bool {
+    match stream.peek(&mut [0u8; 1]) {
+        Ok(count) => count == 0,
+        Err(error) => !is_later(&error),
+    }
+}
+
+/// Whether the call may be made again.
+fn is_later(error: &io::Error) -> bool {
+    matches!(
+        error.kind(),
+        io::ErrorKind::WouldBlock | io::ErrorKind::Interrupted
+    )
 }

@@ -5,63 +5,228 @@ ghost use Rattle.client_lines.specs.AnswerTexts.{IsWritten};
 ghost use Rattle.role_daemon.specs.Served.{served, sent_outcome};
 
 use crate::answers::listed;
-use crate::serve::hub::{Hub, MOST_CLIENTS};
-use crate::serve::porter::Porter;
-use client_lines::{ClientAnswer, answer_text};
+use crate::held::Held;
+use crate::serve::caller::Caller;
+use crate::serve::connection::{Answers, Connection};
+use crate::serve::job_queue::{JobQueue, MOST_BATCH};
+use crate::serve::shared::{Room, Shared};
+use client_lines::ClientAnswer;
 use link_frames::Message;
-use node_lock::{Outcome, Seat, View};
+use node_lock::{Call, Locked, Outcome, Seat, View};
+use quorum_sizes::NodeName;
 use role_node::{NodeFault, Reply};
 use role_sessions::SessionFault;
-use std::alloc::Global;
+use std::alloc::{AllocError, Global};
 use std::sync::Wait;
 use std::sync::ledger::Ledger;
+use std::thread;
 
-/// Makes the calls of jobs, one after another, until the end.
-pub fn work<L: Ledger, R: Wait>(
-    rt: &R,
+/// What a hold said to a job; nothing for want of memory, and where the seat does not fit the node.
+#[derive(Drop)]
+struct Done {
+    caller: Caller,
+    said: Option<(Outcome, View)>,
+}
+
+/// What a batch of jobs has for one connection.
+#[derive(Drop)]
+struct Share {
+    caller: Caller,
+    /// How many of its jobs are done.
+    count: u64,
+    /// Whether one of them has no receipt, or an answer no text.
+    broken: bool,
+    answers: Answers,
+}
+
+/// A worker, with its seat and room for a batch of jobs.
+#[derive(Drop)]
+pub struct Worker<'a, L: Ledger> {
     alloc: Global,
-    hub: &Hub<L>,
-    mut porter: Porter<'_>,
-    mut seat: Seat<L>,
-) {
-    for _ in rt.forever() {
-        let Some(job) = porter.next(rt) else {
-            return;
-        };
-        match hub.call(rt, &mut seat, job.call) {
-            Some((receipt, view)) => {
-                if let Some(message) = message_of(&receipt.outcome) {
-                    hub.send_to_all(rt, &mut porter, &message);
-                }
-                if job.number < MOST_CLIENTS {
-                    give(rt, hub, job.number, text_of(alloc, &view, receipt.outcome));
+    queue: JobQueue<'a>,
+    seat: Seat<L>,
+    done: Vec<Done>,
+    messages: Vec<Message>,
+    room: Room,
+    shares: Vec<Share>,
+}
+
+impl<'a, L: Ledger> Worker<'a, L> {
+    /// A worker without jobs.
+    ///
+    /// # Errors
+    ///
+    /// Only for want of memory.
+    pub fn new(
+        alloc: Global,
+        queue: JobQueue<'a>,
+        seat: Seat<L>,
+    ) -> Result<Worker<'a, L>, AllocError> {
+        Ok(Worker {
+            alloc,
+            queue,
+            seat,
+            done: Vec::with_capacity(alloc, MOST_BATCH)?,
+            messages: Vec::with_capacity(alloc, MOST_BATCH)?,
+            room: Room::new(alloc, MOST_BATCH)?,
+            shares: Vec::with_capacity(alloc, MOST_BATCH)?,
+        })
+    }
+
+    /// Makes the calls of jobs, a batch at a time, until the end.
+    pub fn work<R: Wait>(mut self, rt: &R, shared: &Shared<'a, L>) {
+        for _ in rt.forever() {
+            let Some(count) = self.queue.claim(rt) else {
+                return;
+            };
+            self.take_jobs(rt, shared, count);
+            let left = count.saturating_sub(self.done.len());
+            self.queue.release(rt, left);
+            self.send(rt, shared);
+            self.answer(rt, shared);
+            if left > 0 {
+                thread::yield_now();
+            }
+        }
+    }
+
+    /// Makes the calls of so many jobs, each by one hold, all under one lock.
+    fn take_jobs<R: Wait>(&mut self, rt: &R, shared: &Shared<'a, L>, count: usize) {
+        let me = shared.links.me();
+        let mut locked = shared.node.node.lock(rt);
+        for _ in 0..count {
+            let Some(job) = self.queue.take(rt) else {
+                return;
+            };
+            let said = call(&mut locked, &mut self.seat, job.call, me);
+            let caller = Caller::of(job.number);
+            let _ = self.done.push(Done { caller, said });
+        }
+    }
+
+    /// Sends what the outcomes have the node send.
+    fn send<R: Wait>(&mut self, rt: &R, shared: &Shared<'a, L>) {
+        self.messages.clear();
+        for done in &self.done {
+            if let Some((outcome, _)) = &done.said {
+                if let Some(message) = message_of(outcome) {
+                    let _ = self.messages.push(message);
                 }
             }
-            None => give_up(rt, hub, job.number),
+        }
+        shared.send_to_all(rt, &mut self.queue, &self.messages, &mut self.room);
+    }
+
+    /// Tells each connection what was done for it, and its answers.
+    fn answer<R: Wait>(&mut self, rt: &R, shared: &Shared<'a, L>) {
+        for done in self.done.drain(..) {
+            if let Some(share) = share_of(self.alloc, &mut self.shares, done.caller) {
+                share.add(done);
+            }
+        }
+        for share in self.shares.drain(..) {
+            match share.caller {
+                Caller::Client { slot, line: _ } => {
+                    if let Some(connection) = shared.clients.get(slot as usize) {
+                        connection.done(rt, share.count, Some(share.answers));
+                    }
+                }
+                Caller::Peer { slot } => {
+                    if let Some(connection) = shared.peers.get(slot as usize) {
+                        hand(rt, connection, share.count, share.broken);
+                    }
+                }
+                Caller::Itself => {}
+            }
         }
     }
 }
 
-/// Gives a client's connection its answer.
-fn give<L: Ledger, R: Wait>(rt: &R, hub: &Hub<L>, number: u32, text: Option<String>) {
-    if let Some(mailbox) = hub.rooms.mailboxes.get(number as usize) {
-        mailbox.give(rt, text);
+/// Makes the call by one hold, and reads how far the node's own stream reaches.
+fn call<L: Ledger>(
+    locked: &mut Locked<L>,
+    seat: &mut Seat<L>,
+    call: Call,
+    me: NodeName,
+) -> Option<(Outcome, View)> {
+    if !locked.has(me) {
+        return None;
+    }
+    match locked.hold(seat, Some(call), me, 0) {
+        Ok((receipt, view)) => receipt.map(|receipt| (receipt.outcome, view)),
+        Err(_) => None,
     }
 }
 
-/// Closes the connection whose job has no receipt.
-fn give_up<L: Ledger, R: Wait>(rt: &R, hub: &Hub<L>, number: u32) {
-    if number < MOST_CLIENTS {
-        give(rt, hub, number, None);
-    } else if let Some(slot) = hub.rooms.peers.get((number - MOST_CLIENTS) as usize) {
-        slot.cut(rt);
+/// So many jobs of a peer's connection are done. It is shut down where one of them has no receipt.
+fn hand<R: Wait>(rt: &R, connection: &Connection<'_>, count: u64, broken: bool) {
+    if broken {
+        connection.cut(rt);
+    }
+    connection.done(rt, count, None);
+}
+
+/// Whether the two callers are one connection.
+fn is_same(a: Caller, b: Caller) -> bool {
+    match (a, b) {
+        (Caller::Client { slot, line: _ }, Caller::Client { slot: other, line: _ })
+        | (Caller::Peer { slot }, Caller::Peer { slot: other }) => slot == other,
+        (Caller::Itself, Caller::Itself) => true,
+        _ => false,
     }
 }
 
-/// The text of the answer; `None` for want of memory.
-fn text_of(alloc: Global, view: &View, outcome: Outcome) -> Option<String> {
-    let answer = answer_of(view, outcome)?;
-    answer_text(alloc, &answer).ok()
+/// The share of a caller's connection, made where there is none.
+fn share_of(alloc: Global, shares: &mut Vec<Share>, caller: Caller) -> Option<&mut Share> {
+    let found = shares
+        .iter()
+        .position(|share| is_same(share.caller, caller));
+    match found {
+        Some(at) => shares.get_mut(at),
+        None => {
+            shares.push(Share::new(alloc, caller)).ok()?;
+            shares.last_mut()
+        }
+    }
+}
+
+impl Share {
+    fn new(alloc: Global, caller: Caller) -> Share {
+        let first = match caller {
+            Caller::Client { slot: _, line } => line,
+            Caller::Peer { .. } | Caller::Itself => 0,
+        };
+        Share {
+            caller,
+            count: 0,
+            broken: false,
+            answers: Answers {
+                first,
+                count: 0,
+                lines: Held::new(alloc),
+            },
+        }
+    }
+
+    /// One job more is done. A client's answers end where one is wanting.
+    fn add(&mut self, done: Done) {
+        self.count = self.count.saturating_add(1);
+        let Done { caller, said } = done;
+        let Some((outcome, view)) = said else {
+            self.broken = true;
+            return;
+        };
+        if self.broken || !matches!(caller, Caller::Client { .. }) {
+            return;
+        }
+        if let Some(answer) = answer_of(&view, outcome) {
+            if self.answers.lines.push_line(&answer).is_ok() {
+                self.answers.count = self.answers.count.saturating_add(1);
+                return;
+            }
+        }
+        self.broken = true;
+    }
 }
 
 /// The message that an outcome has the node send to all.

@@ -1,6 +1,6 @@
 use Rattle.std.specs.Prelude.{All, vec_len}
 use Rattle.node_lock.specs.Inboxes.{IsNewPassTo}
-use Rattle.role_daemon.proofs.serve.porter.porters.Given as goal
+use Rattle.role_daemon.proofs.serve.job_queue.job_queues.Given as goal
 
 abbrev pub invariant-loop-pass : goal.invariant-loop-pass
 invariant-loop-pass l = All (IsNewPassTo l.inbox) l.passes.items

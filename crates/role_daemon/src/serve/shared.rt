@@ -1,0 +1,174 @@
+//! What the threads of a serving node share.
+
+use crate::serve::caller::Caller;
+use crate::serve::connection::Connection;
+use crate::serve::job_queue::{JobQueue, Ready};
+use crate::serve::links::Links;
+use crate::serve::outbox::{Frame, Outbox, batch_room};
+use crate::serve::waiting::{Awaited, Waiting};
+use link_frames::{Message, Packet, Place};
+use node_lock::{Call, Job, Seat, SharedNode, View};
+use quorum_sizes::NodeName;
+use role_node::Event;
+use std::alloc::{AllocError, Global};
+use std::mem;
+use std::net::{Ipv4Addr, SocketAddr, SocketAddrV4};
+use std::sync::ledger::Ledger;
+use std::sync::{Mutex, Wait};
+
+/// Whether a listener has failed. Who waits for it waits for the node's end.
+#[derive(Drop)]
+pub struct Life {
+    pub failed: bool,
+}
+
+impl Awaited for Life {
+    fn is_due(&self) -> bool {
+        false
+    }
+}
+
+/// What the threads of a serving node share.
+#[derive(Drop)]
+pub struct Shared<'a, L: Ledger> {
+    pub node: SharedNode<L>,
+    /// The seat of those who only look.
+    pub view_seat: Mutex<Seat<L>>,
+    pub links: Links,
+    pub ready: &'a Waiting<Ready>,
+    /// An outbox for each other node.
+    pub outboxes: Vec<Outbox>,
+    pub clients: Vec<Connection<'a>>,
+    pub peers: Vec<Connection<'a>>,
+    /// The place of the connection of each node, at the node's index.
+    pub speakers: Mutex<Vec<Option<u32>>>,
+    pub life: Waiting<Life>,
+}
+
+/// Room for the frames to one node, and for their bytes.
+#[derive(Drop)]
+pub struct Room {
+    frames: Vec<Frame>,
+    bytes: Vec<u8>,
+}
+
+impl Room {
+    /// Room for the frames of so many messages.
+    ///
+    /// # Errors
+    ///
+    /// Only for want of memory.
+    pub fn new(alloc: Global, messages: usize) -> Result<Room, AllocError> {
+        Ok(Room {
+            frames: Vec::with_capacity(alloc, messages)?,
+            bytes: batch_room(alloc)?,
+        })
+    }
+}
+
+/// The address of a port on this machine.
+pub fn local(port: u16) -> SocketAddr {
+    SocketAddr::V4(SocketAddrV4::new(Ipv4Addr::LOCALHOST, port))
+}
+
+impl<L: Ledger> Shared<'_, L> {
+    /// Ends every thread.
+    pub fn end<R: Wait>(&self, rt: &R) {
+        self.life.end(rt);
+        self.ready.end(rt);
+        for outbox in &self.outboxes {
+            outbox.end(rt);
+        }
+        for connection in &self.clients {
+            connection.end(rt);
+        }
+        for connection in &self.peers {
+            connection.end(rt);
+        }
+    }
+
+    /// A listener has failed, which ends the node.
+    pub fn fail<R: Wait>(&self, rt: &R) {
+        self.life.lock(rt).value.failed = true;
+        self.end(rt);
+    }
+
+    /// Sends messages to all nodes. What does not fit is lost.
+    pub fn send_to_all<R: Wait>(
+        &self,
+        rt: &R,
+        queue: &mut JobQueue<'_>,
+        messages: &[Message],
+        room: &mut Room,
+    ) {
+        if messages.is_empty() {
+            return;
+        }
+        for outbox in &self.outboxes {
+            self.seal_all(outbox.to, messages, &mut room.frames);
+            outbox.send(rt, &room.frames, &mut room.bytes);
+        }
+        for message in messages {
+            self.send_to_itself(rt, queue, message);
+        }
+        queue.ring(rt);
+    }
+
+    /// The frames of messages to a node, in place of those that are there.
+    fn seal_all(&self, to: NodeName, messages: &[Message], frames: &mut Vec<Frame>) {
+        frames.clear();
+        for message in messages {
+            if let Some(frame) = self.links.seal(to, message) {
+                let _ = frames.push(frame);
+            }
+        }
+    }
+
+    fn send_to_itself<R: Wait>(&self, rt: &R, queue: &mut JobQueue<'_>, message: &Message) {
+        let me = self.links.me();
+        if let Some(packet) = Packet::new(me, me, *message) {
+            let job = Job {
+                number: Caller::Itself.number(),
+                call: Call::Step(Event::Take(packet)),
+            };
+            let _ = queue.put(rt, job);
+        }
+    }
+
+    /// The connection at this place is the node's from now on. An older one is shut down.
+    pub fn speaks<R: Wait>(&self, rt: &R, from: NodeName, slot: u32) {
+        let mut speakers = self.speakers.lock(rt);
+        if let Some(speaker) = speakers.get_mut(usize::from(from.index())) {
+            if let Some(older) = mem::replace(speaker, Some(slot)) {
+                if older != slot {
+                    if let Some(connection) = self.peers.get(older as usize) {
+                        connection.cut(rt);
+                    }
+                }
+            }
+        }
+    }
+
+    /// The connection at this place has ended.
+    pub fn is_silent<R: Wait>(&self, rt: &R, from: NodeName, slot: u32) {
+        let mut speakers = self.speakers.lock(rt);
+        if let Some(speaker) = speakers.get_mut(usize::from(from.index())) {
+            if *speaker == Some(slot) {
+                *speaker = None;
+            }
+        }
+    }
+
+    /// Looks at a place of the owner's stream; `None` where the seat does not fit the node.
+    pub fn look<R: Wait>(&self, rt: &R, owner: NodeName, place: Place) -> Option<View> {
+        let mut seat = self.view_seat.lock(rt);
+        let mut locked = self.node.node.lock(rt);
+        if !locked.has(owner) {
+            return None;
+        }
+        match locked.hold(&mut seat, None, owner, place) {
+            Ok((_, view)) => Some(view),
+            Err(_) => None,
+        }
+    }
+}
