@@ -246,7 +246,11 @@ where
     R: Net<Listener = TcpListener, Stream = TcpStream> + Clock,
 {
     let stream = connected(rt, place.client)?;
-    ask(alloc, &stream, b"{\"op\":\"assign\",\"user\":7,\"role\":2}\n")?;
+    ask(
+        alloc,
+        &stream,
+        b"{\"op\":\"assign\",\"user\":7,\"role\":2}\n",
+    )?;
     let Some(listener) = place.others.first() else {
         return Ok(false);
     };
