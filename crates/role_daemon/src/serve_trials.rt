@@ -112,13 +112,24 @@ fn accepted<R: Clock>(rt: &R, listener: &TcpListener) -> Result<TcpStream, Fail>
     Err("nobody connects".into())
 }
 
-/// The answer to a line; nothing where the connection is closed.
-fn ask(alloc: Global, stream: &TcpStream, line: &[u8]) -> Result<String, Fail> {
+/// What is answered to a line, if anything is.
+fn answer_to(alloc: Global, stream: &TcpStream, line: &[u8]) -> Option<String> {
     let mut writer = stream;
-    writer.write_all(line)?;
+    writer.write_all(line).ok()?;
     let mut answer = String::new(alloc);
-    BufReader::new(alloc, stream)?.read_line(&mut answer)?;
-    Ok(answer)
+    BufReader::new(alloc, stream)
+        .ok()?
+        .read_line(&mut answer)
+        .ok()?;
+    Some(answer)
+}
+
+/// The answer to a line.
+fn ask(alloc: Global, stream: &TcpStream, line: &[u8]) -> Result<String, Fail> {
+    match answer_to(alloc, stream, line) {
+        Some(answer) => Ok(answer),
+        None => Err("no answer".into()),
+    }
 }
 
 /// Whether the connection is closed in time.
@@ -136,7 +147,7 @@ where
     R: Net<Listener = TcpListener, Stream = TcpStream> + Clock,
 {
     for _ in 0..MOST_LOOKS {
-        if let Ok(answer) = ask(alloc, &connected(rt, client)?, OPEN) {
+        if let Some(answer) = answer_to(alloc, &connected(rt, client)?, OPEN) {
             if answer.as_str().starts_with("{\"session\":") {
                 return Ok(true);
             }
@@ -246,7 +257,11 @@ where
     R: Net<Listener = TcpListener, Stream = TcpStream> + Clock,
 {
     let stream = connected(rt, place.client)?;
-    ask(alloc, &stream, b"{\"op\":\"assign\",\"user\":7,\"role\":2}\n")?;
+    ask(
+        alloc,
+        &stream,
+        b"{\"op\":\"assign\",\"user\":7,\"role\":2}\n",
+    )?;
     let Some(listener) = place.others.first() else {
         return Ok(false);
     };
@@ -283,7 +298,7 @@ where
         let Ok(stream) = TcpStream::connect(rt, local(client)) else {
             return;
         };
-        let _ = ask(alloc, &stream, STOP);
+        let _ = answer_to(alloc, &stream, STOP);
         thread::sleep(rt, Duration::from_millis(1));
     }
 }
@@ -329,7 +344,9 @@ where
         let server = scope.spawn(move || serve_text(rt, alloc, shown))?;
         let right = try_out(rt, alloc, trial, &place);
         stop(rt, alloc, client);
-        Ok(server.join(rt) == 0 && right?)
+        let status = server.join(rt);
+        let right = right?;
+        Ok(right && status == 0)
     })?;
     Ok(right)
 }

@@ -15,12 +15,11 @@ use node_lock::{Call, Job, View};
 use quorum_sizes::NodeName;
 use role_node::{Event, NodeAgain};
 use std::alloc::{AllocError, Global};
-use std::mem;
 use std::net::TcpStream;
 use std::sync::Wait;
 use std::sync::ledger::Ledger;
-use std::thread;
 use std::time::{Clock, Duration};
+use std::{mem, thread};
 
 /// The milliseconds after which a client that sends nothing is closed.
 pub const IDLE: u64 = 600_000;
@@ -225,12 +224,20 @@ impl<L: Ledger> Client<'_, '_, L> {
             return Ok(());
         }
         self.queue.ring(rt);
-        if self.connection.wait(rt, self.put, &mut self.answers).is_none() {
+        if self
+            .connection
+            .wait(rt, self.put, &mut self.answers)
+            .is_none()
+        {
             return Err(PipeFault::Device);
         }
         let mut next = 0u32;
         for _ in 0..due {
-            let Some(at) = self.answers.iter().position(|a| a.first == next && a.count > 0) else {
+            let Some(at) = self
+                .answers
+                .iter()
+                .position(|a| a.first == next && a.count > 0)
+            else {
                 break;
             };
             let answers = self.answers.swap_remove(at);
@@ -238,7 +245,11 @@ impl<L: Ledger> Client<'_, '_, L> {
             next = next.saturating_add(answers.count);
         }
         self.answers.clear();
-        if next == due { Ok(()) } else { Err(PipeFault::Memory) }
+        if next == due {
+            Ok(())
+        } else {
+            Err(PipeFault::Memory)
+        }
     }
 
     /// Looks at a place of the owner's stream, after the lines before were answered.
@@ -271,7 +282,8 @@ impl<L: Ledger> Client<'_, '_, L> {
             }
         }
         let mut room = Room::new(self.alloc, messages.len())?;
-        self.shared.send_to_all(rt, &mut self.queue, &messages, &mut room);
+        self.shared
+            .send_to_all(rt, &mut self.queue, &messages, &mut room);
         Ok(())
     }
 

@@ -47,8 +47,7 @@ impl Ready {
     /// So many jobs more are there. Whether a worker is to be woken.
     fn add(&mut self, count: usize) -> bool {
         self.jobs = self.jobs.saturating_add(count);
-        let wakes =
-            self.is_due() && !self.summoned && (self.awake == 0 || self.jobs >= BACKLOG);
+        let wakes = self.is_due() && !self.summoned && (self.awake == 0 || self.jobs >= BACKLOG);
         self.summoned |= wakes;
         wakes
     }

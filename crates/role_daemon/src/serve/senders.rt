@@ -66,12 +66,7 @@ fn connected<R: Net<Stream = TcpStream>>(
 }
 
 /// Gives the connection to the outbox, until it has ended or failed, or the node ends. Whether it lived for long.
-fn keep<R: Wait + Clock>(
-    rt: &R,
-    alloc: Global,
-    outbox: &Outbox,
-    stream: Arc<TcpStream>,
-) -> bool {
+fn keep<R: Wait + Clock>(rt: &R, alloc: Global, outbox: &Outbox, stream: Arc<TcpStream>) -> bool {
     let Ok(begin) = Instant::now(rt) else {
         return false;
     };

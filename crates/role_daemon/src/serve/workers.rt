@@ -169,7 +169,13 @@ fn hand<R: Wait>(rt: &R, connection: &Connection<'_>, count: u64, broken: bool) 
 /// Whether the two callers are one connection.
 fn is_same(a: Caller, b: Caller) -> bool {
     match (a, b) {
-        (Caller::Client { slot, line: _ }, Caller::Client { slot: other, line: _ })
+        (
+            Caller::Client { slot, line: _ },
+            Caller::Client {
+                slot: other,
+                line: _,
+            },
+        )
         | (Caller::Peer { slot }, Caller::Peer { slot: other }) => slot == other,
         (Caller::Itself, Caller::Itself) => true,
         _ => false,
