@@ -124,4 +124,6 @@ fn text_of(rt: &HostRuntime, file: &str) -> io::Result<Vec<u8>> {
 #[cfg(test)]
 mod serve_tests;
 #[cfg(test)]
+mod serve_trials;
+#[cfg(test)]
 mod tests;

@@ -20,8 +20,15 @@ use std::time::{Clock, Duration, Instant};
 /// How many frames are read at once.
 const BLOCK_FRAMES: usize = 160;
 
-/// How many jobs of all connections of frames together are in flight at most; each peer has its part of them.
-const MOST_IN_FLIGHT: u64 = 384;
+/// How many jobs of a connection are in flight at most in its first second. All connections with so many, the most of
+/// all peers together and the most lines of all clients are fewer than the inbox takes.
+const FIRST_IN_FLIGHT: u64 = 2;
+
+/// How many jobs of all peers together are in flight at most, each by a connection that has lived for a second.
+const MOST_IN_FLIGHT: u64 = 256;
+
+/// The milliseconds after which a connection that was not replaced by another of its node has its part of these.
+const LONG_LIFE: u64 = 1_000;
 
 /// The milliseconds in which the first frame has to open.
 pub const FIRST_FRAME: u64 = 2_000;
@@ -93,7 +100,6 @@ pub fn take_frames<L: Ledger, R: Wait + Clock>(
     let Some(queue) = connection.begin(rt) else {
         return;
     };
-    let peers = (shared.outboxes.len() as u64).max(1);
     let mut peer = Peer {
         shared,
         connection,
@@ -102,7 +108,7 @@ pub fn take_frames<L: Ledger, R: Wait + Clock>(
         from: None,
         put: 0,
         done: 0,
-        most: (MOST_IN_FLIGHT / peers).max(1),
+        most: FIRST_IN_FLIGHT,
         answers: Vec::new(alloc),
     };
     if let Ok(mut block) = Block::new(alloc) {
@@ -123,8 +129,14 @@ impl<L: Ledger> Peer<'_, '_, L> {
             if !block.read(&mut reader) || !self.take(rt, stream, block.frames()) {
                 return;
             }
-            if !self.connection.is_live(rt) || (self.from.is_none() && !is_early(rt, &begin)) {
+            if !self.connection.is_live(rt)
+                || (self.from.is_none() && is_past(rt, &begin, FIRST_FRAME))
+            {
                 return;
+            }
+            if self.most == FIRST_IN_FLIGHT && is_past(rt, &begin, LONG_LIFE) {
+                let peers = (self.shared.outboxes.len() as u64).max(1);
+                self.most = (MOST_IN_FLIGHT / peers).max(FIRST_IN_FLIGHT);
             }
         }
     }
@@ -183,10 +195,10 @@ impl<L: Ledger> Peer<'_, '_, L> {
     }
 }
 
-/// Whether less than two seconds went by.
-fn is_early<R: Clock>(rt: &R, begin: &Instant) -> bool {
+/// Whether so many milliseconds went by.
+fn is_past<R: Clock>(rt: &R, begin: &Instant, millis: u64) -> bool {
     match begin.elapsed(rt) {
-        Ok(time) => time < Duration::from_millis(FIRST_FRAME),
-        Err(_) => false,
+        Ok(time) => time >= Duration::from_millis(millis),
+        Err(_) => true,
     }
 }

@@ -21,8 +21,9 @@ const MOST_FRAMES: usize = 1_024;
 /// The most frames that are written at once.
 const BATCH_FRAMES: usize = 128;
 
-/// How often a thread that put frames writes a batch, before it leaves the rest to the outbox's own thread.
-const MOST_BATCHES: u32 = 4;
+/// The thread that put frames writes them if they are no more than so many. Else it leaves that to the outbox's own
+/// thread, and goes on beside it.
+const FEW_FRAMES: usize = 8;
 
 /// The frames, oldest first. A frame stays until it is written.
 #[derive(Drop)]
@@ -55,17 +56,21 @@ impl Frames {
         }
     }
 
-    /// The connection, where nobody writes and there are frames. The caller writes then.
+    /// Sees to it that frames are written where there is a connection. That, where the caller has to write.
     fn begin(&mut self) -> Option<Arc<TcpStream>> {
-        if self.writing || self.frames.is_empty() {
+        if self.writing || self.frames.is_empty() || self.stream.is_none() {
             return None;
         }
-        let stream = match &self.stream {
-            Some(stream) => Arc::try_clone(stream).ok()?,
-            None => return None,
-        };
         self.writing = true;
-        Some(stream)
+        if self.frames.len() <= FEW_FRAMES {
+            if let Some(stream) = &self.stream {
+                if let Ok(stream) = Arc::try_clone(stream) {
+                    return Some(stream);
+                }
+            }
+        }
+        self.left = true;
+        None
     }
 
     /// So many bytes more are written.
@@ -121,15 +126,10 @@ impl Outbox {
     /// `batch` is room for bytes.
     pub fn send<R: Wait>(&self, rt: &R, frames: &[Frame], batch: &mut Vec<u8>) {
         if let Some(stream) = self.push(rt, frames) {
-            for _ in 0..MOST_BATCHES {
-                match self.write(rt, &stream, batch) {
-                    Progress::Finished => return,
-                    Progress::Some => {}
-                    Progress::Full | Progress::Broken => break,
-                }
+            if self.write(rt, &stream, batch) != Progress::Finished {
+                self.waiting.lock(rt).value.left = true;
+                self.waiting.wake();
             }
-            self.waiting.lock(rt).value.left = true;
-            self.waiting.wake();
         }
     }
 
