@@ -20,15 +20,15 @@ use std::time::{Clock, Duration, Instant};
 /// How many frames are read at once.
 const BLOCK_FRAMES: usize = 160;
 
-/// How many jobs of a connection are in flight at most in its first second. All connections with so many, the most of
-/// all peers together and the most lines of all clients are fewer than the inbox takes.
+/// How many jobs of a connection are in flight at most at first.
 const FIRST_IN_FLIGHT: u64 = 2;
 
-/// How many jobs of all peers together are in flight at most, each by a connection that has lived for a second.
-const MOST_IN_FLIGHT: u64 = 256;
+/// How many jobs of all peers together are in flight at most, each by a connection that has lived a while. With the first
+/// ones of 64 connections these are 608, so that in the inbox there is room for the node itself and for 12 clients.
+const MOST_IN_FLIGHT: u64 = 480;
 
 /// The milliseconds after which a connection that was not replaced by another of its node has its part of these.
-const LONG_LIFE: u64 = 1_000;
+const LONG_LIFE: u64 = 100;
 
 /// The milliseconds in which the first frame has to open.
 pub const FIRST_FRAME: u64 = 2_000;
