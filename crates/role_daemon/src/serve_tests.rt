@@ -210,11 +210,14 @@ where
         [peers @ .., client] => (peers, *client),
         _ => return Ok(false),
     };
+    let Some(own) = peers.get(1).copied() else {
+        return Ok(false);
+    };
     let text = text_of(alloc, 1, 1, peers, client)?;
     let shown = text.as_str();
     thread::scope(thread::scope_env(), rt, |scope| -> Result<bool, Fail> {
         let server = scope.spawn(move || serve_text(rt, alloc, shown))?;
-        let right = talk_to_second(rt, alloc, peers[1], client)?;
+        let right = talk_to_second(rt, alloc, own, client)?;
         Ok(right && server.join(rt) == 0)
     })
 }
