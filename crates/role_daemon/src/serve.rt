@@ -1,7 +1,7 @@
 //! The node over TCP: frames of its peers, and lines of its clients.
 //!
-//! Each connection is served by a thread of its own, which puts jobs into one inbox; four workers make their calls under
-//! the node's lock. A thread that waits sleeps.
+//! Each connection is served by a thread of its own, which puts jobs into one inbox; four workers make their calls
+//! under the node's lock. A thread that waits sleeps.
 
 ghost use Rattle.std.specs.Prelude.{◌≡◌, length, IfOk};
 ghost use Rattle.role_daemon.specs.Linked.{ring_of};

@@ -122,7 +122,8 @@ impl Outbox {
         }
     }
 
-    /// Puts frames at the end, and writes them where there is a connection. What does not fit into 1,024 frames is lost.
+    /// Puts frames at the end, and writes them where there is a connection. What does not fit into 1,024 frames is
+    /// lost.
     /// `batch` is room for bytes.
     pub fn send<R: Wait>(&self, rt: &R, frames: &[Frame], batch: &mut Vec<u8>) {
         if let Some(stream) = self.push(rt, frames) {

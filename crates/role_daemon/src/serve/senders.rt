@@ -23,8 +23,8 @@ const LONG_LIFE: u64 = 1_000;
 /// How many milliseconds a connection may take to be made, and to take some bytes.
 const PATIENCE: u64 = 500;
 
-/// Connects an outbox with its peer, until the end: when there are frames, and again when the connection has ended, after
-/// a pause that grows to a second.
+/// Connects an outbox with its peer, until the end: when there are frames, and again when the connection has ended,
+/// after a pause that grows to a second.
 pub fn send_frames<R: Net<Stream = TcpStream> + Wait + Clock>(
     rt: &R,
     alloc: Global,
@@ -47,7 +47,7 @@ pub fn send_frames<R: Net<Stream = TcpStream> + Wait + Clock>(
     }
 }
 
-/// A connection to the port, which never waits. One with itself is none, which may come about where nobody listens there.
+/// A connection to the port, which never waits. One with itself, as may come about where nobody listens there, is none.
 fn connected<R: Net<Stream = TcpStream>>(
     rt: &R,
     alloc: Global,
@@ -89,8 +89,8 @@ fn keep<R: Wait + Clock>(rt: &R, alloc: Global, outbox: &Outbox, stream: Arc<Tcp
     is_long(rt, &begin)
 }
 
-/// Writes all frames, as the connection takes them. False where it has ended or failed, takes none for half a second, or
-/// the node ends.
+/// Writes all frames, as the connection takes them. False where it has ended or failed, or takes none for half a
+/// second, and at the node's end.
 fn write_all<R: Wait + Clock>(
     rt: &R,
     outbox: &Outbox,
