@@ -1,6 +1,7 @@
 -- A node's own packets come to an end: what it sends when it takes one is an ECHO or a READY, its own ECHO causes no
 -- other ECHO, and its own READY, which it sent as it was ready, causes nothing.
-use Rattle.std.proofs.Common.{◌⊎◌, inl, inr, ◌≡◌, ℕ, zero, suc, ◌+◌, ◌<◌, ◌≤◌, Bool, true, false, not, ◌&&◌, cond, List, [], ◌∷◌, ◌++◌}
+use Rattle.std.proofs.Common.{◌⊎◌, inl, inr, ◌≡◌, ℕ, zero, suc, ◌+◌, ◌<◌, ◌≤◌, Bool, true, false, not, ◌&&◌, cond}
+use Rattle.std.proofs.Common.{List, [], ◌∷◌, ◌++◌}
 use Rattle.std.proofs.Common.{Option, Some, None, Result, Ok, Err, refl, sym, ap, ◌∙◌, subst, arith, option_map}
 use Rattle.std.specs.Prelude.{◌==◌, if◌then◌else◌}
 use Rattle.std.proofs.lemmas.Option.{none-some}
@@ -50,9 +51,11 @@ or_nothing (Some c) = refl
 sent_is : (echo ready : Option Command) (said : Kind × Command) → sent_for echo ready ≡ Some said
     → ((said.0 ≡ Echo) × (echo ≡ Some said.1)) ⊎ ((said.0 ≡ Ready) × (ready ≡ Some said.1))
 sent_is (Some c) ready said e =
-    let is : (Echo, c) ≡ said = cc in inl (ap (λ (k : Kind × Command). k.0) (sym is), ap (λ (k : Kind × Command). Some k.1) is)
+    let is : (Echo, c) ≡ said = cc in
+    inl (ap (λ (k : Kind × Command). k.0) (sym is), ap (λ (k : Kind × Command). Some k.1) is)
 sent_is None (Some c) said e =
-    let is : (Ready, c) ≡ said = cc in inr (ap (λ (k : Kind × Command). k.0) (sym is), ap (λ (k : Kind × Command). Some k.1) is)
+    let is : (Ready, c) ≡ said = cc in
+    inr (ap (λ (k : Kind × Command). k.0) (sym is), ap (λ (k : Kind × Command). Some k.1) is)
 sent_is None None said e = absurd cc
 
 -- only a SEND has it echo
@@ -94,7 +97,8 @@ sends node p m e =
     record {
       said = k;
       is = message;
-      newly_so = ap (newly_sent node.config.roles.sizes (takes node p)) (sym (takes_at-own (packets node.history) p)) ∙ sent;
+      newly_so = ap (newly_sent node.config.roles.sizes (takes node p)) (sym (takes_at-own (packets node.history) p))
+          ∙ sent;
       recorded = ap (λ o. after_answer node (event.Take p) (answered o (reply_to node.config.roles node.me node.history
           (event.Take p)))) counts;
     }
@@ -283,8 +287,8 @@ fewer_owed node m =
     owed_enough 2 (next node m) (waits node m) none in
     omega (arith, same)
 
-pub less_owed : (now new : NodeValue) (waiting more : Option Message) (m : Message) → waiting ≡ Some m → more ≡ waits now m
-    → new ≡ next now m → owed 3 new more < owed 3 now waiting
+pub less_owed : (now new : NodeValue) (waiting more : Option Message) (m : Message) → waiting ≡ Some m
+    → more ≡ waits now m → new ≡ next now m → owed 3 new more < owed 3 now waiting
 less_owed now new waiting more m is sent after =
     let here : owed 3 now waiting ≡ owed 3 now (Some m) = ap (owed 3 now) is in
     let there : owed 3 new more ≡ owed 3 (next now m) (waits now m) = (λ i. owed 3 (after i) (sent i)) in

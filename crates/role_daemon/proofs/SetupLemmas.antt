@@ -124,7 +124,8 @@ module _ (s : Counts) (whole before : List (ℕ × ℕ)) where
       by_tests false true e = absurd (no_None _ e)
       by_tests false false e = refl
 
-  has_more : (b c : Bool) (owner : ℕ) (o : Option ℕ) → is_some o ≡ c → is_some (cond b (Some owner) o) ≡ (c || (b || false))
+  has_more : (b c : Bool) (owner : ℕ) (o : Option ℕ) → is_some o ≡ c
+      → is_some (cond b (Some owner) o) ≡ (c || (b || false))
   has_more true true owner o is = refl
   has_more true false owner o is = refl
   has_more false true owner o is = is
@@ -155,7 +156,8 @@ module _ (s : Counts) (whole before : List (ℕ × ℕ)) where
       sizes = reached.sizes;
       count = one_more;
       has = it_has;
-      left = reached.left ∙ ap (λ f. or_table_fault (with_role reached.roles p.0 p.1) f >>= (λ more. table_of more rest))
+      left = reached.left
+          ∙ ap (λ f. or_table_fault (with_role reached.roles p.0 p.1) f >>= (λ more. table_of more rest))
           (fault_is (p ∷ rest) reached p ∙ none);
     }
 

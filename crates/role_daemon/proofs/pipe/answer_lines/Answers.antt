@@ -46,7 +46,8 @@ returns-then-not-branch-clause-ran g c =
 pub returns-then-not-branch-clause-device : goal.returns-then-not-branch-clause-device
 returns-then-not-branch-clause-device g c =
     let (ran, reads, writes) = c.loop-number.invariant in
-    finish_device _ _ _ _ _ _ _ _ _ _ tt (WentOn-trans writes c.in_ok-write_when_due.ensures.quiet) c.finish.ensures.ended
+    finish_device _ _ _ _ _ _ _ _ _ _ tt (WentOn-trans writes c.in_ok-write_when_due.ensures.quiet)
+    c.finish.ensures.ended
 
 pub loop-number-preserved : goal.loop-number-preserved
 loop-number-preserved g c =

@@ -18,5 +18,6 @@ returns-clause-decision c =
     let there = ap (λ ms. member_in ms c.args.name) c.deref_mut.ensures.value ∙ member in
     decision_is w c.args.name c.args.session c.args.user c.args.operation c.args.object c.check_at.result correct
     (c.check_at.ensures.verdict _ there)
-    ∙ ap (λ v. decision_due v.config v.liars v.run c.args.name c.args.session c.args.user c.args.operation c.args.object)
+    ∙ ap (λ v. decision_due v.config v.liars v.run c.args.name c.args.session c.args.user c.args.operation
+    c.args.object)
     c.self.view_is

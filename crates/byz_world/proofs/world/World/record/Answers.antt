@@ -5,7 +5,8 @@ use Rattle.byz_world.proofs.Recording.{IsRecorded, is_recorded_in}
 use Rattle.byz_world.proofs.world.World.record.Goals as goal
 
 recorded : (c : goal.After-note_sent) →
-    IsRecorded c.self.inside.config c.self.inside.liars c.args.self.now c.args.name c.args.event.now c.in_ok-entry.entry.reply
+    IsRecorded c.self.inside.config c.self.inside.liars c.args.self.now c.args.name c.args.event.now
+    c.in_ok-entry.entry.reply
     c.record_at.new.members.items c.note_name.new.order.items c.note_sent.new.sent.items
 recorded c =
     let a = c.self.inside in
