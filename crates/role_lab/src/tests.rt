@@ -1,6 +1,8 @@
 use super::*;
 use link_frames::{Faulty, Mishap};
 use std::alloc::Global;
+use std::process::Abort;
+use std::test::Fail;
 
 /// What a script of ample memory gives, and what it writes.
 fn outcome(alloc: Global, script: &str) -> (Result<(), ScriptFault>, Vec<u8>) {
@@ -52,7 +54,13 @@ const BYTES: Row = (
       L6 BadTag\nL3 Cluster\nL4 NotForMe\ncounted echo 4-7\nidle\n",
 );
 
-static SCRIPTS: [Row; 4] = [("", ""), SILENT, VOTES, BYTES];
+/// Four correct nodes deliver what one of them publishes.
+const FOUR: Row = (
+    "cluster 4 1\nrole 2 0\nissue 0 assign 7 2\nrest\nflush\nreach 0 0\nreach 3 0\nrest\nlist 3 users 2\n",
+    "sizes 3 2 3\nok\nissued 0 sent 0-3\nrest no\nflushed 36\nreach 1\nreach 1\nrest yes\nlist 7\n",
+);
+
+static SCRIPTS: [Row; 5] = [("", ""), SILENT, VOTES, BYTES, FOUR];
 
 #[test]
 fn scripts(rt: HostRuntime) {
@@ -113,4 +121,33 @@ fn failing_devices(rt: HostRuntime) {
             "read {call}: due a front of\n{due}came\n{came}"
         );
     }
+}
+
+/// Whether the script of four correct nodes ends well, into room that was made before. Else memory was wanting, and what
+/// was written is a front of what is due.
+fn ends_well(rt: &impl Abort, alloc: Global) -> Result<bool, Fail> {
+    let (script, due) = FOUR;
+    let mut written = match Vec::with_capacity(alloc, due.len()) {
+        Ok(written) => written,
+        Err(_) => Vec::with_capacity(alloc, due.len())?,
+    };
+    let result = run_script(
+        alloc,
+        &mut Watched::new(script.as_bytes()),
+        &mut Watched::new(&mut written),
+    );
+    let came = text_of(&written);
+    assert!(rt; due.starts_with(came), "due a front of\n{due}came\n{came}");
+    match result {
+        Ok(()) => Ok(came == due),
+        Err(ScriptFault::Memory) => Ok(false),
+        Err(_) => Err("another fault".into()),
+    }
+}
+
+#[test]
+fn a_script_ends_well_or_wants_memory(rt: HostRuntime) -> Result<(), Fail> {
+    let first = ends_well(&rt, rt.alloc())?;
+    assert!(rt; first || ends_well(&rt, rt.alloc())?);
+    Ok(())
 }

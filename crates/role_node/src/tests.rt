@@ -1,9 +1,9 @@
-ghost use Rattle.std.specs.Prelude.{◌<◌, IfOk};
+ghost use Rattle.std.specs.Prelude.{◌≡◌, ◌<◌, IfOk};
 
 use super::*;
 use link_frames::{Kind, Message, Packet, Place};
 use quorum_sizes::{NodeName, Sizes};
-use role_commands::{Command, RoleTable};
+use role_commands::{Command, RoleTable, TableFault};
 use role_sessions::SessionFault;
 use std::alloc::Global;
 use std::process::Abort;
@@ -109,7 +109,10 @@ fn config(alloc: Global, n: u8, f: u8, roles: u16, limit: u32) -> Result<Config,
     let mut table = RoleTable::new(alloc, Sizes::new(n, f)?);
     for role in 0..roles {
         let owner = if n > 1 && role % 2 == 1 { 1 } else { 0 };
-        table.add(role, owner)?;
+        match table.add(role, owner) {
+            Err(TableFault::Memory) => table.add(role, owner)?,
+            added => added?,
+        }
     }
     Ok(Config::new(1, table, limit).ok_or("no configuration")?)
 }
@@ -127,7 +130,40 @@ fn take(
     message: Message,
 ) -> Result<Result<Reply, NodeFault>, Fail> {
     let packet = Packet::new(from, to, message).ok_or("no packet")?;
-    Ok(node.apply(Event::Take(packet)))
+    apply(node, Event::Take(packet))
+}
+
+/// The answer to an event. Where memory is wanting nothing has changed, and the event is given once more.
+fn apply(node: &mut Node, event: Event) -> Result<Result<Reply, NodeFault>, Fail> {
+    let before = seen(node)?;
+    let came = node.apply(event);
+    if came != Err(NodeFault::Memory) {
+        return Ok(came);
+    }
+    if seen(node)? != before {
+        return Err("memory was wanting, and something changed".into());
+    }
+    Ok(node.apply(event))
+}
+
+/// What is seen of a node: how much it recorded, of node 0's stream, who has role 2, and a decision.
+fn seen(node: &mut Node) -> Result<(usize, Came, Option<Listed>, Verdict), Fail> {
+    let users = ask(node, Question::AssignedUsers(2));
+    let verdict = node.check(1, 7, 5, 9);
+    Ok((
+        node.history().len(),
+        stream(node, 0)?,
+        listed_one(&users),
+        verdict,
+    ))
+}
+
+/// The answer to a question, which is asked once more where memory is wanting.
+fn ask(node: &mut Node, question: Question) -> Result<Answer, AskFault> {
+    match node.ask(question) {
+        Err(AskFault::Memory) => node.ask(question),
+        answer => answer,
+    }
 }
 
 /// Takes its own packet of a message, and gives what it sends then.
@@ -140,7 +176,7 @@ fn take_own(node: &mut Node, message: Message) -> Result<Option<Message>, Fail> 
 
 /// Issues a command in a cluster of one node, which takes its own three packets.
 fn publish(node: &mut Node, command: Command) -> Result<bool, Fail> {
-    let Reply::Issued(send) = node.apply(Event::Issue(command))? else {
+    let Reply::Issued(send) = apply(node, Event::Issue(command))?? else {
         return Ok(false);
     };
     let mut message = Some(send);
@@ -153,7 +189,7 @@ fn publish(node: &mut Node, command: Command) -> Result<bool, Fail> {
     Ok(message == None)
 }
 
-fn fills_window(node: &mut Node) -> bool {
+fn fills_window(node: &mut Node) -> Result<bool, Fail> {
     for place in 0..64 {
         let send = Message {
             kind: Kind::Send,
@@ -161,11 +197,11 @@ fn fills_window(node: &mut Node) -> bool {
             place,
             command: FIRST,
         };
-        if node.apply(Event::Issue(FIRST)) != Ok(Reply::Issued(send)) {
-            return false;
+        if apply(node, Event::Issue(FIRST))? != Ok(Reply::Issued(send)) {
+            return Ok(false);
         }
     }
-    true
+    Ok(true)
 }
 
 fn activates_many_roles(node: &mut Node) -> Result<bool, Fail> {
@@ -181,7 +217,7 @@ fn activates_many_roles(node: &mut Node) -> Result<bool, Fail> {
             Err(NodeFault::Session(SessionFault::TooManyRoles))
         };
         let is_published = publish(node, Command::Assign { user: 7, role })?;
-        if !is_published || node.apply(Event::Client(activate)) != due {
+        if !is_published || apply(node, Event::Client(activate))? != due {
             return Ok(false);
         }
     }
@@ -254,9 +290,9 @@ fn came_of(node: &mut Node, step: &Step) -> Result<Came, Fail> {
             if node.records(&event) {
                 return Err("it would be recorded".into());
             }
-            Came::Answer(node.apply(event))
+            Came::Answer(apply(node, event)?)
         }
-        Step::Client(act, _) => Came::Answer(node.apply(Event::Client(*act))),
+        Step::Client(act, _) => Came::Answer(apply(node, Event::Client(*act))?),
         Step::Ready(from, owner, place, command, _) => {
             let message = ready(node, *owner, *place, *command)?;
             Came::Answer(take(node, name(node, *from)?, node.me(), message)?)
@@ -266,10 +302,10 @@ fn came_of(node: &mut Node, step: &Step) -> Result<Came, Fail> {
             Came::Answer(take(node, node.me(), name(node, 2)?, message)?)
         }
         Step::Check(session, user, _) => Came::Verdict(node.check(*session, *user, 5, 9)),
-        Step::Lists(question, _) => Came::Lists(listed_one(&node.ask(*question))),
+        Step::Lists(question, _) => Came::Lists(listed_one(&ask(node, *question))),
         Step::Stream(_, place, ..) => stream(node, *place)?,
         Step::Recorded(_) => Came::Recorded(node.history().len()),
-        Step::Window => Came::Holds(fills_window(node)),
+        Step::Window => Came::Holds(fills_window(node)?),
         Step::ManyRoles => Came::Holds(activates_many_roles(node)?),
     })
 }
@@ -292,7 +328,21 @@ fn run(rt: &impl Abort, node: &mut Node, steps: &[Step]) -> Result<(), Fail> {
 
 fn new_node(alloc: Global, config: Config, me: u8) -> Result<Node, Fail> {
     let me = config.roles().sizes().name(me).ok_or("no node")?;
-    Ok(Node::new(alloc, config, me)?)
+    let spare = copy_of(alloc, &config)?;
+    Ok(match Node::new(alloc, config, me) {
+        Ok(node) => node,
+        Err(_) => Node::new(alloc, spare, me)?,
+    })
+}
+
+/// A copy, which is made once more where memory is wanting.
+fn copy_of(alloc: Global, config: &Config) -> Result<Config, Fail>
+    ensures { IfOk result (λ copy. copy ≡ config.now) }
+{
+    Ok(match config.copy(alloc) {
+        Ok(copy) => copy,
+        Err(_) => config.copy(alloc)?,
+    })
 }
 
 /// From the start on.
@@ -361,7 +411,7 @@ static REFUSED: [Step; 6] = [
 #[test]
 fn refusals(rt: HostRuntime) -> Result<(), Fail> {
     let told = config(rt.alloc(), 4, 1, 4, 100)?;
-    let copy = told.copy(rt.alloc())?;
+    let copy = copy_of(rt.alloc(), &told)?;
     play(&rt, rt.alloc(), told, 0, &REFUSED)?;
     play(&rt, rt.alloc(), copy, 0, &REFUSED)
 }
