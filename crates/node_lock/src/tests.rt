@@ -3,7 +3,7 @@ ghost use Rattle.node_lock.specs.Inboxes.{IsPassTo};
 
 use super::*;
 use quorum_sizes::{NodeName, Sizes};
-use role_commands::{Command, RoleTable};
+use role_commands::{Command, RoleTable, TableFault};
 use role_node::{Answer, ClientEvent, Config, Event, Node, Question, Reply, Rule, Verdict};
 use std::alloc::Global;
 use std::marker::Brand;
@@ -12,6 +12,7 @@ use std::sync::Wait;
 use std::sync::atomic::{AtomicU32, Ordering};
 use std::sync::ledger::{Blank, Ledger};
 use std::test::Fail;
+use std::thread::Threads;
 
 const OPEN: Event = Event::Client(ClientEvent::Open { user: 7 });
 
@@ -39,7 +40,10 @@ fn config(alloc: Global, limit: u32) -> Result<(Config, NodeName), Fail>
         return Err("no node".into());
     }
     let mut table = RoleTable::new(alloc, sizes);
-    table.add(2, 0)?;
+    match table.add(2, 0) {
+        Err(TableFault::Memory) => table.add(2, 0)?,
+        added => added?,
+    }
     let config = Config::new(1, table, limit).ok_or("no configuration")?;
     Ok((config, me))
 }
@@ -394,11 +398,37 @@ fn two_workers_run_at_once(rt: HostRuntime) -> Result<(), Fail> {
 
 /// The calls that open a session for each of so many users.
 fn openings(alloc: Global, users: u32) -> Result<Vec<Call>, Fail> {
-    let mut calls = Vec::new(alloc);
+    let mut calls = match Vec::with_capacity(alloc, users as usize) {
+        Ok(calls) => calls,
+        Err(_) => Vec::with_capacity(alloc, users as usize)?,
+    };
     for user in 0..users {
         calls.push(Call::Step(Event::Client(ClientEvent::Open { user })))?;
     }
     Ok(calls)
+}
+
+/// Has two workers make two calls, and audits their receipts. False where memory was wanting, and nothing else.
+fn runs_two_calls<R: Threads + Wait + Abort + Sync>(rt: &R, alloc: Global) -> Result<bool, Fail> {
+    let (config, me) = config(alloc, 10)?;
+    let calls = openings(alloc, 2)?;
+    assert!(rt; calls.len() == 2);
+    match run_pool(rt, alloc, config, me, calls, 2, &NoGate) {
+        Ok(report) => match audit(alloc, &report.node, &report.receipts) {
+            Ok(()) => Ok(true),
+            Err(AuditFault::Memory) => Ok(false),
+            Err(_) => Err("the audit fails".into()),
+        },
+        Err(PoolFault::Memory | PoolFault::WorkerFailed(Cause::Memory)) => Ok(false),
+        Err(_) => Err("the pool fails".into()),
+    }
+}
+
+#[test]
+fn a_pool_ends_well_or_wants_memory(rt: HostRuntime) -> Result<(), Fail> {
+    let first = runs_two_calls(&rt, rt.alloc())?;
+    assert!(rt; first || runs_two_calls(&rt, rt.alloc())?);
+    Ok(())
 }
 
 /// The user for whom a receipt's call opens a session.
