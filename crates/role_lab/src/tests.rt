@@ -123,8 +123,8 @@ fn failing_devices(rt: HostRuntime) {
     }
 }
 
-/// Whether the script of four correct nodes ends well, into room that was made before. Else memory was wanting, and what
-/// was written is a front of what is due.
+/// Whether the script of four correct nodes ends well, into room that was made before. Else memory was wanting, and
+/// what was written is a front of what is due.
 fn ends_well(rt: &impl Abort, alloc: Global) -> Result<bool, Fail> {
     let (script, due) = FOUR;
     let mut written = match Vec::with_capacity(alloc, due.len()) {
