@@ -2,8 +2,11 @@
 
 pub(crate) const VERSION: u8 = 1;
 
+/// How many bytes a frame has.
+pub const FRAME_LEN: usize = 52;
+
 /// The bytes of a frame.
-pub(crate) const FRAME_LEN: usize = 52;
+pub type Frame = [u8; FRAME_LEN];
 
 pub(crate) const VERSION_AT: usize = 0;
 

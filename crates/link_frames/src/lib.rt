@@ -28,6 +28,7 @@ pub use faulty::{Faulty, Mishap};
 pub use hmac::hmac_sha256;
 pub use keys::{KeyFault, PairKeys};
 pub use kind::Kind;
+pub use layout::{FRAME_LEN, Frame};
 pub use next::Next;
 pub use opening::{LinkFault, open_frame};
 pub use packet::{Message, Packet, Place};

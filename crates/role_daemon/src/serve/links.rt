@@ -8,8 +8,7 @@ ghost use Rattle.role_daemon.specs.Linked.{ring_of, frame_due};
 ghost use Rattle.role_daemon.specs.Setups.{IsNodeSetup, IsServerSetup};
 
 use crate::cluster::Setup;
-use crate::serve::outbox::Frame;
-use link_frames::{KeyFault, Message, Packet, PairKeys, open_frame, seal};
+use link_frames::{Frame, KeyFault, Message, Packet, PairKeys, open_frame, seal};
 use quorum_sizes::{NodeName, Sizes};
 use std::alloc::{AllocError, Global};
 

@@ -1,6 +1,7 @@
 //! Frames that wait for a peer, and the connection by which they go.
 
 use crate::serve::waiting::{Awaited, Waiting};
+use link_frames::{FRAME_LEN, Frame};
 use quorum_sizes::NodeName;
 use std::alloc::{AllocError, Global};
 use std::collections::VecDeque;
@@ -9,11 +10,6 @@ use std::io::Write;
 use std::net::TcpStream;
 use std::sync::{Arc, Wait};
 use std::time::{Clock, Duration};
-
-/// The bytes of a frame.
-pub const FRAME_LEN: usize = 52;
-
-pub type Frame = [u8; FRAME_LEN];
 
 /// The most frames that wait for a peer.
 const MOST_FRAMES: usize = 1_024;
