@@ -6,16 +6,23 @@
         node.ask("assign", user=7, role=2)
         print(node.check(session=1, user=7, operation=5, object=9))
 
+As a program it makes cluster files, and puts a question to a node:
+
+    python3 examples/tundelca.py files FOLDER --nodes PORT.. --clients PORT.. --roles ROLE=OWNER.. --may-lie F
+    python3 examples/tundelca.py ask PORT OP [MEMBER=NUMBER ..]
+
 One file, and nothing beside Python 3.9 and its standard library. A node hears lines of JSON at its client port, one
 answer for each, and whoever reaches that port may say anything in any user's name: keep it behind a service of yours
 that knows its users (gateway.py).
 """
+import argparse
 import json
 import os
 import random
 import secrets
 import socket
 import subprocess
+import sys
 import time
 from dataclasses import dataclass
 from typing import Optional
@@ -227,3 +234,46 @@ def stop(port, process=None, patience=10.0):
     with Client(port, patience) as client:
         client.ask("stop")
     return None if process is None else process.wait(patience)
+
+
+def pair(word):
+    """A name and a number, as in `user=7`."""
+    name, number = word.split("=")
+    return name, int(number)
+
+
+def words():
+    """What the program is asked to do."""
+    parser = argparse.ArgumentParser(description="Makes cluster files, and puts a question to a node.")
+    steps = parser.add_subparsers(dest="step", required=True)
+    files = steps.add_parser("files", help="write a cluster file for each node, with new keys")
+    files.add_argument("folder")
+    files.add_argument("--nodes", type=int, nargs="+", required=True, metavar="PORT", help="where nodes take frames")
+    files.add_argument("--clients", type=int, nargs="+", required=True, metavar="PORT", help="where they take lines")
+    files.add_argument("--roles", type=pair, nargs="+", required=True, metavar="ROLE=OWNER")
+    files.add_argument("--may-lie", type=int, required=True, metavar="F", help="fewer than a third of the nodes")
+    files.add_argument("--cluster", type=int, default=1, metavar="NUMBER")
+    question = steps.add_parser("ask", help="put a question to a node and print the answer")
+    question.add_argument("port", type=int)
+    question.add_argument("op")
+    question.add_argument("members", type=pair, nargs="*", metavar="MEMBER=NUMBER")
+    return parser.parse_args()
+
+
+def main():
+    given = words()
+    if given.step == "files":
+        roles = [(int(role), owner) for role, owner in given.roles]
+        os.makedirs(given.folder, mode=0o700, exist_ok=True)
+        for path in cluster_files(given.folder, roles, given.nodes, given.clients, given.may_lie, given.cluster):
+            print(path)
+    else:
+        with Client(given.port) as node:
+            print(json.dumps(node.ask(given.op, **dict(given.members))))
+
+
+if __name__ == "__main__":
+    try:
+        main()
+    except NodeFault as fault:
+        sys.exit(f"tundelca: {fault}")
