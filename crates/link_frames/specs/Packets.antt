@@ -16,6 +16,10 @@ pub record PacketValue : Type 0 where
   pub place : ℕ
   pub command : Command
 
+-- the places of a stream are the numbers below this one
+abbrev pub place_count : ℕ
+place_count = 65536
+
 -- a SEND comes from its owner
 abbrev pub SentByOwner : PacketValue → Type 0
 SentByOwner p = p.kind ≡ Send → p.from ≡ p.owner
