@@ -99,6 +99,10 @@ class Client:
             raise Refused(request, answer)
         return answer
 
+    def clear(self, role):
+        """Ends all assignments and grants of the role, at the node that owns it. The place of the command."""
+        return self.ask("clear", role=role)["issued"]
+
     def open(self, user):
         """A new session of the user, at this node alone."""
         return self.ask("open", user=user)["session"]

@@ -2,8 +2,8 @@
 use Rattle.std.specs.Prelude.{ℕ, if◌then◌else◌, List, codes, Option, Some, None}
 use Rattle.std.specs.Str.{bytes_eq}
 use Rattle.client_lines.specs.declared.operation.Operation.{Operation}
-use Rattle.client_lines.specs.declared.operation.Operation.TheVariants.{Assign, Deassign, Grant, Revoke, Open, Activate}
-use Rattle.client_lines.specs.declared.operation.Operation.TheVariants.{Drop, Close, Check, AssignedUsers}
+use Rattle.client_lines.specs.declared.operation.Operation.TheVariants.{Assign, Deassign, Grant, Revoke, Clear, Open}
+use Rattle.client_lines.specs.declared.operation.Operation.TheVariants.{Activate, Drop, Close, Check, AssignedUsers}
 use Rattle.client_lines.specs.declared.operation.Operation.TheVariants.{AssignedRoles, RolePermissions, UserPermissions}
 use Rattle.client_lines.specs.declared.operation.Operation.TheVariants.{RoleOperations, UserOperations, SessionRoles}
 use Rattle.client_lines.specs.declared.operation.Operation.TheVariants.{SessionPermissions, Reach, Again, Stop}
@@ -14,6 +14,7 @@ operation_named name =
     else (if bytes_eq name (codes "deassign") then Some Deassign
     else (if bytes_eq name (codes "grant") then Some Grant
     else (if bytes_eq name (codes "revoke") then Some Revoke
+    else (if bytes_eq name (codes "clear") then Some Clear
     else (if bytes_eq name (codes "open") then Some Open
     else (if bytes_eq name (codes "activate") then Some Activate
     else (if bytes_eq name (codes "drop") then Some Drop
@@ -30,4 +31,4 @@ operation_named name =
     else (if bytes_eq name (codes "reach") then Some Reach
     else (if bytes_eq name (codes "again") then Some Again
     else (if bytes_eq name (codes "stop") then Some Stop
-    else None)))))))))))))))))))
+    else None))))))))))))))))))))

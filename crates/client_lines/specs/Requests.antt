@@ -102,6 +102,9 @@ request_of s operation.Grant line = do
 request_of s operation.Revoke line = do
   m ← role_operation_and_object line
   Ok (Issue (command.Revoke m.0 m.1 m.2))
+request_of s operation.Clear line = do
+  role ← role_of line
+  Ok (Issue (command.Clear role))
 request_of s operation.Open line = do
   user ← user_of line
   Ok (Client (act.Open user))

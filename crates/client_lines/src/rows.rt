@@ -26,6 +26,7 @@ pub fn request_of(sizes: &Sizes, operation: Operation, line: &Value) -> Result<R
         Operation::Deassign => deassign_of(line),
         Operation::Grant => grant_of(line),
         Operation::Revoke => revoke_of(line),
+        Operation::Clear => clear_of(line),
         Operation::Open => open_of(line),
         Operation::Activate => activate_of(line),
         Operation::Drop => drop_of(line),
@@ -87,6 +88,15 @@ fn revoke_of(line: &Value) -> Result<Request, LineFault>
         operation,
         object,
     }))
+}
+
+#[tactic(auto, unfolding(crate::specs::Requests::request_of))]
+fn clear_of(line: &Value) -> Result<Request, LineFault>
+    ensures value { (s : Counts) → result ≡ lines.request_of s operation.Clear (view line.now) }
+    ensures nodes { IfOk result (λ request. (s : Counts) → lines.NamesNodes s request) }
+{
+    let role = role_of(line)?;
+    Ok(Request::Issue(Command::Clear { role }))
 }
 
 #[tactic(auto, unfolding(crate::specs::Requests::request_of))]

@@ -30,10 +30,14 @@ fn requests(rt: HostRuntime) {
         role: 2,
     };
     let operations = Question::UserOperations { user: 7, object: 9 };
-    let cases: [(&[u8], Request); 4] = [
+    let cases: [(&[u8], Request); 5] = [
         (
             b"{\"op\":\"revoke\",\"role\":65535,\"operation\":5,\"object\":9}",
             Request::Issue(revoke),
+        ),
+        (
+            b"{\"op\":\"clear\",\"role\":2}",
+            Request::Issue(Command::Clear { role: 2 }),
         ),
         (
             b"{\"role\":2,\"user\":7,\"session\":18446744073709551615,\"op\":\"activate\"}",
@@ -57,7 +61,7 @@ fn requests(rt: HostRuntime) {
 #[test]
 fn refused_lines(rt: HostRuntime) {
     let user_range = LineFault::OutOfRange(Member::User);
-    let cases: [(&[u8], LineFault); 15] = [
+    let cases: [(&[u8], LineFault); 17] = [
         (b"", LineFault::NotJson),
         (b"\xff", LineFault::NotJson),
         (b"{\"op\":\"stop\"", LineFault::NotJson),
@@ -68,6 +72,11 @@ fn refused_lines(rt: HostRuntime) {
         (
             b"{\"op\":\"assign\",\"role\":-1}",
             LineFault::Missing(Member::User),
+        ),
+        (b"{\"op\":\"clear\"}", LineFault::Missing(Member::Role)),
+        (
+            b"{\"op\":\"clear\",\"role\":65536}",
+            LineFault::OutOfRange(Member::Role),
         ),
         (b"{\"op\":\"open\",\"user\":-1}", user_range),
         (b"{\"op\":\"open\",\"user\":\"7\"}", user_range),

@@ -7,12 +7,13 @@ use Rattle.std.proofs.KnownBytes.{Consumes-trans, Consumes-kept}
 use Rattle.std.specs.Io.KnownBytes.{Consumes, Keeps}
 use borrow.Rule.Slice.PartMut.{put_mid, post_of}
 use Rattle.link_frames.specs.FrameReads.{GavePart}
+use Rattle.link_frames.specs.Layout.{frame_len}
 use Rattle.link_frames.specs.Watching.{Tally, RoseBy, one_more}
 
 -- after so many reads that gave so many bytes
 pub record HasRead (before now : Option (List ℕ)) (old new : Tally) (reads have : ℕ) (frame : List ℕ) : Type 0 where
-  pub len : length frame ≡ 52
-  pub part : have < 52
+  pub len : length frame ≡ frame_len
+  pub part : have < frame_len
   pub gave : Consumes before now (take have frame)
   pub risen : RoseBy (reads - have) old.faults new.faults
   pub few : new.faults ≤ old.faults + reads
@@ -48,7 +49,7 @@ interrupted c last after h keeps faults breaks len front = record {
 pub gave_more : {a b : Option (List ℕ)} {old new : Tally} {reads have : ℕ} {frame : List ℕ}
     (c : Option (List ℕ)) (n : ℕ) (last : Tally) (after given : List ℕ) → HasRead a b old new reads have frame
     → Consumes b c given → last.faults ≡ new.faults
-    → last.breaks ≡ new.breaks → 0 < n → have + n < 52 → length after ≡ length frame
+    → last.breaks ≡ new.breaks → 0 < n → have + n < frame_len → length after ≡ length frame
     → take (have + n) after ≡ take have frame ++ given
     → HasRead a c old last (reads + 1) (have + n) after
 gave_more c n last after given h gave faults breaks some part len front = record {

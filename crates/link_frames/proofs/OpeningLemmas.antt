@@ -9,16 +9,17 @@ use Rattle.std.proofs.lemmas.Nat.{be_bytes_2, be_bytes_4, from_be_bytes-to_be_by
 use Rattle.std.proofs.lemmas.Slice.Eq.{bytes_eq-Decides}
 use Rattle.std.specs.Int.{w16, w32, to_be_bytes, from_be_bytes}
 use Rattle.sha2.proofs.Facts256.{length-sha256}
-use Rattle.role_commands.specs.Bytes.{bytes_of, part, IsBytes, command_in}
+use Rattle.role_commands.specs.Bytes.{bytes_of, part, IsBytes, command_in, command_length}
 use Rattle.link_frames.specs.Frames.{kind_byte, header, fields_of, frame, IsFrameFor}
 use Rattle.link_frames.specs.Hmac.{hmac}
 use Rattle.link_frames.specs.KeyRings.{KeyRing, key_with}
+use Rattle.link_frames.specs.Layout.{frame_len, tag_at, tag_len}
 use Rattle.link_frames.specs.Opening.{open_due}
 use Rattle.link_frames.specs.Packets.{PacketValue, SentByOwner}
 use Rattle.role_commands.proofs.Exported.{length-bytes_of, IsBytes-part, command_again, command_takes}
 use Rattle.link_frames.proofs.PacketReading.{demand_ok, demand_again, HasFields, packet_takes, packet_again}
 
-pub length-hmac : (key text : List ℕ) → length (hmac key text) ≡ 32
+pub length-hmac : (key text : List ℕ) → length (hmac key text) ≡ tag_len
 unfolding hmac
 length-hmac key text = length-sha256 _
 
@@ -40,10 +41,11 @@ both p q = cc
 -- ---- the fields
 
 -- bytes with a packet's fields begin with them
-fields_are : (cluster nodes sender receiver : ℕ) (bytes : List ℕ) (p : PacketValue) → IsBytes bytes → length bytes ≡ 52
+fields_are : (cluster nodes sender receiver : ℕ) (bytes : List ℕ) (p : PacketValue) → IsBytes bytes
+    → length bytes ≡ frame_len
     → get_or bytes 0 0 ≡ 1 → from_be_bytes w32 (part 1 4 bytes) ≡ cluster
     → get_or bytes 5 0 ≡ sender → get_or bytes 6 0 ≡ receiver → HasFields nodes sender receiver bytes p
-    → part 0 20 bytes ≡ fields_of cluster p
+    → part 0 tag_at bytes ≡ fields_of cluster p
 unfolding fields_of
 fields_are cluster nodes sender receiver bytes p fits len version cluster_is from to h =
     let four : to_be_bytes w32 cluster ≡ part 1 4 bytes =
@@ -53,7 +55,7 @@ fields_are cluster nodes sender receiver bytes p fits len version cluster_is fro
     be_bytes_2 (part 9 2 bytes) p.place (length-part 9 2 bytes (omega arith)) (IsBytes-part 9 2 bytes fits)
     (sym h.place) in
     let command = (command_takes (part 11 9 bytes) p.command (IsBytes-part 11 9 bytes fits) h.command).0 in
-    let one : (at n : ℕ) → at < 52 → get_or bytes at 0 ≡ n → part at 1 bytes ≡ n ∷ [] =
+    let one : (at n : ℕ) → at < frame_len → get_or bytes at 0 ≡ n → part at 1 bytes ≡ n ∷ [] =
     λ at n lt e. part-one at bytes (omega arith) ∙ ap (λ b. b ∷ []) e in
     part-add 0 1 19 bytes ∙ both (one 0 1 (omega arith) version)
     (part-add 1 4 15 bytes ∙ both (sym four)
@@ -89,16 +91,17 @@ open_takes ring cluster bytes p fits e =
     let f = demand_ok _ _ _ _ d.1 in
     let g = demand_ok _ _ _ _ f.1 in
     let sender = get_or bytes 5 0 in
-    let len : length bytes ≡ 52 = eqb-true _ _ a.0 in
+    let len : length bytes ≡ frame_len = eqb-true _ _ a.0 in
     let read = packet_takes ring.sizes.nodes sender ring.me bytes p g.1 in
     let fields = fields_are cluster ring.sizes.nodes sender ring.me bytes p fits len (eqb-true _ _ b.0)
     (eqb-true _ _ c.0) refl (eqb-true _ _ d.0) read in
-    let tag : part 20 32 bytes ≡ hmac (key_with ring sender) (part 0 20 bytes) = (bytes_eq-Decides _ _).0 g.0 in
-    let tag_is : part 20 32 bytes ≡ hmac (key_with ring p.from) (fields_of cluster p) =
-    tag ∙ ap (λ n. hmac (key_with ring n) (part 0 20 bytes)) (sym read.from)
+    let tag : part tag_at tag_len bytes ≡ hmac (key_with ring sender) (part 0 tag_at bytes) =
+    (bytes_eq-Decides _ _).0 g.0 in
+    let tag_is : part tag_at tag_len bytes ≡ hmac (key_with ring p.from) (fields_of cluster p) =
+    tag ∙ ap (λ n. hmac (key_with ring n) (part 0 tag_at bytes)) (sym read.from)
     ∙ ap (hmac (key_with ring p.from)) fields in
-    let whole : bytes ≡ part 0 20 bytes ++ part 20 32 bytes =
-    sym (take_all 52 bytes (omega arith)) ∙ part-add 0 20 32 bytes in
+    let whole : bytes ≡ part 0 tag_at bytes ++ part tag_at tag_len bytes =
+    sym (take_all frame_len bytes (omega arith)) ∙ part-add 0 tag_at tag_len bytes in
     let place = IsBytes-part 9 2 bytes fits in
     let command = command_takes (part 11 9 bytes) p.command (IsBytes-part 11 9 bytes fits) read.command in
     record {
@@ -110,7 +113,8 @@ open_takes ring cluster bytes p fits e =
     }
 
 -- the fields of a packet to the ring's node and their tag
-opens : (ring : KeyRing) (cluster : ℕ) (p : PacketValue) (command tag : List ℕ) → length command ≡ 9 → length tag ≡ 32
+opens : (ring : KeyRing) (cluster : ℕ) (p : PacketValue) (command tag : List ℕ) → length command ≡ command_length
+    → length tag ≡ tag_len
     → command_in command ≡ Some p.command
     → tag ≡ hmac (key_with ring p.from) (header cluster p ++ command) → cluster < 2 ^ 32 → p.place < 2 ^ 16
     → SentByOwner p
@@ -119,12 +123,13 @@ opens : (ring : KeyRing) (cluster : ℕ) (p : PacketValue) (command tag : List �
 unfolding open_due
 opens ring cluster p command tag nine long is_command is_tag in_cluster in_place by_owner to from owner =
     let bytes = header cluster p ++ (command ++ tag) in
-    let len : length bytes ≡ 52 = omega (arith, length-append command tag) in
+    let len : length bytes ≡ frame_len = omega (arith, length-append command tag) in
     let command_part : part 11 9 bytes ≡ command = take_at command tag 9 nine in
-    let tag_part : part 20 32 bytes ≡ tag = ap (take 32) (drop_at command tag 9 nine) ∙ take_all 32 tag (omega arith) in
-    let fields_part : part 0 20 bytes ≡ header cluster p ++ command =
+    let tag_part : part tag_at tag_len bytes ≡ tag =
+    ap (take tag_len) (drop_at command tag 9 nine) ∙ take_all tag_len tag (omega arith) in
+    let fields_part : part 0 tag_at bytes ≡ header cluster p ++ command =
     ap (λ l. header cluster p ++ l) (take_at command tag 9 nine) in
-    let right_tag : part 20 32 bytes ≡ hmac (key_with ring p.from) (part 0 20 bytes) =
+    let right_tag : part tag_at tag_len bytes ≡ hmac (key_with ring p.from) (part 0 tag_at bytes) =
     tag_part ∙ is_tag ∙ ap (hmac (key_with ring p.from)) (sym fields_part) in
     let fields : HasFields ring.sizes.nodes p.from ring.me bytes p = record {
       from = refl;

@@ -83,7 +83,7 @@ own Send b h = ap not (h refl)
 own Echo b h = refl
 own Ready b h = refl
 
-due_takes : (from to : ℕ) (m : Message) (p : PacketValue) → packet_due from to m ≡ Some p
+pub due_takes : (from to : ℕ) (m : Message) (p : PacketValue) → packet_due from to m ≡ Some p
     → (packet_of from to m ≡ p) × SentByOwner p
 unfolding relayed
 due_takes from to m p e = go (relayed m.kind (eqb from m.owner)) refl e
@@ -99,7 +99,7 @@ due_takes from to m p e = go (relayed m.kind (eqb from m.owner)) refl e
 eqb_same : (n : ℕ) → eqb n n ≡ true
 eqb_same n = eq-eqb n n refl
 
-due_again : (p : PacketValue) → SentByOwner p → packet_due p.from p.to (message_of p) ≡ Some p
+pub due_again : (p : PacketValue) → SentByOwner p → packet_due p.from p.to (message_of p) ≡ Some p
 unfolding relayed
 due_again p h =
     let free : relayed p.kind (eqb p.from p.owner) ≡ false =

@@ -1,5 +1,5 @@
 -- Packets: a message of the broadcast from one node to another.
-use Rattle.std.specs.Prelude.{◌≡◌, ℕ, ◌^◌, ◌<◌, ◌==◌, not, ◌&&◌, if◌then◌else◌, Option, Some, None}
+use Rattle.std.specs.Prelude.{◌≡◌, ℕ, ◌<◌, ◌==◌, not, ◌&&◌, if◌then◌else◌, Option, Some, None}
 use Rattle.role_commands.specs.Words.{IsCommand}
 use Rattle.role_commands.specs.declared.command.Command.{Command}
 use Rattle.link_frames.specs.Kinds.{same_kind}
@@ -16,13 +16,21 @@ pub record PacketValue : Type 0 where
   pub place : ℕ
   pub command : Command
 
+-- the places of a stream are the numbers below this one
+abbrev pub place_count : ℕ
+place_count = 65536
+
 -- a SEND comes from its owner
 abbrev pub SentByOwner : PacketValue → Type 0
 SentByOwner p = p.kind ≡ Send → p.from ≡ p.owner
 
--- what each packet keeps: places have 16 bits, and the command's numbers are within their widths
+-- a SEND comes from its owner, and the place is one of a stream
+abbrev pub IsSound : PacketValue → Type 0
+IsSound p = SentByOwner p × (p.place < place_count)
+
+-- what each packet keeps: it is sound, and the command's numbers are within their widths
 abbrev pub IsPacket : PacketValue → Type 0
-IsPacket p = SentByOwner p × (p.place < 2 ^ 16) × IsCommand p.command
+IsPacket p = SentByOwner p × (p.place < place_count) × IsCommand p.command
 
 abbrev pub packet_of : ℕ → ℕ → Message → PacketValue
 packet_of from to m = record {

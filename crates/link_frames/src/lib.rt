@@ -31,7 +31,7 @@ pub use kind::Kind;
 pub use layout::{FRAME_LEN, Frame};
 pub use next::Next;
 pub use opening::{LinkFault, open_frame};
-pub use packet::{Message, Packet, Place};
+pub use packet::{Message, PLACES, Packet, Place};
 pub use reading::{ReadFault, read_frame};
 pub use sealing::seal;
 pub use watched::Watched;

@@ -1,6 +1,7 @@
 ghost use Rattle.std.specs.Prelude.{◌≡◌, ◌+◌, ◌<◌, ◌≤◌, length, IfOk};
 ghost use Rattle.std.specs.Str.{bytes_eq};
 ghost use Rattle.link_frames.specs.Frames.{IsFrameFor};
+ghost use Rattle.link_frames.specs.Layout.{frame_len};
 ghost use Rattle.role_commands.specs.Bytes.{part};
 ghost use Rattle.link_frames.specs.Opening.{kind_in, packet_in, open_due};
 ghost use Rattle.link_frames.specs.Packets.{PacketValue};
@@ -142,7 +143,7 @@ fn read_packet(
     to: NodeName,
     bytes: &[u8],
 ) -> Result<Packet, LinkFault>
-    requires { length bytes.now ≡ 52 }
+    requires { length bytes.now ≡ frame_len }
     ensures { result ≡ packet_in sizes.now.nodes from to bytes.now }
 {
     let kind = read_kind(bytes[KIND_AT]).ok_or(LinkFault::BadKind)?;

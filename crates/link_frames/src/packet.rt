@@ -9,6 +9,11 @@ use std::marker::Model;
 /// A place in an owner's stream of commands.
 pub type Place = u16;
 
+/// The number of places of a stream: its places are the numbers below.
+pub const PLACES: u32 = 65_536;
+
+const _: () = prove!(PLACES == Place::MAX as u32 + 1);
+
 /// A message of the broadcast: a command at a place of its owner's stream.
 #[derive(Clone, Copy, Debug, PartialEq, Eq, Hash)]
 pub struct Message {

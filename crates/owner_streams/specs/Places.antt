@@ -6,10 +6,7 @@ use Rattle.quorum_sizes.specs.Sizes.{Counts}
 use Rattle.role_commands.specs.declared.command.Command.{Command}
 use Rattle.link_frames.specs.Packets.{PacketValue}
 use Rattle.bracha_instance.specs.Broadcast.{Take, delivered}
-
--- the places of a stream are the numbers below this one
-abbrev pub place_count : ℕ
-place_count = 65536
+pub use Rattle.link_frames.specs.Packets.{place_count}
 
 -- so many places from the end of the stream on are open
 abbrev pub window : ℕ

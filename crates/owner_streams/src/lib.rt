@@ -9,7 +9,8 @@ mod owner_stream;
 mod steps;
 mod streams;
 
-pub use owner_stream::{PLACES, WINDOW};
+pub use link_frames::PLACES;
+pub use owner_stream::WINDOW;
 pub use steps::{Again, StreamFault, StreamStep};
 pub use streams::Streams;
 

@@ -20,11 +20,6 @@ use quorum_sizes::Sizes;
 use role_commands::Command;
 use std::alloc::{AllocError, Global};
 
-/// The number of places of a stream: its places are the numbers below.
-pub const PLACES: u32 = 65_536;
-
-const _: () = prove!(PLACES == Place::MAX as u32 + 1);
-
 /// So many places from the reach of a stream on are taken. A packet further away is refused.
 pub const WINDOW: u32 = 64;
 

@@ -3,7 +3,7 @@ use Rattle.std.proofs.Common.{◌≡◌, ℕ, Bool, true, false, not, ◌&&◌, 
 use Rattle.std.proofs.Common.{◌==◌, None, Some, unwrap_or, refl, sym, ap, ◌∙◌}
 use Rattle.std.specs.Prelude.{if◌then◌else◌}
 use Rattle.std.specs.FinSet as set
-use Rattle.role_commands.specs.declared.command.Command.TheVariants.{Assign, Deassign, Grant, Revoke}
+use Rattle.role_commands.specs.declared.command.Command.TheVariants.{Assign, Deassign, Grant, Revoke, Clear}
 use Rattle.rbac_state.specs.Assignments.{owns}
 use Rattle.rbac_state.specs.Policies.{PolicyValue, IsApplied, assigned_in, granted_in}
 
@@ -63,4 +63,16 @@ applied-Revoke node r p b old new owned table assignments granted = record {
       granted operation object role
       ∙ sym
       (rw owned (said_no ((operation == p) && (object == b) && (role == r)) (granted_in old operation object role)));
+}
+
+pub applied-Clear : (node r : ℕ) (old new : PolicyValue) → owns old.table node r ≡ true → new.table ≡ old.table →
+    ((user role : ℕ) → assigned_in new user role ≡ (not (role == r) && assigned_in old user role)) →
+    ((operation object role : ℕ) → granted_in new operation object role
+    ≡ (not (role == r) && granted_in old operation object role)) →
+    IsApplied node (Clear r) old new
+applied-Clear node r old new owned table assigned granted = record {
+  table = table;
+  assigned = λ user role. assigned user role ∙ sym (rw owned (said_no (role == r) (assigned_in old user role)));
+  granted = λ operation object role.
+      granted operation object role ∙ sym (rw owned (said_no (role == r) (granted_in old operation object role)));
 }

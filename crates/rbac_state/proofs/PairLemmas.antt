@@ -62,6 +62,26 @@ module _ {K : Type 0} {R : K → K → Ordering} (o : IsTotalOrder R) where
   contains-take_away old new q a b e taken =
       set.contains-from_list o new q ∙ taken ∙ (λ i. not (e i) && sym (set.contains-from_list o old q) i)
 
+role_ties : (role r : ℕ) → eq_by_cmp nat_cmp role r ≡ (role == r)
+role_ties role r = sym (unsigned_ties role r)
+
+-- after all pairs of a role were taken away
+pub assigned-clear : (old new : List (ℕ × ℕ)) (r user role : ℕ) →
+    is_among assignment_cmp new (user, role)
+    ≡ (not (eq_by_cmp nat_cmp role r) && is_among assignment_cmp old (user, role)) →
+    set.contains (set.from_list {R = assignment_cmp} new) (user, role)
+    ≡ (not (role == r) && set.contains (set.from_list {R = assignment_cmp} old) (user, role))
+assigned-clear old new r user role taken =
+    contains-take_away assignments_total old new (user, role) _ _ (role_ties role r) taken
+
+pub granted-clear : (old new : List ((ℕ × ℕ) × ℕ)) (r operation object role : ℕ) →
+    is_among grant_cmp new ((operation, object), role)
+    ≡ (not (eq_by_cmp nat_cmp role r) && is_among grant_cmp old ((operation, object), role)) →
+    set.contains (set.from_list {R = grant_cmp} new) ((operation, object), role)
+    ≡ (not (role == r) && set.contains (set.from_list {R = grant_cmp} old) ((operation, object), role))
+granted-clear old new r operation object role taken =
+    contains-take_away grants_total old new ((operation, object), role) _ _ (role_ties role r) taken
+
 module _ (old new : List (ℕ × ℕ)) (u r user role : ℕ) where
   abbrev IsSame : Bool
   IsSame = eq_by_cmp nat_cmp user u && eq_by_cmp nat_cmp role r

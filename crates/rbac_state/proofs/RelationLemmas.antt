@@ -1,5 +1,6 @@
 -- A relation that is kept both ways: what a pair put or taken away leaves, and what its parts list.
-use Rattle.std.proofs.Common.{◌≡◌, Bool, true, false, ◌&&◌, cond, List, [], ◌∷◌, refl, sym, ap, ◌∙◌, subst, filter, map}
+use Rattle.std.proofs.Common.{◌≡◌, Bool, true, false, not, ◌&&◌, cond, List, [], ◌∷◌, refl, sym, ap, ◌∙◌}
+use Rattle.std.proofs.Common.{subst, filter, map}
 use Rattle.std.specs.Prelude.{IsTrue, ◌↔◌, Contains}
 use Rattle.std.specs.declared.cmp.Ordering.{Ordering}
 use Rattle.std.specs.declared.cmp.Ordering.TheVariants.{Less, Equal, Greater}
@@ -8,9 +9,11 @@ use Rattle.std.specs.List.{AllByRecursion}
 use Rattle.std.specs.List.Sorted.{IsStrictlySortedBy}
 use Rattle.std.specs.Cmp.{IsTotalOrder, Equal-is}
 use Rattle.std.proofs.lemmas.Cmp.{eq_by_cmp_equiv, then_total, on_total}
+use Rattle.std.proofs.lemmas.List.Kept.{IsStrictlySortedBy-filter}
 use Rattle.std.proofs.lemmas.Map.Lookups.{CmpEqualImpliesEq, exact_pairs}
 use Rattle.std.proofs.lemmas.Map.Views.{any-filter_same, Contains-from_any, list_any-from_Contains, tells_apart}
-use Rattle.rbac_state.specs.Relations.{pair_cmp, is_among}
+use Rattle.rbac_state.specs.Relations.{pair_cmp, is_among, relates, IsKeptBothWays}
+use Rattle.rbac_state.specs.declared.relation.Relation.{Relation}
 use Rattle.rbac_state.proofs.Members.{picked_from, picked_into}
 
 pub pair_tied : (u v : Ordering) → is_eq (ordering_then u v) ≡ (is_eq u && is_eq v)
@@ -26,6 +29,14 @@ and_comm false false = refl
 
 pub turned : (u v : Ordering) → is_eq (ordering_then u v) ≡ is_eq (ordering_then v u)
 turned u v = pair_tied u v ∙ and_comm (is_eq u) (is_eq v) ∙ sym (pair_tied v u)
+
+last_true : (a b : Bool) → (a && b) ≡ true → b ≡ true
+last_true true b e = e
+last_true false b e = cc
+
+first_true : (a b : Bool) → (a && b) ≡ true → a ≡ true
+first_true true b e = refl
+first_true false b e = cc
 
 level_less : (u v : Ordering) → u ≡ Equal → ordering_then u v ≡ Less → v ≡ Less
 level_less u v e less = sym (ap (λ w. ordering_then w v) e) ∙ less
@@ -59,6 +70,46 @@ module _ {A B : Type 0} {R : A → A → Ordering} (S : B → B → Ordering) (o
         | true ↦ λ same. (later_seconds a p ps up.0 same, seconds_ascend a ps up.1)
         | false ↦ λ _. seconds_ascend a ps up.1
       ] refl
+
+module _ {A B : Type 0} (R : A → A → Ordering) {S : B → B → Ordering} (o : IsTotalOrder S) where
+  alike : (b : B) (second other : B) → eq_by_cmp S b other ≡ true →
+      not (eq_by_cmp S other second) ≡ not (eq_by_cmp S b second)
+  alike b second other e = ap (λ v. not (is_eq v)) (sym (o.congr b other second ((Equal-is (S b other)).0 e)))
+
+  -- what is left without the pairs of a second
+  pub among_others : (second : B) (ps : List (A × B)) (a : A) (b : B) →
+      is_among (pair_cmp R S) (filter (λ p. not (eq_by_cmp S p.1 second)) ps) (a, b)
+      ≡ (not (eq_by_cmp S b second) && is_among (pair_cmp R S) ps (a, b))
+  among_others second ps a b =
+      any-filter_same (eq_by_cmp (pair_cmp R S) (a, b)) (λ p. not (eq_by_cmp S p.1 second)) (not (eq_by_cmp S b second))
+      (λ p e. alike b second p.1 (last_true _ _ (sym (pair_tied (R a p.0) (S b p.1)) ∙ e))) ps
+
+  -- the same of the pairs turned
+  pub among_turned_others : (second : B) (ps : List (B × A)) (a : A) (b : B) →
+      is_among (pair_cmp S R) (filter (λ p. not (eq_by_cmp S p.0 second)) ps) (b, a)
+      ≡ (not (eq_by_cmp S b second) && is_among (pair_cmp S R) ps (b, a))
+  among_turned_others second ps a b =
+      any-filter_same (eq_by_cmp (pair_cmp S R) (b, a)) (λ p. not (eq_by_cmp S p.0 second)) (not (eq_by_cmp S b second))
+      (λ p e. alike b second p.0 (first_true _ _ (sym (pair_tied (S b p.0) (R a p.1)) ∙ e))) ps
+
+  -- a relation without the pairs of a second
+  module _ (old new : Relation A B) (second : B)
+      (by_first : new.by_first.items ≡ filter (λ p. not (eq_by_cmp S p.1 second)) old.by_first.items) where
+    pub relates_others : (a : A) (b : B) → relates R S new a b ≡ (not (eq_by_cmp S b second) && relates R S old a b)
+    relates_others a b =
+        ap (λ l. is_among (pair_cmp R S) l (a, b)) by_first ∙ among_others second old.by_first.items a b
+
+    pub kept_without : new.by_second.items ≡ filter (λ p. not (eq_by_cmp S p.0 second)) old.by_second.items
+        → IsKeptBothWays R S old → IsKeptBothWays R S new
+    kept_without by_second kept = record {
+      by_first = subst (IsStrictlySortedBy (pair_cmp R S)) (sym by_first)
+          (IsStrictlySortedBy-filter (pair_cmp R S) _ _ kept.by_first);
+      by_second = subst (IsStrictlySortedBy (pair_cmp S R)) (sym by_second)
+          (IsStrictlySortedBy-filter (pair_cmp S R) _ _ kept.by_second);
+      same = λ a b.
+          ap (λ l. is_among (pair_cmp S R) l (b, a)) by_second ∙ among_turned_others second old.by_second.items a b
+          ∙ ap (λ x. not (eq_by_cmp S b second) && x) (kept.same a b) ∙ sym (relates_others a b);
+    }
 
 module _ {A B : Type 0} {R : A → A → Ordering} {S : B → B → Ordering} (o : IsTotalOrder R) (ob : IsTotalOrder S)
     (exact : CmpEqualImpliesEq R) (exact_second : CmpEqualImpliesEq S) where

@@ -10,7 +10,7 @@ use Rattle.std.proofs.lemmas.Map.Views.{exact_unsigned_eq}
 use Rattle.role_commands.specs.Tables.{Table}
 use Rattle.role_commands.specs.Rules.{role_of}
 use Rattle.role_commands.specs.declared.command.Command.{Command}
-use Rattle.role_commands.specs.declared.command.Command.TheVariants.{Assign, Deassign, Grant, Revoke}
+use Rattle.role_commands.specs.declared.command.Command.TheVariants.{Assign, Deassign, Grant, Revoke, Clear}
 use Rattle.rbac_state.specs.Says.{says_of_user, says_of_permission}
 use Rattle.rbac_state.specs.Assignments.{last_said, owner_said, with_command, owns, said_by}
 
@@ -34,6 +34,7 @@ says_of_user-concerns user role (Assign u r) = of_role (user == u) role r true
 says_of_user-concerns user role (Deassign u r) = of_role (user == u) role r false
 says_of_user-concerns user role (Grant r p b) = inl refl
 says_of_user-concerns user role (Revoke r p b) = inl refl
+says_of_user-concerns user role (Clear r) = of_role true role r false
 
 pub says_of_permission-concerns : (operation object role : ℕ) → Concerns role (says_of_permission operation object role)
 says_of_permission-concerns operation object role (Assign u r) = inl refl
@@ -42,6 +43,7 @@ says_of_permission-concerns operation object role (Grant r p b) =
     of_role ((operation == p) && (object == b)) role r true
 says_of_permission-concerns operation object role (Revoke r p b) =
     of_role ((operation == p) && (object == b)) role r false
+says_of_permission-concerns operation object role (Clear r) = of_role true role r false
 
 last_or-push : {A : Type 0} (o : Option A) (xs : List A) (x : A) → last_or o (xs ++ x ∷ []) ≡ Some x
 last_or-push o [] x = refl

@@ -87,8 +87,9 @@ impl Policy {
         self.assigned.room().min(self.granted.room())
     }
 
-    /// Applies the next command of a node's stream. It changes the one pair that it names, where the
-    /// node is the owner of its role, and has no effect elsewhere. It takes no memory.
+    /// Applies the next command of a node's stream. It changes the one pair that it names, or takes
+    /// away all pairs of the role, where the node is the owner of its role, and has no effect
+    /// elsewhere. It takes no memory.
     pub fn apply(&mut self, owner: NodeName, command: Command)
         requires { 0 < self.old.room }
         ensures applied { IsApplied owner command self.old self.new }
@@ -110,6 +111,10 @@ impl Policy {
                 operation,
                 object,
             } => self.granted.take_away((operation, object), role),
+            Command::Clear { role } => {
+                self.assigned.take_away_second(role);
+                self.granted.take_away_second(role);
+            }
         }
     }
 

@@ -76,6 +76,26 @@ impl<A: Ord + Copy + Drop, B: Ord + Copy + Drop> Relation<A, B> {
         sorted::take_away(&mut self.by_second, &(second, first));
     }
 
+    /// Takes away all pairs of this second. It takes no memory.
+    pub fn take_away_second(&mut self, second: B)
+        requires { IsKeptBothWays A.cmp B.cmp self.old }
+        ensures kept { IsKeptBothWays A.cmp B.cmp self.new }
+        ensures members { (a : A) (b : B) → relates A.cmp B.cmp self.new a b
+            ≡ (not (eq_by_cmp B.cmp b second) && relates A.cmp B.cmp self.old a b) }
+        ensures room { room_of self.old ≤ room_of self.new }
+    {
+        self.by_first.retain(
+            |pair: &(A, B)| -> bool
+                ensures { result ≡ not (eq_by_cmp B.cmp pair.now.1 second) }
+            { pair.1.cmp(&second).is_ne() },
+        );
+        self.by_second.retain(
+            |pair: &(B, A)| -> bool
+                ensures { result ≡ not (eq_by_cmp B.cmp pair.now.0 second) }
+            { pair.0.cmp(&second).is_ne() },
+        );
+    }
+
     /// Whether the pair is in the relation.
     pub fn has(&self, first: A, second: B) -> bool
         requires { IsKeptBothWays A.cmp B.cmp self.now }

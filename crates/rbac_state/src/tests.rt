@@ -187,6 +187,27 @@ fn pairs_taken_away(rt: HostRuntime) -> Result<(), Fail> {
     list_all(&rt, &with_pairs_taken_away(rt.alloc())?, &LEFT)
 }
 
+static CLEARED: [Listing; 5] = [
+    Listing::Users(2, &[]),
+    Listing::RolePermissions(2, &[]),
+    Listing::Roles(7, &[3]),
+    Listing::Users(3, &[7]),
+    Listing::RolePermissions(3, &[(5, 9)]),
+];
+
+#[test]
+fn a_role_is_cleared_by_its_owner(rt: HostRuntime) -> Result<(), Fail> {
+    let clear = Command::Clear { role: 2 };
+    let mut policy = example(rt.alloc())?;
+    apply_all(&mut policy, &[(1, clear)])?;
+    list_all(&rt, &policy, &OF_THE_OWNER)?;
+    apply_all(
+        &mut policy,
+        &[(0, assign(7, 3)), (0, grant(3, 5, 9)), (0, clear)],
+    )?;
+    list_all(&rt, &policy, &CLEARED)
+}
+
 static ASCENDING: [Listing; 4] = [
     Listing::Users(3, &[7, 70_000]),
     Listing::Roles(7, &[2, 3]),

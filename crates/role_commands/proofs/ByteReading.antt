@@ -11,7 +11,7 @@ use Rattle.std.proofs.lemmas.Nat.{from_be_bytes-to_be_bytes_2, from_be_bytes-to_
 use Rattle.role_commands.specs.Bytes.{bytes_of, part, IsBytes, tagged, command_in}
 use Rattle.role_commands.specs.Words.{IsCommand}
 use Rattle.role_commands.specs.declared.command.Command.{Command}
-use Rattle.role_commands.specs.declared.command.Command.TheVariants.{Assign, Deassign, Grant, Revoke}
+use Rattle.role_commands.specs.declared.command.Command.TheVariants.{Assign, Deassign, Grant, Revoke, Clear}
 
 pub IsBytes-part : (at n : ℕ) (bytes : List ℕ) → IsBytes bytes → IsBytes (part at n bytes)
 IsBytes-part at n bytes h i =
@@ -53,6 +53,8 @@ command_again (Revoke role operation object) fits =
       from_be_bytes-to_be_bytes_4 object fits.2,
       bytes_same (bytes_of (Revoke role operation object)),
     ) refl
+command_again (Clear role) fits =
+    rw (from_be_bytes-to_be_bytes_2 role fits, bytes_same (bytes_of (Clear role))) refl
 
 spelled : (bytes : List ℕ) (read : Option Command) (c : Command)
     → option_and_then (λ d. cond (bytes_eq bytes (bytes_of d)) (Some d) None) read ≡ Some c
@@ -79,7 +81,8 @@ tagged_fits tag role party operation hr hp ho =
     chosen_fits (eqb tag 1) (Some (Assign party role)) _ IsCommand assign
     (chosen_fits (eqb tag 2) (Some (Deassign party role)) _ IsCommand assign
     (chosen_fits (eqb tag 3) (Some (Grant role operation party)) _ IsCommand grant
-    (chosen_fits (eqb tag 4) (Some (Revoke role operation party)) None IsCommand grant tt)))
+    (chosen_fits (eqb tag 4) (Some (Revoke role operation party)) _ IsCommand grant
+    (chosen_fits (eqb tag 5) (Some (Clear role)) None IsCommand hr tt))))
 
 -- what is read as a command is the command's bytes
 pub command_takes : (bytes : List ℕ) (c : Command) → IsBytes bytes → command_in bytes ≡ Some c

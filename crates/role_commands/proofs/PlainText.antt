@@ -10,7 +10,7 @@ use Rattle.std.specs.Fmt.{decimal}
 use Rattle.std.specs.Str.{IsAscii}
 use Rattle.role_commands.specs.Words.{spelling, IsCommand}
 use Rattle.role_commands.specs.declared.command.Command.{Command}
-use Rattle.role_commands.specs.declared.command.Command.TheVariants.{Assign, Deassign, Grant, Revoke}
+use Rattle.role_commands.specs.declared.command.Command.TheVariants.{Assign, Deassign, Grant, Revoke, Clear}
 
 -- as a record, so that the text is found from the fact
 pub record Ascii (text : List ℕ) : Type 0 where
@@ -50,3 +50,4 @@ command_text (Grant r p b) is =
 command_text (Revoke r p b) is =
     word_text (codes "revoke") refl then space then number r (omega arith)
     then space then number p (omega arith) then space then number b (omega arith)
+command_text (Clear r) is = word_text (codes "clear") refl then space then number r (omega arith)

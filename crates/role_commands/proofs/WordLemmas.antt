@@ -10,9 +10,9 @@ use Rattle.role_commands.specs.Laws.{CommandsAreRead, CommandsAreSpelled, Spelli
 use Rattle.role_commands.specs.Numbers.{is_space, wide_number, narrow_number}
 use Rattle.role_commands.specs.Reading.{user_and_role, operation_and_object}
 use Rattle.role_commands.specs.Reading.{role_and_permission, named_command, command_of}
-use Rattle.role_commands.specs.Words.{spelling, IsCommand, two_words, three_words}
+use Rattle.role_commands.specs.Words.{spelling, IsCommand, one_word, two_words, three_words}
 use Rattle.role_commands.specs.declared.command.Command.{Command}
-use Rattle.role_commands.specs.declared.command.Command.TheVariants.{Assign, Deassign, Grant, Revoke}
+use Rattle.role_commands.specs.declared.command.Command.TheVariants.{Assign, Deassign, Grant, Revoke, Clear}
 use Rattle.role_commands.proofs.Choosing.{if_else, mapped}
 use Rattle.role_commands.proofs.NumberLemmas.{wide_read, narrow_read, wide_spelled, narrow_spelled}
 use Rattle.role_commands.proofs.Splitting.{split_word-decimal, split_word-word, split_word-joined}
@@ -46,6 +46,9 @@ command_of-front : (name numbers : List ℕ) → position_or_len is_space name �
 unfolding command_of
 command_of-front name numbers e = rw (split_word-word name numbers e) refl
 
+pub one_word-grouped : (name : List ℕ) (a : ℕ) → one_word name a ≡ name ++ (32 ∷ decimal a)
+one_word-grouped name a = simp append_assoc
+
 pub two_words-grouped : (name : List ℕ) (a b : ℕ) → two_words name a b ≡ name ++ (32 ∷ (decimal a ++ (32 ∷ decimal b)))
 two_words-grouped name a b = simp append_assoc
 
@@ -68,6 +71,9 @@ command_of-spelling (Revoke role operation object) is =
     ap command_of (three_words-grouped (codes "revoke") role operation object)
     ∙ command_of-front (codes "revoke") _ refl
     ∙ rw (role_and_permission_read role operation object is.0 is.1 is.2) refl
+command_of-spelling (Clear role) is =
+    ap command_of (one_word-grouped (codes "clear") role) ∙ command_of-front (codes "clear") _ refl
+    ∙ rw (narrow_read role is) refl
 
 -- ---- writing what was read
 
@@ -135,6 +141,18 @@ SpellTriples word make =
     × IsCommand (make role operation object)
 
 module _ (name numbers : List ℕ) (c : Command) where
+  named_clear : bytes_eq name (codes "clear") ≡ true → option_map Clear (narrow_number numbers) ≡ Some c
+      → Named name numbers c
+  unfolding Named
+  named_clear same e =
+      let (role, read, made) = mapped Clear (narrow_number numbers) c e in
+      let (joined, narrow) = narrow_spelled role numbers read in
+      let is : name ≡ codes "clear" = (bytes_eq-Decides name (codes "clear")).0 same in
+      let text : name ++ (32 ∷ numbers) ≡ spelling (Clear role) =
+      ap (λ m. m ++ (32 ∷ numbers)) is ∙ ap (λ t. codes "clear" ++ (32 ∷ t)) joined
+      ∙ sym (one_word-grouped (codes "clear") role) in
+      (text ∙ ap spelling made, subst IsCommand made narrow)
+
   named_pair : (word : List ℕ) (make : ℕ → ℕ → Command) → SpellPairs word make → bytes_eq name word ≡ true
       → option_map (λ n. make n.0 n.1) (user_and_role numbers) ≡ Some c → Named name numbers c
   unfolding Named
@@ -168,7 +186,7 @@ module _ (name numbers : List ℕ) (c : Command) where
       (λ others. if_else _ _ _ c others (named_pair (codes "deassign") Deassign (λ u r i j. (refl, (i, j))))
       (λ rest. if_else _ _ _ c rest (named_triple (codes "grant") Grant (λ r p b i j k. (refl, (i, j, k))))
       (λ last. if_else _ _ _ c last (named_triple (codes "revoke") Revoke (λ r p b i j k. (refl, (i, j, k))))
-      (λ none. absurd (none-some c none)))))
+      (λ clears. if_else _ _ _ c clears named_clear (λ none. absurd (none-some c none))))))
 
 pub command_of_spelled : CommandsAreSpelled
 unfolding command_of Named

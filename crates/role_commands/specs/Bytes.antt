@@ -5,7 +5,7 @@ use Rattle.std.specs.Prelude.{drop, slice_index, Option, Some, None, option_and_
 use Rattle.std.specs.Int.{w16, w32, to_be_bytes, from_be_bytes}
 use Rattle.std.specs.Str.{bytes_eq}
 use Rattle.role_commands.specs.declared.command.Command.{Command}
-use Rattle.role_commands.specs.declared.command.Command.TheVariants.{Assign, Deassign, Grant, Revoke}
+use Rattle.role_commands.specs.declared.command.Command.TheVariants.{Assign, Deassign, Grant, Revoke, Clear}
 
 -- how many bytes a command has
 abbrev pub command_length : ℕ
@@ -21,6 +21,7 @@ bytes_of (Assign user role) = fields_bytes 1 role user 0
 bytes_of (Deassign user role) = fields_bytes 2 role user 0
 bytes_of (Grant role operation object) = fields_bytes 3 role object operation
 bytes_of (Revoke role operation object) = fields_bytes 4 role object operation
+bytes_of (Clear role) = fields_bytes 5 role 0 0
 
 -- so many bytes from a place on
 abbrev pub part : ℕ → ℕ → List ℕ → List ℕ
@@ -37,7 +38,8 @@ tagged tag role user_or_object operation =
     else (if tag == 2 then Some (Deassign user_or_object role)
     else (if tag == 3 then Some (Grant role operation user_or_object)
     else (if tag == 4 then Some (Revoke role operation user_or_object)
-    else None)))
+    else (if tag == 5 then Some (Clear role)
+    else None))))
 
 -- the command whose bytes these are, if there is one
 unfoldable pub command_in : List ℕ → Option Command

@@ -4,7 +4,7 @@ use Rattle.std.specs.Prelude.{ℕ, List, if◌then◌else◌, codes, Option, Non
 use Rattle.std.specs.Str.{bytes_eq}
 use Rattle.role_commands.specs.Numbers.{split_word}
 use Rattle.role_commands.specs.declared.command.Command.{Command}
-use Rattle.role_commands.specs.declared.command.Command.TheVariants.{Assign, Deassign, Grant, Revoke}
+use Rattle.role_commands.specs.declared.command.Command.TheVariants.{Assign, Deassign, Grant, Revoke, Clear}
 -- users and objects have 32 bits, roles and operations have 16
 pub use Rattle.role_commands.specs.Numbers.{wide_number, narrow_number}
 
@@ -39,7 +39,8 @@ named_command name numbers =
     else (if bytes_eq name (codes "deassign") then option_map (λ n. Deassign n.0 n.1) (user_and_role numbers)
     else (if bytes_eq name (codes "grant") then option_map (λ n. Grant n.0 n.1 n.2) (role_and_permission numbers)
     else (if bytes_eq name (codes "revoke") then option_map (λ n. Revoke n.0 n.1 n.2) (role_and_permission numbers)
-    else None)))
+    else (if bytes_eq name (codes "clear") then option_map Clear (narrow_number numbers)
+    else None))))
 
 -- the command that the text is
 unfoldable pub command_of : List ℕ → Option Command

@@ -16,6 +16,8 @@ const GRANT: u8 = 3;
 
 const REVOKE: u8 = 4;
 
+const CLEAR: u8 = 5;
+
 /// The bytes of the command: its tag, its role, its user or object, and its operation, each number
 /// with its highest byte first.
 #[tactic(auto, unfolding(crate::specs::Bytes::bytes_of))]
@@ -36,6 +38,7 @@ pub fn encode(command: &Command) -> [u8; COMMAND_LEN]
             operation,
             object,
         } => join_fields(REVOKE, role, object, operation),
+        Command::Clear { role } => join_fields(CLEAR, role, 0, 0),
     }
 }
 
@@ -75,6 +78,7 @@ fn read_fields(bytes: &[u8; COMMAND_LEN]) -> Option<Command>
             operation,
             object: user_or_object,
         }),
+        CLEAR if user_or_object == 0 && operation == 0 => Some(Command::Clear { role }),
         _ => None,
     }
 }

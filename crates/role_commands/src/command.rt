@@ -26,6 +26,10 @@ pub enum Command {
         operation: u16,
         object: u32,
     },
+    /// No user has the role and the role may do nothing, from now on.
+    Clear {
+        role: u16,
+    },
 }
 
 impl Command {
@@ -37,7 +41,8 @@ impl Command {
             Command::Assign { role, .. }
             | Command::Deassign { role, .. }
             | Command::Grant { role, .. }
-            | Command::Revoke { role, .. } => role,
+            | Command::Revoke { role, .. }
+            | Command::Clear { role } => role,
         }
     }
 }

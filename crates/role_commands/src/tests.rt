@@ -29,6 +29,7 @@ fn words(rt: HostRuntime) -> Result<(), Fail> {
                 object: u32::MAX,
             },
         ),
+        ("clear 2", Command::Clear { role: 2 }),
     ] {
         let printed = print_command(rt.alloc(), &command)?;
         assert!(rt; printed.as_str() == text, "{text} is due, not {printed}");
@@ -51,6 +52,9 @@ fn no_commands(rt: HostRuntime) -> Result<(), Fail> {
         "Assign 7 2",
         "grant 2 5",
         "assign +7 2",
+        "clear",
+        "clear 2 2",
+        "clear 65536",
     ] {
         let parsed = parse_command(text);
         assert!(rt; parsed.is_none(), "'{text}' is read as {parsed:?}");
@@ -94,6 +98,7 @@ fn bytes(rt: HostRuntime) -> Result<(), Fail> {
                 object: u32::MAX,
             },
         ),
+        ([5, 0, 2, 0, 0, 0, 0, 0, 0], Command::Clear { role: 2 }),
     ] {
         let encoded = encode(&command);
         assert!(rt; encoded == bytes, "{bytes:?} are due, not {encoded:?}");
@@ -106,6 +111,8 @@ fn bytes(rt: HostRuntime) -> Result<(), Fail> {
     for bytes in [
         [1, 0, 2, 0, 0, 0, 7, 0, 1],
         [5, 0, 2, 0, 0, 0, 7, 0, 0],
+        [5, 0, 2, 0, 0, 0, 0, 0, 1],
+        [6, 0, 2, 0, 0, 0, 0, 0, 0],
         [0; 9],
     ] {
         let decoded = decode(&bytes);

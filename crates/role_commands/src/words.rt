@@ -30,7 +30,14 @@ pub fn print_command(alloc: Global, command: &Command) -> Result<String, AllocEr
             operation,
             object,
         } => three_words(alloc, "revoke", role, operation, object),
+        Command::Clear { role } => one_word(alloc, "clear", role),
     }
+}
+
+fn one_word(alloc: Global, name: &str, role: u16) -> Result<String, AllocError>
+    ensures { IfOk result (λ text. string_bytes text ≡ words.one_word name.now role) }
+{
+    format!(in alloc; "{name} {role}")
 }
 
 fn two_words(alloc: Global, name: &str, user: u32, role: u16) -> Result<String, AllocError>
@@ -90,6 +97,10 @@ fn named_command(name: &str, numbers: &str) -> Option<Command>
                 operation,
                 object,
             })
+        }
+        "clear" => {
+            let role = narrow_number(numbers)?;
+            Some(Command::Clear { role })
         }
         _ => None,
     }

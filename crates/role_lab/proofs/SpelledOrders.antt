@@ -1,8 +1,7 @@
 -- A later line of a cluster has one spelling.
-use Rattle.std.proofs.Common.{◌≡◌, ℕ, Bool, true, false, not, ◌&&◌, ◌==◌, cond, if◌then◌else◌}
+use Rattle.std.proofs.Common.{◌≡◌, ℕ, Bool, true, false, if◌then◌else◌}
 use Rattle.std.proofs.Common.{◌<◌, List, ◌∷◌, ◌++◌, length, codes, Option, Some, None, sym}
-use Rattle.std.proofs.Common.{refl, ap, arith, ◌∙◌, append_assoc, subst, eqb-true}
-use Rattle.std.proofs.lemmas.Bool.{eq-eqb}
+use Rattle.std.proofs.Common.{refl, ap, arith, ◌∙◌, append_assoc, subst}
 use Rattle.std.proofs.lemmas.Option.{option_and_then_some, same_Some, none-some}
 use Rattle.std.proofs.lemmas.Slice.Eq.{bytes_eq-Decides}
 use Rattle.std.specs.Fmt.{decimal}
@@ -17,11 +16,9 @@ use Rattle.role_commands.specs.declared.command.Command.{Command}
 use Rattle.role_commands.proofs.Exported.{split_word-word, split_word-joined, wide_read, long_read, narrow_read}
 use Rattle.role_commands.proofs.Exported.{wide_spelled, narrow_spelled, long_spelled, if_else, mapped, by_name}
 use Rattle.role_commands.proofs.Exported.{by_name_made, command_of-spelling, command_of_spelled}
-use Rattle.link_frames.specs.Kinds.{same_kind}
-use Rattle.link_frames.specs.Packets.{PacketValue, SentByOwner, packet_of, packet_due}
-use Rattle.link_frames.specs.declared.kind.Kind.{Kind}
-use Rattle.link_frames.specs.declared.kind.Kind.TheVariants.{Send, Echo, Ready}
+use Rattle.link_frames.specs.Packets.{PacketValue, SentByOwner, packet_of}
 use Rattle.link_frames.specs.declared.packet.Message.{Message}
+use Rattle.link_frames.proofs.Exported.{due_takes, due_again}
 use Rattle.role_sessions.specs.declared.event.ClientEvent.{ClientEvent}
 use Rattle.role_sessions.specs.declared.event.ClientEvent.TheVariants.{Open, Activate, DropRole, Close}
 use Rattle.role_node.specs.declared.question.Question.{Question}
@@ -79,22 +76,6 @@ packet-grouped : (p : PacketValue) → packet_spelling p
     ++ (32 ∷ spelling p.command)))))))))
 packet-grouped p = simp append_assoc
 
-own_packet : (p : PacketValue) → SentByOwner p
-    → packet_due p.from p.to (record { kind = p.kind; owner = p.owner; place = p.place; command = p.command }) ≡ Some p
-own_packet p owns = by_kind p.kind refl
-  where
-    by_kind : (k : Kind) → p.kind ≡ k
-        → (if same_kind p.kind Send && not (p.from == p.owner) then None else Some p) ≡ Some p
-    by_kind Send e =
-        ap (λ b. cond (same_kind p.kind Send && not b) None (Some p)) (eq-eqb p.from p.owner (owns e))
-        ∙ nothing (same_kind p.kind Send)
-      where
-        nothing : (b : Bool) → cond (b && false) None (Some p) ≡ Some p
-        nothing true = refl
-        nothing false = refl
-    by_kind Echo e = ap (λ k. cond (same_kind k Send && not (p.from == p.owner)) None (Some p)) e
-    by_kind Ready e = ap (λ k. cond (same_kind k Send && not (p.from == p.owner)) None (Some p)) e
-
 lie_read : (s : Counts) (p : PacketValue) → AreSizes s → IsLie s p → lie_of s (packet_spelling p) ≡ Some p
 unfolding lie_of
 lie_read s p are is =
@@ -112,28 +93,7 @@ lie_read s p are is =
     (node_read s p.owner are is.owner))
     (rw (then_rest-decimal narrow_number p.place p.place (spelling p.command) (omega (arith, is.packet.1))
     (narrow_read p.place is.packet.1))
-    (rw (command_of-spelling p.command is.packet.2) (own_packet p is.packet.0))))))
-
--- what a packet that is due keeps
-due_is : (from to : ℕ) (m : Message) (p : PacketValue) → packet_due from to m ≡ Some p → (packet_of from to m ≡ p)
-    × SentByOwner p
-due_is from to m p e = by_kind m.kind refl (from == m.owner) refl
-  where
-    Is : Type 0
-    Is = (packet_of from to m ≡ p) × SentByOwner p
-
-    made : packet_of from to m ≡ p → SentByOwner (packet_of from to m) → Is
-    made is owns = (is, subst SentByOwner is owns)
-
-    told : (k : Kind) (b : Bool) → m.kind ≡ k → (from == m.owner) ≡ b
-        → (if same_kind k Send && not b then None else Some (packet_of from to m)) ≡ Some p
-    told k b q r = (λ i. if same_kind (sym q i) Send && not (sym r i) then None else Some (packet_of from to m)) ∙ e
-
-    by_kind : (k : Kind) → m.kind ≡ k → (b : Bool) → (from == m.owner) ≡ b → Is
-    by_kind Send q true r = made (same_Some _ p (told Send true q r)) (λ _. eqb-true from m.owner r)
-    by_kind Send q false r = absurd (none-some p (told Send false q r))
-    by_kind Echo q b r = made (same_Some _ p (told Echo b q r)) (λ sends. absurd cc)
-    by_kind Ready q b r = made (same_Some _ p (told Ready b q r)) (λ sends. absurd cc)
+    (rw (command_of-spelling p.command is.packet.2) (due_again p is.packet.0))))))
 
 lie_spelled : (s : Counts) (text : List ℕ) (p : PacketValue) → lie_of s text ≡ Some p
     → (text ≡ packet_spelling p) × IsLie s p
@@ -152,7 +112,7 @@ lie_spelled s text p e =
     let (cut_place, small) = narrow_rest_spelled owner.1 place is_place in
     let (spelled, fits) = command_of_spelled place.1 command is_command in
     let m : Message = record { kind = kind.0; owner = owner.0; place = place.0; command = command } in
-    let (same, owns) = due_is from.0 to.0 m p due in
+    let (same, owns) = due_takes from.0 to.0 m p due in
     let last : owner.1 ≡ decimal place.0 ++ (32 ∷ spelling command) =
     cut_place ∙ ap (λ w. decimal place.0 ++ (32 ∷ w)) spelled in
     let text_is : text ≡ packet_spelling (packet_of from.0 to.0 m) =

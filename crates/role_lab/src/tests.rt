@@ -72,6 +72,40 @@ fn scripts(rt: HostRuntime) {
     }
 }
 
+/// A role is cleared by its owner: the access is denied, and after a new assign the permission is wanting still.
+const CLEARED: Row = (
+    "cluster 1 0\nrole 2 0\nissue 0 assign 7 2\nissue 0 grant 2 5 9\nflush\nopen 0 7\nactivate 0 1 7 2\n\
+      check 0 1 7 5 9\nissue 0 clear 2\nflush\ncheck 0 1 7 5 9\nlist 0 permissions 2\n\
+      issue 0 assign 7 2\nflush\ncheck 0 1 7 5 9\n",
+    "sizes 1 1 1\nok\nissued 0 sent 0-0\nissued 1 sent 1-1\nflushed 6\nsession 1\nok\n\
+      allow 2\nissued 2 sent 6-6\nflushed 3\ndeny N4\nlist\n\
+      issued 3 sent 9-9\nflushed 3\ndeny N5\n",
+);
+
+#[test]
+fn a_role_is_cleared(rt: HostRuntime) {
+    let (script, due) = CLEARED;
+    let (result, written) = outcome(rt.alloc(), script);
+    assert!(rt; result.is_ok(), "ended by {result:?}");
+    let came = text_of(&written);
+    assert!(rt; came == due, "due\n{due}came\n{came}");
+}
+
+#[test]
+fn a_clear_names_one_role(rt: HostRuntime) {
+    let script = "cluster 1 0\nrole 2 0\nissue 0 clear 2\nissue 0 clear 2 2\n";
+    let (result, written) = outcome(rt.alloc(), script);
+    assert!(rt;
+        matches!(&result, Err(ScriptFault::BadScript { line: 4 })),
+        "due bad line 4, came {result:?}"
+    );
+    let came = text_of(&written);
+    assert!(rt;
+        came == "sizes 1 1 1\nok\nissued 0 sent 0-0\n",
+        "came\n{came}"
+    );
+}
+
 /// A script, the number of its first bad line, and what is written before.
 static BAD_SCRIPTS: [(&str, u64, &str); 7] = [
     ("cluster 3 1\n", 1, ""),

@@ -1,6 +1,7 @@
 use Rattle.std.proofs.Common.{◌≡◌, ◌+◌, ◌-◌, ◌<◌, ◌≤◌, length, drop, arith, sym, le_refl, length-take, length-drop}
 use Rattle.std.proofs.lemmas.Slice.{take-put_mid_below}
 use borrow.Rule.Slice.PartMut.{same_len_mid}
+use Rattle.link_frames.specs.Layout.{frame_len}
 use Rattle.link_frames.specs.Watching.{watched_tally}
 use Rattle.link_frames.proofs.FrameReadLemmas.{failed, interrupted, gave_more, front_read}
 use Rattle.link_frames.proofs.reading.read_frame.Goals as goal
@@ -21,16 +22,16 @@ loop-preserved g c =
       | in-Ok+else-have-eq-FRAME_LEN w ↦
           let given = w.in-Ok.ensures in
           let n = w.in-Ok.n in
-          let room : length c.read.new.buf ≡ 52 - have =
+          let room : length c.read.new.buf ≡ frame_len - have =
           omega (
             arith,
             c.read.auto.buf,
-            length-take (52 - have) (drop have frame),
+            length-take (frame_len - have) (drop have frame),
             length-drop have frame,
             so_far.len,
           ) in
           let some : 0 < n = omega (arith, w.in-Ok.n-test.1) in
-          let part : have + n < 52 =
+          let part : have + n < frame_len =
           omega (arith, room, given.bound.0, so_far.part, w.if-have-eq-FRAME_LEN.false) in
           let len = same_len_mid _ _ _ _ c.read.auto.buf in
           let front = front_read _ _ _ _ _ within given.bound.0 in

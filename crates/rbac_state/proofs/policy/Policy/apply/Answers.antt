@@ -1,8 +1,10 @@
 use Rattle.std.proofs.Common.{◌≡◌, true, refl, sym, ap, ◌∙◌}
 use Rattle.role_commands.specs.Rules.{role_of}
 use Rattle.rbac_state.specs.Assignments.{owns}
-use Rattle.rbac_state.proofs.PairLemmas.{assigned-put, assigned-take_away, granted-put, granted-take_away}
+use Rattle.rbac_state.proofs.PairLemmas.{assigned-put, assigned-take_away, assigned-clear}
+use Rattle.rbac_state.proofs.PairLemmas.{granted-put, granted-take_away, granted-clear}
 use Rattle.rbac_state.proofs.ApplyLemmas.{applied-Assign, applied-Deassign, applied-Grant, applied-Revoke}
+use Rattle.rbac_state.proofs.ApplyLemmas.{applied-Clear}
 use Rattle.rbac_state.proofs.policy.Policy.apply.Goals as goal
 
 pub returns-in-Assign-clause-applied : goal.returns-in-Assign-clause-applied
@@ -45,3 +47,15 @@ returns-in-Revoke-clause-applied c =
     (λ operation object role. granted-take_away c.self.inside.granted.by_first.items _ c.in-Revoke.operation
     c.in-Revoke.object c.in-Revoke.role operation object role
     (c.take_away-in-Revoke.ensures.members (operation, object) role)))
+
+pub returns-in-Clear-clause-applied : goal.returns-in-Clear-clause-applied
+returns-in-Clear-clause-applied c =
+    let owned : owns c.self.inside.roles c.args.owner c.in-Clear.role ≡ true =
+    ap (owns c.self.inside.roles c.args.owner) (sym (c.role.ensures ∙ ap role_of c.in-Clear.is))
+    ∙ sym c.is_owned_by.ensures.value ∙ c.if-not-is_owned_by.false in
+    rw (c.in-Clear.is, ← c.self.view_is)
+    (applied-Clear c.args.owner c.in-Clear.role _ _ owned refl
+    (λ user role. assigned-clear c.self.inside.assigned.by_first.items _ c.in-Clear.role user role
+    (c.take_away_second.ensures.members user role))
+    (λ operation object role. granted-clear c.self.inside.granted.by_first.items _ c.in-Clear.role operation object role
+    (c.take_away_second-in-Clear.ensures.members (operation, object) role)))
