@@ -20,4 +20,8 @@ pub use member::{Member, MemberFault, member_number};
 pub use request::{MOST_LINE_BYTES, Request, read_request};
 
 #[cfg(test)]
+mod json_tests;
+#[cfg(test)]
+mod op_tests;
+#[cfg(test)]
 mod tests;

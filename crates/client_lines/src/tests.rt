@@ -122,10 +122,12 @@ fn is_read_with(rt: &HostRuntime, lists: usize) -> Result<bool, Fail> {
     Ok(read(rt.alloc(), &line) == Ok(Request::Stop))
 }
 
+/// With the object around them 126 lists are 127 deep, which is the most.
 #[test]
-fn ignored_members_nest_100_deep(rt: HostRuntime) -> Result<(), Fail> {
-    assert!(rt; is_read_with(&rt, 100)?);
-    assert!(rt; !is_read_with(&rt, 200)?);
+fn ignored_members_nest_126_deep(rt: HostRuntime) -> Result<(), Fail> {
+    for (lists, due) in [(100, true), (126, true), (127, false), (200, false)] {
+        assert!(rt; is_read_with(&rt, lists)? == due, "{lists} lists");
+    }
     Ok(())
 }
 

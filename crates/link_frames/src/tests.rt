@@ -88,25 +88,34 @@ const FIELDS: [u8; 20] = [
 ];
 
 /// The frame of these fields under the laboratory key of two nodes.
-fn tagged(a: u8, b: u8, fields: &[u8; 20]) -> [u8; 52] {
-    let mut frame = [0; 52];
+fn tagged(a: u8, b: u8, fields: &[u8; 20]) -> Frame {
+    let mut frame = [0; FRAME_LEN];
     frame[..20].copy_from_slice(fields);
     frame[20..].copy_from_slice(&hmac_sha256(&lab_key(a, b), fields));
     frame
 }
 
 /// So many bytes of a frame.
-fn cut(frame: &[u8; 52], n: usize) -> &[u8]
+fn cut(frame: &Frame, n: usize) -> &[u8]
     requires { n ≤ 52 }
 {
     &frame[..n]
 }
 
 /// The frame with another byte there.
-fn replaced(frame: &[u8; 52], at: usize, value: u8) -> [u8; 52] {
+fn replaced(frame: &Frame, at: usize, value: u8) -> Frame {
     let mut other = *frame;
     if let Some(byte) = other.get_mut(at) {
         *byte = value;
+    }
+    other
+}
+
+/// The frame with some bits of the byte there flipped.
+fn flipped(frame: &Frame, at: usize, bits: u8) -> Frame {
+    let mut other = *frame;
+    if let Some(byte) = other.get_mut(at) {
+        *byte ^= bits;
     }
     other
 }
@@ -158,22 +167,12 @@ fn refuse_before_the_tag(rt: &impl Abort, keys: &PairKeys, sizes: &Sizes)
     requires { keys.now.sizes ≡ sizes.now }
 {
     let frame = tagged(0, 1, &FIELDS);
-    assert!(rt; open_frame(keys, sizes, 1, cut(&frame, 51)) == Err(LinkFault::Length));
     for (row, (at, value, fault)) in BEFORE_THE_TAG.iter().enumerate() {
         let came = open_frame(keys, sizes, 1, &replaced(&frame, *at, *value));
         assert!(rt;
             came == Err(*fault),
             "row {row}: {fault:?} is due, not {came:?}"
         );
-    }
-    for at in 7..52 {
-        for mask in [1, 2, 4, 8, 16, 32, 64, 128] {
-            let came = open_frame(keys, sizes, 1, &replaced(&frame, at, frame[at] ^ mask));
-            assert!(rt;
-                came == Err(LinkFault::BadTag),
-                "byte {at} changed by {mask}: {came:?}"
-            );
-        }
     }
 }
 
@@ -182,6 +181,77 @@ fn refusals_before_the_tag(rt: HostRuntime) -> Result<(), Fail> {
     let sizes = Sizes::new(4, 1)?;
     let me = sizes.name(1).ok_or("no name")?;
     refuse_before_the_tag(&rt, &lab_keys(rt.alloc(), &sizes, me)?, &sizes);
+    Ok(())
+}
+
+/// A range of bytes, some bits of each, what is refused where one of these bits is flipped, and how many they are.
+/// Node 1 of four opens a frame from node 0: with one of the two lowest bits flipped that would be from node 1 or 2.
+static FLIPPED: [(usize, usize, u8, LinkFault, u32); 6] = [
+    (0, 1, 0xff, LinkFault::Version, 8),
+    (1, 5, 0xff, LinkFault::Cluster, 32),
+    (5, 6, 0xfc, LinkFault::NoSuchNode, 6),
+    (5, 6, 0x03, LinkFault::BadTag, 2),
+    (6, 7, 0xff, LinkFault::NotForMe, 8),
+    (7, FRAME_LEN, 0xff, LinkFault::BadTag, 360),
+];
+
+/// Flips each bit of a range alone. How many were refused as they must be.
+fn refuse_flipped(rt: &impl Abort, keys: &PairKeys, sizes: &Sizes, row: usize) -> u32
+    requires { keys.now.sizes ≡ sizes.now }
+{
+    let frame = tagged(0, 1, &FIELDS);
+    let mut count = 0u32;
+    let Some((first, end, bits, fault, _)) = FLIPPED.get(row) else {
+        return count;
+    };
+    for at in *first..*end {
+        for mask in [1, 2, 4, 8, 16, 32, 64, 128] {
+            if *bits & mask != 0 {
+                let came = open_frame(keys, sizes, 1, &flipped(&frame, at, mask));
+                assert!(rt;
+                    came == Err(*fault),
+                    "byte {at}, bits {mask}: {fault:?} is due, not {came:?}"
+                );
+                count = count.wrapping_add(1);
+            }
+        }
+    }
+    count
+}
+
+#[test]
+fn every_bit_of_a_frame_counts(rt: HostRuntime) -> Result<(), Fail> {
+    let sizes = Sizes::new(4, 1)?;
+    let me = sizes.name(1).ok_or("no name")?;
+    let keys = lab_keys(rt.alloc(), &sizes, me)?;
+    let mut all = 0u32;
+    for (row, (_, _, _, fault, bits)) in FLIPPED.iter().enumerate() {
+        let count = refuse_flipped(&rt, &keys, &sizes, row);
+        assert!(rt;
+            count == *bits,
+            "{fault:?}: {bits} bits are due, not {count}"
+        );
+        all = all.wrapping_add(count);
+    }
+    assert!(rt; all as usize == 8 * FRAME_LEN, "{all} bits in all");
+    Ok(())
+}
+
+/// No other number of bytes is a frame.
+#[test]
+fn frames_have_one_length(rt: HostRuntime) -> Result<(), Fail> {
+    let sizes = Sizes::new(4, 1)?;
+    let me = sizes.name(1).ok_or("no name")?;
+    let keys = lab_keys(rt.alloc(), &sizes, me)?;
+    let frame = tagged(0, 1, &FIELDS);
+    for count in 0..FRAME_LEN {
+        let came = open_frame(&keys, &sizes, 1, cut(&frame, count));
+        assert!(rt; came == Err(LinkFault::Length), "{count} bytes: {came:?}");
+    }
+    let mut longer = frame.to_vec(rt.alloc())?;
+    assert!(rt; open_frame(&keys, &sizes, 1, &longer).is_ok());
+    longer.push(0)?;
+    assert!(rt; open_frame(&keys, &sizes, 1, &longer) == Err(LinkFault::Length));
     Ok(())
 }
 
@@ -220,9 +290,6 @@ fn frames_are_read(rt: HostRuntime) {
     let mut whole = Watched::new(frame.as_slice());
     assert!(rt; read_frame(&mut whole) == Ok(Some(frame)) && read_frame(&mut whole) == Ok(None));
 
-    let mut cut = Watched::new(cut(&frame, 30));
-    assert!(rt; read_frame(&mut cut) == Err(ReadFault::Truncated(30)));
-
     let short = Faulty::new(frame.as_slice(), Mishap::Short, 0, 9);
     let mut slow = Watched::new(Faulty::new(short, Mishap::Interrupt, 3, 4));
     assert!(rt; read_frame(&mut slow) == Ok(Some(frame)) && slow.faults() == 4);
@@ -238,4 +305,28 @@ fn frames_are_read(rt: HostRuntime) {
             "{mishap:?}: {came:?} after {count}"
         );
     }
+}
+
+/// Reads a frame of these bytes, one byte a call.
+fn read_bytewise(bytes: &[u8]) -> Result<Option<Frame>, ReadFault> {
+    read_frame(&mut Watched::new(Faulty::new(bytes, Mishap::Short, 0, u64::MAX)))
+}
+
+#[test]
+fn cut_frames_are_truncated(rt: HostRuntime) {
+    let frame = tagged(0, 1, &FIELDS);
+    for count in 0..FRAME_LEN {
+        let due = match u8::try_from(count) {
+            Ok(0) | Err(_) => Ok(None),
+            Ok(count) => Err(ReadFault::Truncated(count)),
+        };
+        let came = read_frame(&mut Watched::new(cut(&frame, count)));
+        assert!(rt;
+            came == due,
+            "cut after {count}: {due:?} is due, not {came:?}"
+        );
+        let came = read_bytewise(cut(&frame, count));
+        assert!(rt; came == due, "one byte a read, cut after {count}: {came:?}");
+    }
+    assert!(rt; read_bytewise(&frame) == Ok(Some(frame)));
 }

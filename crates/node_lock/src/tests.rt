@@ -1,5 +1,5 @@
-ghost use Rattle.std.specs.Prelude.{◌≡◌, ◌<◌, [], IfOk};
-ghost use Rattle.node_lock.specs.Inboxes.{IsPassTo};
+ghost use Rattle.std.specs.Prelude.{◌≡◌, ◌<◌, [], All, IfOk, vec_len};
+ghost use Rattle.node_lock.specs.Inboxes.{IsPassTo, IsNewPassTo};
 
 use super::*;
 use quorum_sizes::{NodeName, Sizes};
@@ -251,6 +251,46 @@ fn job(number: u32) -> Job {
     }
 }
 
+/// A new inbox with two passes, made again where memory was wanting.
+fn inbox_for_two(alloc: Global) -> Result<(Inbox, Vec<InboxPass>), Fail>
+    ensures count { IfOk result (λ made. vec_len made.1 ≡ 2) }
+    ensures fresh { IfOk result (λ made. All (IsNewPassTo made.0) made.1.items) }
+{
+    match Inbox::new(alloc, 2) {
+        Ok(made) => Ok(made),
+        Err(_) => Ok(Inbox::new(alloc, 2)?),
+    }
+}
+
+/// No passes, with room for two, made again where memory was wanting.
+fn room_for_two(alloc: Global) -> Result<Vec<InboxPass>, Fail>
+    ensures { IfOk result (λ made. made.items ≡ []) }
+{
+    match Vec::with_capacity(alloc, 2) {
+        Ok(made) => Ok(made),
+        Err(_) => Ok(Vec::with_capacity(alloc, 2)?),
+    }
+}
+
+/// Finishes an inbox, where memory was wanting with what was then handed back. The jobs that are left.
+fn finish_at_last<R: Wait>(
+    rt: &R,
+    alloc: Global,
+    inbox: Inbox,
+    passes: Vec<InboxPass>,
+) -> Result<Vec<Job>, Fail>
+    requires { All (IsPassTo inbox) passes.items }
+{
+    match inbox.finish(rt, alloc, passes) {
+        Ok(left) => Ok(left),
+        Err(InboxFault::Memory { inbox, passes }) => match inbox.finish(rt, alloc, passes) {
+            Ok(left) => Ok(left),
+            Err(_) => Err("not finished with what was handed back".into()),
+        },
+        Err(_) => Err("not finished".into()),
+    }
+}
+
 /// Finishes an inbox without one of its two passes, and then with it. The jobs that are left.
 fn finish_in_two<R: Wait>(
     rt: &R,
@@ -262,22 +302,19 @@ fn finish_in_two<R: Wait>(
     requires pass { IsPassTo inbox pass }
     requires kept { IsPassTo inbox kept }
 {
-    let mut one = Vec::new(alloc);
+    let mut one = room_for_two(alloc)?;
     one.push(pass)?;
     let Err(InboxFault::PassMissing { inbox, mut passes }) = inbox.finish(rt, alloc, one) else {
         return Err("finished without a pass".into());
     };
     passes.push(kept)?;
-    let Ok(left) = inbox.finish(rt, alloc, passes) else {
-        return Err("not finished".into());
-    };
-    Ok(left)
+    finish_at_last(rt, alloc, inbox, passes)
 }
 
 #[test]
 fn an_inbox_gives_back_what_is_left(rt: HostRuntime) -> Result<(), Fail> {
     let alloc = rt.alloc();
-    let (inbox, mut passes) = Inbox::new(alloc, 2)?;
+    let (inbox, mut passes) = inbox_for_two(alloc)?;
     let Some(mut pass) = passes.pop() else {
         return Err("no pass".into());
     };

@@ -1,5 +1,4 @@
 use super::*;
-use link_frames::{Faulty, Mishap};
 use std::alloc::Global;
 use std::process::Abort;
 use std::test::Fail;
@@ -16,15 +15,15 @@ fn outcome(alloc: Global, script: &str) -> (Result<(), ScriptFault>, Vec<u8>) {
 }
 
 /// What was written, as text.
-fn text_of(written: &[u8]) -> &str {
+pub(crate) fn text_of(written: &[u8]) -> &str {
     str::from_utf8(written).unwrap_or("no text")
 }
 
 /// A script and what it writes.
-type Row = (&'static str, &'static str);
+pub(crate) type Row = (&'static str, &'static str);
 
 /// A liar is silent, and the others agree without it.
-const SILENT: Row = (
+pub(crate) const SILENT: Row = (
     "cluster 4 1\nrole 2 0\nliar 3\nissue 0 assign 7 2\nflush\nreach 2 0\nreach 3 0\nrest\n",
     "sizes 3 2 3\nok\nok\nissued 0 sent 0-3\nflushed 28\nreach 1\nV2 NotCorrect\nrest yes\n",
 );
@@ -55,7 +54,7 @@ const BYTES: Row = (
 );
 
 /// Four correct nodes deliver what one of them publishes.
-const FOUR: Row = (
+pub(crate) const FOUR: Row = (
     "cluster 4 1\nrole 2 0\nissue 0 assign 7 2\nrest\nflush\nreach 0 0\nreach 3 0\nrest\nlist 3 users 2\n",
     "sizes 3 2 3\nok\nissued 0 sent 0-3\nrest no\nflushed 36\nreach 1\nreach 1\nrest yes\nlist 7\n",
 );
@@ -131,29 +130,6 @@ fn bad_scripts(rt: HostRuntime) {
         );
         let came = text_of(&written);
         assert!(rt; came == *due, "script {row}: due\n{due}came\n{came}");
-    }
-}
-
-#[test]
-fn failing_devices(rt: HostRuntime) {
-    let (script, due) = SILENT;
-    for call in 0..3 {
-        let mut written = Vec::new(rt.alloc());
-        let short = Faulty::new(script.as_bytes(), Mishap::Short, 0, u64::MAX);
-        let result = run_script(
-            rt.alloc(),
-            &mut Watched::new(Faulty::new(short, Mishap::Fail, call, 1)),
-            &mut Watched::new(&mut written),
-        );
-        assert!(rt;
-            matches!(&result, Err(ScriptFault::Device)),
-            "read {call}: due Device, came {result:?}"
-        );
-        let came = text_of(&written);
-        assert!(rt;
-            due.starts_with(came),
-            "read {call}: due a front of\n{due}came\n{came}"
-        );
     }
 }
 

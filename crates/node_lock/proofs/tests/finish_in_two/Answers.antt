@@ -6,14 +6,14 @@ use Rattle.node_lock.specs.Inboxes.{Passing, IsPassTo}
 use Rattle.node_lock.specs.InboxFaults.{inbox_in, passes_in}
 use Rattle.node_lock.proofs.tests.finish_in_two.Goals as goal
 
-pub finish-requires-2 : goal.finish-requires-2
-finish-requires-2 g c =
+pub finish_at_last-requires : goal.finish_at_last-requires
+finish_at_last-requires g c =
     let same : c.in-Err-PassMissing.inbox ≡ c.args.inbox =
     ap inbox_in (sym c.in-Err-PassMissing.field-0-is) ∙ c.in-Err-PassMissing.ensures.inbox in
     let back : c.in-Err-PassMissing.passes.items ≡ c.push.new.self.items =
     ap passes_in (sym c.in-Err-PassMissing.field-0-is) ∙ c.in-Err-PassMissing.ensures.passes in
     let one : c.push.new.self.items ≡ [] ++ c.args.pass ∷ [] =
-    c.in_ok-push.ensures.items ∙ ap (λ (ps : List Passing). ps ++ c.args.pass ∷ []) c.new-one.ensures.items in
+    c.in_ok-push.ensures.items ∙ ap (λ (ps : List Passing). ps ++ c.args.pass ∷ []) c.in_ok-one.ensures in
     let both : c.push-2.new.self.items ≡ ([] ++ c.args.pass ∷ []) ++ c.args.kept ∷ [] =
     c.in_ok-push-2.ensures.items ∙ ap (λ (ps : List Passing). ps ++ c.args.kept ∷ []) (back ∙ one) in
     let all : All (IsPassTo c.args.inbox) (([] ++ c.args.pass ∷ []) ++ c.args.kept ∷ []) =
