@@ -21,6 +21,7 @@ pub mod ExampleRests
 pub mod Headline
 pub mod Limits
 pub mod Idle
+pub mod Progress
 pub mod Telling
 pub mod Stepping
 pub mod Arriving

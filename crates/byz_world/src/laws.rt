@@ -6,6 +6,7 @@ ghost use Rattle.byz_world.specs.Headline.{Headline};
 ghost use Rattle.byz_world.specs.Laws.{PoolIsWhatWasSent, Consistency, Integrity, SamePolicy, ReadyByAll};
 ghost use Rattle.byz_world.specs.Laws.{DeliveredByAll, IssuedReachesAll, AtRest};
 ghost use Rattle.byz_world.specs.Limits.{LimitsMayDiffer};
+ghost use Rattle.byz_world.specs.Progress.{NothingIsStuck};
 
 /// A run whose correct nodes keep to different limits is one of a cluster whose limit is at least the largest of them,
 /// so that all that is said here holds of it.
@@ -54,6 +55,12 @@ pub fn issued_reaches_all()
 /// node delivered, each did.
 pub fn law_at_rest()
     ensures { AtRest }
+{}
+
+/// Of a cluster in which no correct node's history is full: where no packet of the pool would be recorded by its
+/// correct receiver if it were given once more, the cluster is at rest, and only there.
+pub fn law_nothing_is_stuck()
+    ensures { NothingIsStuck }
 {}
 
 /// There is a run of a cluster in which a node lies and two correct nodes deliver a command.
