@@ -22,6 +22,8 @@ pub mod Headline
 pub mod Limits
 pub mod Idle
 pub mod Progress
+pub mod Work
+pub mod Prolonging
 pub mod Telling
 pub mod Stepping
 pub mod Arriving

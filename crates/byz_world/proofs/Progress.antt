@@ -221,7 +221,7 @@ module _ (config : ConfigValue) (liars : Nodes) (run : Run) (cluster : IsCluster
       sent_within p.from p.kind p.owner p.place p.command (pooled_is_own config liars run p cluster pooled)
       (has_sent_is s run p.from (message_of p) was.sent)
 
-  owned : (p : PacketValue) → WasSent config liars run p → p.owner < s.nodes
+  pub owned : (p : PacketValue) → WasSent config liars run p → p.owner < s.nodes
   owned p was =
       ⊎_elim
       (λ (within : p.owner < s.nodes). within)
