@@ -24,6 +24,7 @@ pub mod Idle
 pub mod Progress
 pub mod Work
 pub mod Prolonging
+pub mod Schedules
 pub mod Telling
 pub mod Stepping
 pub mod Arriving

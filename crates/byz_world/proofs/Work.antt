@@ -1,7 +1,7 @@
 -- How much is recorded about a place: each packet that counts there is the first vote of its kind of its sender.
 use Rattle.std.proofs.Common.{◌≡◌, ℕ, zero, suc, ◌+◌, ◌<◌, ◌≤◌, ⊎_elim, Bool, true, false, cond, ◌&&◌, ◌==◌}
-use Rattle.std.proofs.Common.{List, [], ◌∷◌, ◌++◌, length, take, Option, Some, None, Result, Ok, refl, sym, ap, ◌∙◌, subst}
-use Rattle.std.proofs.Common.{append-nil, append_assoc, length-append, arith, le_refl, take_all, ltb-true, eq-eqb}
+use Rattle.std.proofs.Common.{List, [], ◌∷◌, ◌++◌, length, take, Option, Some, None, Result, Ok, refl, sym, ap, ◌∙◌}
+use Rattle.std.proofs.Common.{subst, append-nil, append_assoc, length-append, arith, le_refl, take_all, ltb-true, eq-eqb}
 use Rattle.std.specs.Prelude.{is_some, slice_get}
 use Rattle.std.specs.Option.{option_or}
 use Rattle.std.proofs.lemmas.Bool.{and_parts, and_from, cases_lt}
@@ -128,7 +128,8 @@ more_by s owner takes t node own Send is was now =
     let sends = count_more (λ _. has_vote Send takes owner) (λ _. has_vote Send after owner) 1 0
     (λ _ e. still_voted Send owner takes t e) (omega arith) (ap (has_vote Send takes) (sym mine) ∙ was)
     (ap (has_vote Send after) (sym mine) ∙ now) in
-    let echoes = count_keeps (has_vote Echo takes) (has_vote Echo after) s.nodes (λ q e. still_voted Echo q takes t e) in
+    let echoes = count_keeps (has_vote Echo takes) (has_vote Echo after) s.nodes
+    (λ q e. still_voted Echo q takes t e) in
     let readies = count_keeps (has_vote Ready takes) (has_vote Ready after) s.nodes
     (λ q e. still_voted Ready q takes t e) in
     omega (arith, sends, echoes, readies)
@@ -145,7 +146,8 @@ more_by s owner takes t node own Ready is was now =
     let after : List Take = takes ++ t ∷ [] in
     let sends = count_keeps (λ _. has_vote Send takes owner) (λ _. has_vote Send after owner) 1
     (λ _ e. still_voted Send owner takes t e) in
-    let echoes = count_keeps (has_vote Echo takes) (has_vote Echo after) s.nodes (λ q e. still_voted Echo q takes t e) in
+    let echoes = count_keeps (has_vote Echo takes) (has_vote Echo after) s.nodes
+    (λ q e. still_voted Echo q takes t e) in
     let readies = count_more (has_vote Ready takes) (has_vote Ready after) s.nodes t.from
     (λ q e. still_voted Ready q takes t e) node was now in
     omega (arith, sends, echoes, readies)

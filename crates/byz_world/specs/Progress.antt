@@ -1,16 +1,16 @@
 -- How far a run goes on by what its correct nodes have sent, and when that can go no further.
-use Rattle.std.specs.Prelude.{◌+◌, ◌*◌, ◌≤◌, [], ◌++◌, take, slice_get, Some}
+use Rattle.std.specs.Prelude.{◌≡◌, ℕ, ◌+◌, ◌*◌, ◌<◌, ◌≤◌, ◌⊎◌, ◌↔◌, Bool, false, IsTrue}
+use Rattle.std.specs.Prelude.{[], ◌++◌, length, take, slice_get, Contains, Some}
 use Rattle.quorum_sizes.specs.Sizes.{Counts}
-use Rattle.owner_streams.specs.Places.{window, takes_at}
-use Rattle.role_node.specs.Histories.{packets}
-use Rattle.role_node.specs.declared.event.Event.{Event}
-use Rattle.byz_world.specs.Laws.{reach_of}
-use Rattle.std.specs.Prelude.{◌≡◌, ℕ, ◌<◌, Bool, false, IsTrue, length, Contains, ◌↔◌}
 use Rattle.quorum_sizes.specs.NodeSets.{Nodes}
 use Rattle.link_frames.specs.Packets.{PacketValue}
+use Rattle.owner_streams.specs.Places.{window, takes_at}
 use Rattle.role_node.specs.Answers.{answer_due, is_recorded}
 use Rattle.role_node.specs.Configs.{ConfigValue}
+use Rattle.role_node.specs.Histories.{packets}
+use Rattle.role_node.specs.declared.event.Event.{Event}
 use Rattle.role_node.specs.declared.event.Event.TheVariants.{Take}
+use Rattle.byz_world.specs.Laws.{reach_of, HasSettled}
 use Rattle.byz_world.specs.Pools.{pool}
 use Rattle.byz_world.specs.Resting.{IsAtRest}
 use Rattle.byz_world.specs.Runs.{Run, history_of, is_correct, IsClusterRun}
@@ -76,3 +76,24 @@ abbrev pub WorkIsBounded : Type 0
 WorkIsBounded =
     (config : ConfigValue) (liars : Nodes) (run : Run) → IsClusterRun config liars run →
     IsWorkBounded config liars run
+
+-- What holds of a run that is prolonged by packets of the pool, in whatever order they are given. It is a run of a
+-- cluster and gets only so much longer, so it fills no history that has room for that; and while no history is full,
+-- some packet counts until the cluster is at rest, and where none does, all is delivered.
+pub record ComesToRest (config : ConfigValue) (liars : Nodes) (run more : Run) : Type 0 where
+  pub is_run : IsClusterRun config liars (run ++ more)
+  pub ends : (places : ℕ) → IsPoolBelow config run places → length more ≤ most_work config.roles.sizes places
+  pub has_room : (places : ℕ) → IsPoolBelow config run places →
+      ((node : ℕ) → IsTrue (is_correct config.roles.sizes liars node) →
+      length (history_of node run) + most_work config.roles.sizes places < config.limit) →
+      HasRoom config liars (run ++ more)
+  pub goes_on : HasRoom config liars (run ++ more) →
+      IsAtRest config liars (run ++ more) ⊎ ((p : PacketValue) × IsGivable config liars (run ++ more) p)
+  pub settles : HasRoom config liars (run ++ more) → IsStuck config liars (run ++ more) →
+      HasSettled config liars (run ++ more)
+
+-- Whoever goes on giving packets that count comes to an end, and there the cluster is at rest.
+abbrev pub FairSchedulesSettle : Type 0
+FairSchedulesSettle =
+    (config : ConfigValue) (liars : Nodes) (run more : Run) → IsClusterRun config liars run →
+    IsProlongation config liars run more → ComesToRest config liars run more
