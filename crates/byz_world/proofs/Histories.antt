@@ -64,7 +64,7 @@ pair_is pair node e is =
     let parts = cond_some (pair.0 == node) pair.1 e is in
     λ i. (eqb-true pair.0 node parts.0 i, parts.1 i)
 
-pair_in : (m : ℕ) (run : Run) (node : ℕ) (e : Event) → IsIn (history_of node (take m run)) e →
+pub pair_in : (m : ℕ) (run : Run) (node : ℕ) (e : Event) → IsIn (history_of node (take m run)) e →
     (at : ℕ) × (at < m) × (slice_get run at ≡ Some (node, e))
 unfolding history_of
 pair_in m run node e found =

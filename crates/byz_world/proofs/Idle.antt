@@ -41,7 +41,7 @@ use Rattle.byz_world.proofs.Pooled.{has_sent_is}
 -- The outlook of a packet.
 
 -- the packet is between nodes, and before the end of its window
-record IsOpen (s : Counts) (me : ℕ) (taken : List PacketValue) (p : PacketValue) : Type 0 where
+pub record IsOpen (s : Counts) (me : ℕ) (taken : List PacketValue) (p : PacketValue) : Type 0 where
   pub routed : is_routed s me p ≡ true
   pub within : nat_le (reach s p.owner taken + window) p.place ≡ false
 
@@ -70,20 +70,25 @@ unfolding step_due
 take_idle config me history p e =
     idle_by (is_routed config.roles.sizes me p) _ _ _ (step_of config.roles.sizes (packets history) p) e
 
+-- the outlook of an open packet, room in the history apart
+pub open_outlook : (config : ConfigValue) (me : ℕ) (history : List Event) (p : PacketValue) →
+    IsOpen config.roles.sizes me (packets history) p →
+    take_outlook config.roles me history p ≡ Ok (effect_of (takes_at p.owner p.place (packets history)) (take_of p))
+unfolding step_due
+open_outlook config me history p open' =
+    let s : Counts = config.roles.sizes in
+    let end : ℕ = reach s p.owner (packets history) + window in
+    let step : StreamStep = step_of s (packets history) p in
+    λ i. if open'.routed i then of_effect_due (effect_due (if open'.within i then Err (Beyond p.place end)
+    else Ok step)) else Err fault.Misrouted
+
 idle_take : (config : ConfigValue) (me : ℕ) (history : List Event) (p : PacketValue) →
     IsOpen config.roles.sizes me (packets history) p →
     effect_of (takes_at p.owner p.place (packets history)) (take_of p) ≡ effect.Idle →
     take_outlook config.roles me history p ≡ Ok effect.Idle
-unfolding step_due
-idle_take config me history p open' e =
-    let s : Counts = config.roles.sizes in
-    let end : ℕ = reach s p.owner (packets history) + window in
-    let step : StreamStep = step_of s (packets history) p in
-    (λ i. if open'.routed i then of_effect_due (effect_due (if open'.within i then Err (Beyond p.place end)
-    else Ok step)) else Err fault.Misrouted)
-    ∙ ap Ok e
+idle_take config me history p open' e = open_outlook config me history p open' ∙ ap Ok e
 
-counted_early : (full : Bool) (r : Result Effect NodeFault) (reply : Reply)
+pub counted_early : (full : Bool) (r : Result Effect NodeFault) (reply : Reply)
     → is_recorded (answered (unless_full full r) reply) ≡ true →
     r ≡ Ok effect.Counted
 counted_early full (Ok effect.Idle) reply e = absurd cc
@@ -101,7 +106,7 @@ open_by true true place end step e = absurd cc
 open_by true false place end step e = (refl, refl)
 
 -- a packet that was recorded was open then
-was_open : (config : ConfigValue) (me : ℕ) (history : List Event) (p : PacketValue) →
+pub was_open : (config : ConfigValue) (me : ℕ) (history : List Event) (p : PacketValue) →
     is_recorded (answer_due config me history (event.Take p)) ≡ true → IsOpen config.roles.sizes me (packets history) p
 unfolding step_due
 was_open config me history p recorded =
@@ -113,7 +118,7 @@ was_open config me history p recorded =
     record { routed = both.0; within = both.1 }
 
 -- .. and stays so: a stream grows
-stays_open : (s : Counts) (me : ℕ) (before later : List PacketValue) (p : PacketValue) → IsOpen s me before p →
+pub stays_open : (s : Counts) (me : ℕ) (before later : List PacketValue) (p : PacketValue) → IsOpen s me before p →
     IsOpen s me (before ++ later) p
 stays_open s me before later p open' =
     let grows = stream_grows_lem s p.owner before later in
@@ -152,7 +157,7 @@ packet_event (event.Issue c) p is = absurd cc
 packet_event (event.Take q) p is = cc
 packet_event (event.Client act) p is = absurd cc
 
-taken_is_open : (config : ConfigValue) (me : ℕ) (history : List Event) (p : PacketValue) (k : ℕ)
+pub taken_is_open : (config : ConfigValue) (me : ℕ) (history : List Event) (p : PacketValue) (k : ℕ)
     → IsLegal config me history →
     slice_get history k ≡ Some (event.Take p) → IsOpen config.roles.sizes me (packets history) p
 unfolding packets

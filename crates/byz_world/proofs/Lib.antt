@@ -21,6 +21,10 @@ pub mod ExampleRests
 pub mod Headline
 pub mod Limits
 pub mod Idle
+pub mod Progress
+pub mod Work
+pub mod Prolonging
+pub mod Schedules
 pub mod Telling
 pub mod Stepping
 pub mod Arriving

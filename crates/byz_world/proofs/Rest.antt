@@ -1,5 +1,6 @@
 -- A cluster at rest: what correct nodes have sent, all correct nodes have counted, so what one delivers, all do.
 use Rattle.std.proofs.Common.{◌≡◌, ℕ, ◌-◌, ◌<◌, ◌≤◌, Bool, true, false, ◌==◌, ◌&&◌, not, if◌then◌else◌}
+use Rattle.std.specs.Prelude.{IsTrue, Contains}
 use Rattle.std.proofs.Common.{IsSome, length, take, slice_get, option_map, Option, Some, None, refl}
 use Rattle.std.proofs.Common.{sym, ap, ◌∙◌, arith, take_all, le_refl, ltb-true, eq-eqb}
 use Rattle.std.specs.FinSet as sets
@@ -23,7 +24,8 @@ use Rattle.role_node.specs.Configs.{ConfigValue}
 use Rattle.role_node.specs.Histories.{issued, packets}
 use Rattle.byz_world.specs.Laws.{ReadyByAll, DeliveredByAll, HasReached, IssuedReachesAll, AtRest}
 use Rattle.byz_world.specs.Resting.{IsAtRest}
-use Rattle.byz_world.specs.Runs.{Run, history_of, IsClusterRun}
+use Rattle.byz_world.specs.Pools.{pool}
+use Rattle.byz_world.specs.Runs.{Run, history_of, is_correct, IsClusterRun}
 use Rattle.byz_world.proofs.Elements.{number_of}
 use Rattle.byz_world.proofs.Pooled.{sent_is_pooled, is_has_sent, some_is_for}
 use Rattle.byz_world.proofs.Counts.{len_within, len_covered, len_all}
@@ -56,8 +58,14 @@ own_send : (b : Bool) (o : Option Command) (c : Command) → b ≡ true → o �
 own_send true o c is e = e
 own_send false o c is e = absurd cc
 
-module _ (config : ConfigValue) (liars : Nodes) (run : Run) (cluster : IsClusterRun config liars run)
-    (rest : IsAtRest config liars run) where
+-- at rest about one place of an owner's stream: each packet about it was taken where it is sent to
+abbrev pub IsAtRestAt : ConfigValue → Nodes → Run → ℕ → ℕ → Type 0
+IsAtRestAt config liars run owner place =
+    (p : PacketValue) → Contains (pool config run) p → IsTrue (is_correct config.roles.sizes liars p.to) →
+    p.owner ≡ owner → p.place ≡ place → Contains (packets (history_of p.to run)) p
+
+module _ (config : ConfigValue) (liars : Nodes) (run : Run) (owner place : ℕ)
+    (cluster : IsClusterRun config liars run) (rest : IsAtRestAt config liars run owner place) where
   abbrev s : Counts
   s = config.roles.sizes
 
@@ -68,23 +76,23 @@ module _ (config : ConfigValue) (liars : Nodes) (run : Run) (cluster : IsCluster
   node_of name correct = ltb-true name s.nodes (and_parts _ _ correct).0
 
   -- what a correct node has sent, each correct node has taken
-  taken_there : (i name : ℕ) (kind : Kind) (owner place : ℕ) (c : Command) → IsHonest i →
+  taken_there : (i name : ℕ) (kind : Kind) (c : Command) → IsHonest i →
       said_by s run name kind owner place ≡ Some c →
       IsIn (taken_by run i owner place) (record { kind = kind; from = name; command = c })
   unfolding takes_at
-  taken_there i name kind owner place c correct e =
+  taken_there i name kind c correct e =
       let m : Message = record { kind = kind; owner = owner; place = place; command = c } in
       let p : PacketValue = packet_of name i m in
       let pooled = sent_is_pooled config liars run name i m cluster (is_has_sent s run name m e) (node_of i correct) in
-      let number = number_of (packets (history_of i run)) p (rest p pooled correct) in
+      let number = number_of (packets (history_of i run)) p (rest p pooled correct refl refl) in
       is_picked (take_at owner place) (packets (history_of i run)) p (take_of p) number.0 number.1 (at_place p)
 
-  voted : (i name : ℕ) (kind : Kind) (owner place : ℕ) (c : Command) → IsHonest i → IsHonest name →
+  voted : (i name : ℕ) (kind : Kind) (c : Command) → IsHonest i → IsHonest name →
       said_by s run name kind owner place ≡ Some c → vote kind name (taken_by run i owner place) ≡ Some c
   unfolding vote
-  voted i name kind owner place c correct sender e =
+  voted i name kind c correct sender e =
       let takes = taken_by run i owner place in
-      let there = taken_there i name kind owner place c correct e in
+      let there = taken_there i name kind c correct e in
       let found = found_there (is_vote_of kind name) takes _ there.0 there.1
       (and_from _ _ (same_kind-refl kind) (eq-eqb name name refl)) in
       let is : vote kind name takes ≡ Some found.0.command = ap (option_map command_of) found.1 in
@@ -95,74 +103,74 @@ module _ (config : ConfigValue) (liars : Nodes) (run : Run) (cluster : IsCluster
       is ∙ sym said ∙ e
 
   -- .. and counted
-  supports : (i name : ℕ) (kind : Kind) (owner place : ℕ) (c : Command) → IsHonest i → IsHonest name →
+  supports : (i name : ℕ) (kind : Kind) (c : Command) → IsHonest i → IsHonest name →
       said_by s run name kind owner place ≡ Some c
       → sets.contains (supporters kind c (taken_by run i owner place)) name ≡ true
-  supports i name kind owner place c correct sender e =
+  supports i name kind c correct sender e =
       contains-supporters kind c (taken_by run i owner place) name
-      ∙ some_is_for c _ (voted i name kind owner place c correct sender e)
+      ∙ some_is_for c _ (voted i name kind c correct sender e)
 
-  are_nodes : (i owner place : ℕ) (kind : Kind) (c : Command)
+  are_nodes : (i : ℕ) (kind : Kind) (c : Command)
       → AreNodes s (supporters kind c (taken_by run i owner place))
-  are_nodes i owner place kind c =
+  are_nodes i kind c =
       let takes = taken_by run i owner place in
       supporters_are config liars run cluster (length run) i owner place takes
       (whole_front config liars run cluster takes i owner place (front_itself takes)) kind c
 
   -- what all correct nodes have sent is supported by all but the liars
-  by_all : (i owner place : ℕ) (kind : Kind) (c : Command) → IsHonest i →
+  by_all : (i : ℕ) (kind : Kind) (c : Command) → IsHonest i →
       ((name : ℕ) → IsHonest name → said_by s run name kind owner place ≡ Some c) →
       s.nodes - s.liars ≤ sets.len (supporters kind c (taken_by run i owner place))
-  by_all i owner place kind c correct sent =
-      let h = len_all s liars (supporters kind c (taken_by run i owner place)) (are_nodes i owner place kind c)
+  by_all i kind c correct sent =
+      let h = len_all s liars (supporters kind c (taken_by run i owner place)) (are_nodes i kind c)
       (λ name within honest. let one = correct_if config liars run cluster name within honest in
-      supports i name kind owner place c correct one (sent name one)) in
+      supports i name kind c correct one (sent name one)) in
       let few = cluster.few in
       omega arith
 
   -- Who is ready.
 
-  ready_now : (i owner place : ℕ) (c : Command) → may_ready s (taken_by run i owner place) c ≡ true →
+  ready_now : (i : ℕ) (c : Command) → may_ready s (taken_by run i owner place) c ≡ true →
       (d : Command) × (readied s (taken_by run i owner place) ≡ Some d)
-  ready_now i owner place c may =
+  ready_now i c may =
       let takes = taken_by run i owner place in
       some_value _ (ready_comes s takes (length takes) c
       (ap (λ ts. may_ready s ts c) (take_all (length takes) takes (le_refl _)) ∙ may))
 
-  pub amplified : (owner place : ℕ) (c : Command) (ready : Nodes) →
+  pub amplified : (c : Command) (ready : Nodes) →
       ((name : ℕ) → sets.contains ready name ≡ true
       → IsHonest name × (readied s (taken_by run name owner place) ≡ Some c)) →
       amplify_of s ≤ sets.len ready → (j : ℕ) → IsHonest j → readied s (taken_by run j owner place) ≡ Some c
   unfolding may_ready
-  amplified owner place c ready are many j correct =
+  amplified c ready are many j correct =
       let are_ready : AreNodes s ready = λ name is. node_of name (are name is).0 in
       let more =
       len_within s ready (supporters Ready c (taken_by run j owner place)) are_ready
-      (are_nodes j owner place Ready c)
-      (λ name is. let r = are name is in supports j name Ready owner place c correct r.0 r.1) in
-      let now = ready_now j owner place c (or_right _ _ (le-leb (amplify_of s) _ (omega arith))) in
+      (are_nodes j Ready c)
+      (λ name is. let r = are name is in supports j name Ready c correct r.0 r.1) in
+      let now = ready_now j c (or_right _ _ (le-leb (amplify_of s) _ (omega arith))) in
       let one = correct_among config liars run cluster ready are_ready (omega arith) in
       now.1 ∙ ap Some (ready_for_one config liars run cluster j one.0 owner place now.0 c now.1 (are one.0 one.2).1)
 
   -- Who delivers: where all correct nodes are ready, each of them.
 
-  deliver_now : (i owner place : ℕ) (c : Command) → IsHonest i →
+  deliver_now : (i : ℕ) (c : Command) → IsHonest i →
       ((name : ℕ) → IsHonest name → readied s (taken_by run name owner place) ≡ Some c) →
       (d : Command) × (delivered s (taken_by run i owner place) ≡ Some d)
   unfolding may_deliver
-  deliver_now i owner place c correct ready =
+  deliver_now i c correct ready =
       let takes = taken_by run i owner place in
-      let many = by_all i owner place Ready c correct ready in
+      let many = by_all i Ready c correct ready in
       let enough = (correct_are_enough s cluster.sizes).1 in
       let may : may_deliver s takes c ≡ true = le-leb (deliver_of s) _ (omega arith) in
       some_value _ (delivery_comes s takes (length takes) c
       (ap (λ ts. may_deliver s ts c) (take_all (length takes) takes (le_refl _)) ∙ may))
 
-  pub delivered_there : (i j owner place : ℕ) (c : Command) → IsHonest j
+  pub delivered_there : (i j : ℕ) (c : Command) → IsHonest j
       → delivered s (taken_by run i owner place) ≡ Some c →
       delivered s (taken_by run j owner place) ≡ Some c
   unfolding may_deliver
-  delivered_there i j owner place c correct e =
+  delivered_there i j c correct e =
       let all = taken_by run i owner place in
       let first = delivery_was_first s all c e in
       let takes = take first.0 all in
@@ -179,7 +187,7 @@ module _ (config : ConfigValue) (liars : Nodes) (run : Run) (cluster : IsCluster
       ∙ and_from _ _ is (not_from_false _ not_liar)) in
       let few = cluster.few in
       let ready : (name : ℕ) → IsHonest name → readied s (taken_by run name owner place) ≡ Some c =
-      amplified owner place c honest
+      amplified c honest
       (λ name is.
       let parts = and_parts _ _ (sym (each name) ∙ is) in
       let one = correct_if config liars run cluster name (are name parts.0) (not-true _ parts.1) in (
@@ -187,57 +195,77 @@ module _ (config : ConfigValue) (liars : Nodes) (run : Run) (cluster : IsCluster
         supporter_said config liars run cluster (length run) i owner place takes front Ready c name one parts.0,
       ))
       (omega arith) in
-      let now = deliver_now j owner place c correct ready in
+      let now = deliver_now j c correct ready in
       some_same _ now.0 c now.1 (deliver_one config liars run cluster j i owner place now.0 c now.1 e)
 
   -- A correct owner's command.
 
-  pub echoed_there : (i owner place : ℕ) (c : Command) → IsHonest i → IsHonest owner
+  pub echoed_there : (i : ℕ) (c : Command) → IsHonest i → IsHonest owner
       → slice_get (issued (history_of owner run)) place ≡ Some c →
       echoed (taken_by run i owner place) ≡ Some c
   unfolding echoed
-  echoed_there i owner place c correct sender e =
+  echoed_there i c correct sender e =
       let takes = taken_by run i owner place in
       let sent : said_by s run owner Send owner place ≡ Some c =
       own_send (owner == owner) _ c (eq-eqb owner owner refl) e in
-      let there = taken_there i owner Send owner place c correct sent in
+      let there = taken_there i owner Send c correct sent in
       let found = found_there (is_of_kind Send) takes _ there.0 there.1 (same_kind-refl Send) in
       let is : echoed takes ≡ Some found.0.command = ap (option_map command_of) found.1 in
       is ∙ sym (echo_was_issued config liars run i owner place found.0.command cluster sender is) ∙ e
 
-  pub readied_there : (i owner place : ℕ) (c : Command) → IsHonest i → IsHonest owner
+  pub readied_there : (i : ℕ) (c : Command) → IsHonest i → IsHonest owner
       → slice_get (issued (history_of owner run)) place ≡ Some c →
       readied s (taken_by run i owner place) ≡ Some c
   unfolding may_ready
-  readied_there i owner place c correct sender e =
-      let many = by_all i owner place Echo c correct (λ name one. echoed_there name owner place c one sender e) in
+  readied_there i c correct sender e =
+      let many = by_all i Echo c correct (λ name one. echoed_there name c one sender e) in
       let enough = (correct_are_enough s cluster.sizes).0 in
-      let now = ready_now i owner place c (or_left _ _ (le-leb (echo_quorum_of s) _ (omega arith))) in
+      let now = ready_now i c (or_left _ _ (le-leb (echo_quorum_of s) _ (omega arith))) in
       now.1 ∙ sym (ready_was_issued config liars run cluster i owner place now.0 sender now.1) ∙ e
 
-  pub reached : (i owner place : ℕ) (c : Command) → IsHonest i → IsHonest owner
+  pub reached : (i : ℕ) (c : Command) → IsHonest i → IsHonest owner
       → slice_get (issued (history_of owner run)) place ≡ Some c →
       HasReached config run i owner place c
-  reached i owner place c correct sender e =
-      let now = deliver_now i owner place c correct (λ name one. readied_there name owner place c one sender e) in
+  reached i c correct sender e =
+      let now = deliver_now i c correct (λ name one. readied_there name c one sender e) in
       record {
-        was_echoed = echoed_there i owner place c correct sender e;
-        was_readied = readied_there i owner place c correct sender e;
+        was_echoed = echoed_there i c correct sender e;
+        was_readied = readied_there i c correct sender e;
         was_delivered = now.1 ∙ sym (delivered_was_issued config liars run cluster i owner place now.0 sender now.1)
             ∙ e;
       }
 
+-- A cluster at rest is so about each place.
+
+module _ (config : ConfigValue) (liars : Nodes) (run : Run) (cluster : IsClusterRun config liars run)
+    (rest : IsAtRest config liars run) where
+  about : (owner place : ℕ) → IsAtRestAt config liars run owner place
+  about owner place p pooled correct _ _ = rest p pooled correct
+
+  abbrev IsHonestIn : ℕ → Type 0
+  IsHonestIn name = IsCorrect config liars run cluster name
+
+  there : (i j owner place : ℕ) (c : Command) → IsHonestIn j →
+      delivered config.roles.sizes (taken_by run i owner place) ≡ Some c →
+      delivered config.roles.sizes (taken_by run j owner place) ≡ Some c
+  there i j owner place c = delivered_there config liars run owner place cluster (about owner place) i j c
+
+  everywhere : (i owner place : ℕ) (c : Command) → IsHonestIn i → IsHonestIn owner →
+      slice_get (issued (history_of owner run)) place ≡ Some c → HasReached config run i owner place c
+  everywhere i owner place c = reached config liars run owner place cluster (about owner place) i c
+
 pub ready_by_all : ReadyByAll
 ready_by_all config liars run owner place c ready cluster rest are many j correct =
-    amplified config liars run cluster rest owner place c ready are many j correct
+    amplified config liars run owner place cluster (about config liars run cluster rest owner place) c
+    ready are many j correct
 
 pub delivered_by_all : DeliveredByAll
 delivered_by_all config liars run i j owner place c cluster rest _ correct e =
-    delivered_there config liars run cluster rest i j owner place c correct e
+    there config liars run cluster rest i j owner place c correct e
 
 pub issued_reaches_all : IssuedReachesAll
 issued_reaches_all config liars run i owner place c cluster rest correct sender e =
-    reached config liars run cluster rest i owner place c correct sender e
+    everywhere config liars run cluster rest i owner place c correct sender e
 
 pub at_rest : AtRest
 at_rest config liars run cluster rest = record {
@@ -245,8 +273,9 @@ at_rest config liars run cluster rest = record {
       sym (stream_is_one_lem config.roles.sizes owner (packets (history_of i run)) (issued (history_of owner run))
       (λ place _. same_answer _ _
       (λ c e. delivered_was_issued config liars run cluster i owner place c sender e)
-      (λ c e. let all = reached config liars run cluster rest i owner place c correct sender e in all.was_delivered)));
+      (λ c e. let all = everywhere config liars run cluster rest i owner place c correct sender e in
+      all.was_delivered)));
   delivered_by_all = λ i j owner place a b. same_answer _ _
-      (λ c e. delivered_there config liars run cluster rest i j owner place c b e)
-      (λ c e. delivered_there config liars run cluster rest j i owner place c a e);
+      (λ c e. there config liars run cluster rest i j owner place c b e)
+      (λ c e. there config liars run cluster rest j i owner place c a e);
 }

@@ -5,6 +5,7 @@ pub mod LabKeys
 pub mod Steps
 pub mod Faults
 pub mod Resting
+pub mod Progress
 pub mod Agreement
 pub mod Laws
 pub mod Limits

@@ -6,6 +6,7 @@ ghost use Rattle.byz_world.specs.Headline.{Headline};
 ghost use Rattle.byz_world.specs.Laws.{PoolIsWhatWasSent, Consistency, Integrity, SamePolicy, ReadyByAll};
 ghost use Rattle.byz_world.specs.Laws.{DeliveredByAll, IssuedReachesAll, AtRest};
 ghost use Rattle.byz_world.specs.Limits.{LimitsMayDiffer};
+ghost use Rattle.byz_world.specs.Progress.{NothingIsStuck, WorkIsBounded, FairSchedulesSettle};
 
 /// A run whose correct nodes keep to different limits is one of a cluster whose limit is at least the largest of them,
 /// so that all that is said here holds of it.
@@ -54,6 +55,24 @@ pub fn issued_reaches_all()
 /// node delivered, each did.
 pub fn law_at_rest()
     ensures { AtRest }
+{}
+
+/// Of a cluster in which no correct node's history is full: where no packet of the pool would be recorded by its
+/// correct receiver if it were given once more, the cluster is at rest, and only there.
+pub fn law_nothing_is_stuck()
+    ensures { NothingIsStuck }
+{}
+
+/// About one place a node records a SEND of its owner, an ECHO and a READY of each node at most, and nothing beyond its
+/// window; and by packets of the pool alone a run gets only so much longer, whatever liars did before.
+pub fn law_work_is_bounded()
+    ensures { WorkIsBounded }
+{}
+
+/// Of every run of a cluster, each way to prolong it by packets of the pool, each recorded, ends; and where none counts
+/// any more and no history is full, it is at rest, and all is delivered.
+pub fn law_fair_schedules_settle()
+    ensures { FairSchedulesSettle }
 {}
 
 /// There is a run of a cluster in which a node lies and two correct nodes deliver a command.

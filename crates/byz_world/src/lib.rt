@@ -14,7 +14,10 @@ mod world;
 
 pub use faults::WorldFault;
 pub use keys::lab_key;
-pub use laws::{law_at_rest, law_consistency, law_headline, law_integrity, law_same_policy};
+pub use laws::{
+    law_at_rest, law_consistency, law_fair_schedules_settle, law_headline, law_integrity,
+    law_nothing_is_stuck, law_same_policy, law_work_is_bounded,
+};
 pub use step::{Step, StepReply};
 pub use world::World;
 

@@ -1,0 +1,301 @@
+-- Where no packet counts any more a cluster is at rest: about one place after another, so each reaches as far as the
+-- others, so nothing is beyond a window.
+use Rattle.std.proofs.Common.{◌≡◌, ℕ, zero, suc, ◌+◌, ◌<◌, ◌≤◌, ◌⊎◌, inl, inr, ⊎_elim, Bool, true, false, ◌==◌}
+use Rattle.std.proofs.Common.{List, [], ◌∷◌, ◌++◌, length, take, Some, None, Result, Ok, Err, refl, sym, ap}
+use Rattle.std.proofs.Common.{◌∙◌, subst, append-nil, append_assoc, length-append, arith, le_refl}
+use Rattle.std.specs.Prelude.{if◌then◌else◌, IsTrue, nat_le, slice_get, Contains}
+use Rattle.std.proofs.Math.Seq.{take-append_seam}
+use Rattle.std.proofs.lemmas.Bool.{and_from, cases_lt, lt-ltb}
+use Rattle.std.proofs.lemmas.Bool.Decides.{nat_tests}
+use Rattle.std.proofs.lemmas.Option.{slice_get_within}
+use Rattle.quorum_sizes.specs.Sizes.{Counts}
+use Rattle.quorum_sizes.specs.NodeSets.{Nodes}
+use Rattle.role_commands.specs.declared.command.Command.{Command}
+use Rattle.link_frames.specs.Packets.{PacketValue, message_of}
+use Rattle.link_frames.specs.declared.kind.Kind.{Kind}
+use Rattle.link_frames.specs.declared.kind.Kind.TheVariants.{Send, Echo, Ready}
+use Rattle.bracha_instance.specs.Broadcast.{Take, echoed, readied, delivered}
+use Rattle.bracha_instance.specs.Taking.{effect_of}
+use Rattle.bracha_instance.specs.declared.instance.Effect.{Effect}
+use Rattle.bracha_instance.specs.declared.instance.Effect.TheVariants as effect
+use Rattle.owner_streams.proofs.Exported.{stream_is_exact_lem, stream_grows_lem, echoed-none, readied-none}
+use Rattle.owner_streams.specs.Places.{place_count, window, take_of, takes_at, stream, reach}
+use Rattle.role_node.proofs.Exported.{issued-none, issued-Issue, issued-Take, issued-Client}
+use Rattle.role_node.proofs.Exported.{packets-Issue, packets-Take, packets-Client}
+use Rattle.role_node.specs.Access.{reach_at}
+use Rattle.role_node.specs.Answers.{outlook, answered, unless_full, or_counted, issue_fault}
+use Rattle.role_node.specs.Answers.{reply_to, answer_due, is_recorded, IsLegal}
+use Rattle.role_node.specs.Configs.{ConfigValue}
+use Rattle.role_node.specs.Histories.{issued, packets}
+use Rattle.role_node.specs.declared.event.Event.{Event}
+use Rattle.role_node.specs.declared.event.Event.TheVariants as event
+use Rattle.role_node.specs.declared.faults.NodeFault.{NodeFault}
+use Rattle.role_node.specs.declared.faults.NodeFault.TheVariants as fault
+use Rattle.byz_world.specs.Inside.{is_idle}
+use Rattle.byz_world.specs.Laws.{stream_of, reach_of}
+use Rattle.byz_world.specs.Pools.{pool, WasSent}
+use Rattle.byz_world.specs.Progress.{IsStuck, HasRoom, NothingIsStuck}
+use Rattle.byz_world.specs.Resting.{IsAtRest}
+use Rattle.byz_world.specs.Runs.{Run, history_of, is_correct, IsClusterRun}
+use Rattle.byz_world.proofs.Elements.{at_seam}
+use Rattle.byz_world.proofs.Histories.{taken_by, taken_whole, IsTakenIn, taken_in}
+use Rattle.byz_world.proofs.Idle.{IsOpen, open_outlook, counted_early, taken_is_open, taken_is_idle, idle_is_taken}
+use Rattle.byz_world.proofs.Lists.{IsIn}
+use Rattle.byz_world.proofs.Pooled.{has_sent_is, pooled_is_sent}
+use Rattle.byz_world.proofs.Recording.{counted_recorded}
+use Rattle.byz_world.proofs.Rest.{IsAtRestAt, delivered_there}
+use Rattle.byz_world.proofs.Safety.{streamed}
+use Rattle.byz_world.proofs.Telling.{foreign_is_unsent, correct_is_node, pooled_is_own}
+use Rattle.byz_world.proofs.Votes.{said_by, if_own}
+
+-- What is before the end of its window, and does not count, is idle.
+
+effect_cases : (e : Effect) → (e ≡ effect.Idle) ⊎ (e ≡ effect.Counted)
+effect_cases effect.Idle = inl refl
+effect_cases effect.Counted = inr refl
+
+roomy : (full : Bool) (e : Effect) → full ≡ false → unless_full full (Ok e) ≡ Ok e
+roomy full effect.Idle spare = refl
+roomy full effect.Counted spare = ap (λ b. unless_full b (Ok effect.Counted)) spare
+
+not_full : (limit count : ℕ) → count < limit → nat_le limit count ≡ false
+not_full limit count h = grind (arith, nat_tests)
+
+open_is_idle : (config : ConfigValue) (me : ℕ) (history : List Event) (p : PacketValue) →
+    IsOpen config.roles.sizes me (packets history) p → length history < config.limit →
+    is_recorded (answer_due config me history (event.Take p)) ≡ false →
+    is_idle (outlook config me history (event.Take p)) ≡ true
+open_is_idle config me history p open' room uncounted =
+    let e : Effect = effect_of (takes_at p.owner p.place (packets history)) (take_of p) in
+    let full : Bool = nat_le config.limit (length history) in
+    let is : outlook config me history (event.Take p) ≡ Ok e =
+    ap (unless_full full) (open_outlook config me history p open') ∙ roomy full e (not_full _ _ room) in
+    ⊎_elim
+    (λ (idle : e ≡ effect.Idle). ap is_idle (is ∙ ap Ok idle))
+    (λ (counted : e ≡ effect.Counted).
+    let clash : true ≡ false =
+    sym (counted_recorded config me history (event.Take p) (is ∙ ap Ok counted)) ∙ uncounted in
+    absurd cc)
+    (effect_cases e)
+
+-- How far ahead of its own stream a node issues.
+
+-- an event is recorded after what was before it
+pub recorded_next : (config : ConfigValue) (me : ℕ) (past rest : List Event) (e : Event) →
+    IsLegal config me (past ++ e ∷ rest) → is_recorded (answer_due config me past e) ≡ true
+recorded_next config me past rest e legal =
+    let P : List Event → Type 0 = λ es. IsTrue (is_recorded (answer_due config me es e)) in
+    subst P (take-append_seam past (e ∷ rest)) (legal (length past) e (at_seam past rest e))
+
+-- its stream has a place for the command, and the window one more
+pub record HasPlace (roles_nodes : Counts) (me : ℕ) (past : List Event) : Type 0 where
+  pub of_stream : length (issued past) < place_count
+  pub of_window : length (issued past) < reach_at roles_nodes past me + window
+
+below : (a b : ℕ) → nat_le a b ≡ false → b < a
+below a b e = grind (arith, nat_tests)
+
+unrefused : (mine stream_full busy : Bool) →
+    ◌≡◌ {A = Result Effect NodeFault}
+    (or_counted (if mine then Some fault.NotMine else (if stream_full then Some fault.StreamFull
+    else (if busy then Some fault.Busy else None))))
+    (Ok effect.Counted) → (stream_full ≡ false) × (busy ≡ false)
+unrefused true stream_full busy e = absurd cc
+unrefused false true busy e = absurd cc
+unrefused false false true e = absurd cc
+unrefused false false false e = (refl, refl)
+
+pub issue_has_place : (config : ConfigValue) (me : ℕ) (past : List Event) (c : Command) →
+    is_recorded (answer_due config me past (event.Issue c)) ≡ true → HasPlace config.roles.sizes me past
+issue_has_place config me past c recorded =
+    let early : or_counted (issue_fault config.roles me past c) ≡ Ok effect.Counted =
+    counted_early (nat_le config.limit (length past)) (or_counted (issue_fault config.roles me past c))
+    (reply_to config.roles me past (event.Issue c)) recorded in
+    let both = unrefused _ _ _ early in
+    record { of_stream = below _ _ both.0; of_window = below _ _ both.1 }
+
+pub reach_grows : (s : Counts) (owner : ℕ) (before later : List PacketValue) →
+    reach s owner before ≤ reach s owner (before ++ later)
+reach_grows s owner before later =
+    let grows = stream_grows_lem s owner before later in
+    let more : reach s owner (before ++ later) ≡ reach s owner before + length grows.0 =
+    ap length (sym grows.1) ∙ length-append (stream s owner before) grows.0 in
+    omega (arith, more)
+
+abbrev IssuesWithin : Counts → ℕ → List Event → Type 0
+IssuesWithin s me history = length (issued history) ≤ reach_at s history me + window
+
+within_next : (config : ConfigValue) (me : ℕ) (past : List Event) (e : Event) →
+    is_recorded (answer_due config me past e) ≡ true → IssuesWithin config.roles.sizes me past →
+    IssuesWithin config.roles.sizes me (past ++ e ∷ [])
+within_next config me past (event.Issue c) recorded was =
+    let s : Counts = config.roles.sizes in
+    let place = (issue_has_place config me past c recorded).of_window in
+    let more : length (issued (past ++ event.Issue c ∷ [])) ≡ length (issued past) + 1 =
+    ap length (issued-Issue past c) ∙ length-append (issued past) (c ∷ []) in
+    let same : reach_at s (past ++ event.Issue c ∷ []) me ≡ reach_at s past me =
+    ap (reach s me) (packets-Issue past c) in
+    omega (arith, place, more, same)
+within_next config me past (event.Take p) recorded was =
+    let s : Counts = config.roles.sizes in
+    let same : length (issued (past ++ event.Take p ∷ [])) ≡ length (issued past) = ap length (issued-Take past p) in
+    let after : reach_at s (past ++ event.Take p ∷ []) me ≡ reach s me (packets past ++ p ∷ []) =
+    ap (reach s me) (packets-Take past p) in
+    omega (arith, was, same, after, reach_grows s me (packets past) (p ∷ []))
+within_next config me past (event.Client act) recorded was =
+    let s : Counts = config.roles.sizes in
+    let same : length (issued (past ++ event.Client act ∷ [])) ≡ length (issued past) =
+    ap length (issued-Client past act) in
+    let after : reach_at s (past ++ event.Client act ∷ []) me ≡ reach_at s past me =
+    ap (reach s me) (packets-Client past act) in
+    omega (arith, was, same, after)
+
+within_after : (config : ConfigValue) (me : ℕ) (past rest : List Event) → IsLegal config me (past ++ rest) →
+    IssuesWithin config.roles.sizes me past → IssuesWithin config.roles.sizes me (past ++ rest)
+within_after config me past [] legal was = subst (IssuesWithin config.roles.sizes me) (sym (append-nil past)) was
+within_after config me past (e ∷ rest) legal was =
+    let split : past ++ e ∷ rest ≡ (past ++ e ∷ []) ++ rest = sym (append_assoc past (e ∷ []) rest) in
+    let next = within_next config me past e (recorded_next config me past rest e legal) was in
+    subst (IssuesWithin config.roles.sizes me) (sym split)
+    (within_after config me (past ++ e ∷ []) rest (subst (IsLegal config me) split legal) next)
+
+-- a node has issued no more than the window beyond the reach of its own stream
+pub issues_within : (config : ConfigValue) (me : ℕ) (history : List Event) → IsLegal config me history →
+    length (issued history) ≤ reach_at config.roles.sizes history me + window
+issues_within config me history legal =
+    within_after config me [] history legal (omega (arith, ap length issued-none))
+
+-- What a node has sent about a place is before the end of its own window.
+
+one_of : (takes : List Take) → (takes ≡ [] → ⊥) → (t : Take) × IsIn takes t
+one_of [] some = absurd (some refl)
+one_of (t ∷ takes) some = (t, (0, refl))
+
+some_within : {A : Type 0} (xs : List A) (k : ℕ) → k < length xs → (x : A) × (slice_get xs k ≡ Some x)
+some_within [] k h = absurd (omega (arith, h))
+some_within (x ∷ xs) zero h = (x, refl)
+some_within (x ∷ xs) (suc k) h = some_within xs k (omega (arith, h))
+
+module _ (config : ConfigValue) (liars : Nodes) (run : Run) (cluster : IsClusterRun config liars run) where
+  abbrev s : Counts
+  s = config.roles.sizes
+
+  abbrev IsHonest : ℕ → Type 0
+  IsHonest name = is_correct s liars name ≡ true
+
+  -- where a node took anything about a place, the place is before the end of its window
+  pub taken_within : (node owner place : ℕ) → (taken_by run node owner place ≡ [] → ⊥) →
+      place < reach_of config run node owner + window
+  taken_within node owner place some =
+      let one = one_of (taken_by run node owner place) some in
+      let in_whole : IsIn (taken_by (take (length run) run) node owner place) one.0 =
+      subst (λ ts. IsIn ts one.0) (sym (taken_whole run node owner place)) one.1 in
+      let from : IsTakenIn run (length run) node owner place one.0 =
+      taken_in (length run) run node owner place one.0 in_whole in
+      let open' = taken_is_open config node (history_of node run) from.packet from.number (cluster.legal node)
+      from.in_history in
+      let P : ℕ → ℕ → Type 0 = λ o k. k < reach_of config run node o + window in
+      subst (λ o. P o place) from.owner_is (subst (P from.packet.owner) from.place_is (below _ _ open'.within))
+
+  sent_within : (node : ℕ) (kind : Kind) (owner place : ℕ) (c : Command) → (kind ≡ Send → node ≡ owner) →
+      said_by s run node kind owner place ≡ Some c → place < reach_of config run node owner + window
+  sent_within node Send owner place c own e =
+      let P : ℕ → Type 0 = λ o. place < reach_of config run node o + window in
+      let mine = if_own (owner == node) _ c e in
+      let within = slice_get_within (issued (history_of node run)) place c mine.1 in
+      let few = issues_within config node (history_of node run) (cluster.legal node) in
+      subst P (own refl) (omega (arith, within, few))
+  sent_within node Echo owner place c own e =
+      taken_within node owner place (λ none.
+      let nothing : echoed (taken_by run node owner place) ≡ None = ap echoed none ∙ echoed-none in absurd cc)
+  sent_within node Ready owner place c own e =
+      taken_within node owner place (λ none.
+      let nothing : readied s (taken_by run node owner place) ≡ None = ap (readied s) none ∙ readied-none s in
+      absurd cc)
+
+  -- a packet of the pool is before the end of its sender's window
+  pub pooled_within : (p : PacketValue) → Contains (pool config run) p →
+      p.place < reach_of config run p.from p.owner + window
+  pooled_within p pooled =
+      let was = pooled_is_sent config liars run p cluster pooled in
+      sent_within p.from p.kind p.owner p.place p.command (pooled_is_own config liars run p cluster pooled)
+      (has_sent_is s run p.from (message_of p) was.sent)
+
+  pub owned : (p : PacketValue) → WasSent config liars run p → p.owner < s.nodes
+  owned p was =
+      ⊎_elim
+      (λ (within : p.owner < s.nodes). within)
+      (λ (past : s.nodes ≤ p.owner).
+      let clash : true ≡ false = sym was.sent ∙ foreign_is_unsent config liars run p.from (message_of p) cluster past
+      (correct_is_node s liars p.from was.from) in
+      absurd cc)
+      (cases_lt p.owner s.nodes)
+
+  pub pooled_is_open : (p : PacketValue) → Contains (pool config run) p →
+      p.place < reach_of config run p.to p.owner + window → IsOpen s p.to (packets (history_of p.to run)) p
+  pooled_is_open p pooled within =
+      let was = pooled_is_sent config liars run p cluster pooled in
+      record {
+        routed = and_from _ _ (and_from _ _ (same p.to)
+            (lt-ltb p.from s.nodes (correct_is_node s liars p.from was.from))) (lt-ltb p.owner s.nodes (owned p was));
+        within = not_full _ _ within;
+      }
+    where
+      same : (a : ℕ) → (a == a) ≡ true
+      same a = grind (arith, nat_tests)
+
+  -- Where nothing counts any more.
+
+  module _ (room : HasRoom config liars run) (stuck : IsStuck config liars run) where
+    within_taken : (p : PacketValue) → Contains (pool config run) p → IsHonest p.to →
+        p.place < reach_of config run p.to p.owner + window → Contains (packets (history_of p.to run)) p
+    within_taken p pooled correct within =
+        idle_is_taken config liars run p cluster (pooled_is_sent config liars run p cluster pooled)
+        (open_is_idle config p.to (history_of p.to run) p (pooled_is_open p pooled within) (room p.to correct)
+        (stuck p pooled correct))
+
+    -- a place that each correct node's stream reaches, or ends at, is at rest
+    rests_at : (owner m : ℕ) → ((k : ℕ) → IsHonest k → m ≤ reach_of config run k owner) →
+        IsAtRestAt config liars run owner m
+    rests_at owner m all p pooled correct own there =
+        let P : ℕ → Type 0 = λ o. m ≤ reach_of config run p.to o in
+        let reached : m ≤ reach_of config run p.to p.owner = subst P (sym own) (all p.to correct) in
+        within_taken p pooled correct (omega (arith, reached, there))
+
+    -- how far one correct node's stream of an owner reaches, each does
+    reaches : (owner m j : ℕ) → IsHonest j → m ≤ reach_of config run j owner → (i : ℕ) → IsHonest i →
+        m ≤ reach_of config run i owner
+    reaches owner zero j _ h i _ = omega arith
+    reaches owner (suc m) j one h i other =
+        let all : (k : ℕ) → IsHonest k → m ≤ reach_of config run k owner = reaches owner m j one (omega (arith, h)) in
+        let rest = rests_at owner m all in
+        let there = some_within (stream_of config run j owner) m (omega (arith, h)) in
+        let now : delivered s (taken_by run i owner m) ≡ Some there.0 =
+        delivered_there config liars run owner m cluster rest j i there.0 other
+        (streamed config liars run cluster j owner m there.0 there.1) in
+        let at : slice_get (stream_of config run i owner) m ≡ Some there.0 =
+        sym (stream_is_exact_lem s owner (packets (history_of i run)) m (all i other)) ∙ now in
+        omega (arith, slice_get_within (stream_of config run i owner) m there.0 at)
+
+    rests : IsAtRest config liars run
+    rests p pooled correct =
+        let was = pooled_is_sent config liars run p cluster pooled in
+        let far = reaches p.owner (reach_of config run p.from p.owner) p.from was.from (le_refl _) p.to correct in
+        within_taken p pooled correct (omega (arith, far, pooled_within p pooled))
+
+idle_uncounted : (config : ConfigValue) (me : ℕ) (history : List Event) (e : Event) →
+    is_idle (outlook config me history e) ≡ true → is_recorded (answer_due config me history e) ≡ false
+idle_uncounted config me history e idle = by (outlook config me history e) idle
+  where
+    by : (o : Result Effect NodeFault) → is_idle o ≡ true →
+        is_recorded (answered o (reply_to config.roles me history e)) ≡ false
+    by (Ok effect.Idle) is = refl
+    by (Ok effect.Counted) is = absurd cc
+    by (Err f) is = absurd cc
+
+pub nothing_is_stuck : NothingIsStuck
+nothing_is_stuck config liars run cluster room = (
+  λ stuck. rests config liars run cluster room stuck,
+  λ rest p pooled correct. idle_uncounted config p.to (history_of p.to run) (event.Take p)
+      (taken_is_idle config p.to (history_of p.to run) p (cluster.legal p.to) (rest p pooled correct)),
+)

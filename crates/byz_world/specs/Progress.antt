@@ -1,0 +1,99 @@
+-- How far a run goes on by what its correct nodes have sent, and when that can go no further.
+use Rattle.std.specs.Prelude.{◌≡◌, ℕ, ◌+◌, ◌*◌, ◌<◌, ◌≤◌, ◌⊎◌, ◌↔◌, Bool, false, IsTrue}
+use Rattle.std.specs.Prelude.{[], ◌++◌, length, take, slice_get, Contains, Some}
+use Rattle.quorum_sizes.specs.Sizes.{Counts}
+use Rattle.quorum_sizes.specs.NodeSets.{Nodes}
+use Rattle.link_frames.specs.Packets.{PacketValue}
+use Rattle.owner_streams.specs.Places.{window, takes_at}
+use Rattle.role_node.specs.Answers.{answer_due, is_recorded}
+use Rattle.role_node.specs.Configs.{ConfigValue}
+use Rattle.role_node.specs.Histories.{packets}
+use Rattle.role_node.specs.declared.event.Event.{Event}
+use Rattle.role_node.specs.declared.event.Event.TheVariants.{Take}
+use Rattle.byz_world.specs.Laws.{reach_of, HasSettled}
+use Rattle.byz_world.specs.Pools.{pool}
+use Rattle.byz_world.specs.Resting.{IsAtRest}
+use Rattle.byz_world.specs.Runs.{Run, history_of, is_correct, IsClusterRun}
+
+-- its receiver would record the packet if it were given now
+abbrev pub counts_now : ConfigValue → Run → PacketValue → Bool
+counts_now config run p = is_recorded (answer_due config p.to (history_of p.to run) (Take p))
+
+-- no packet of the pool to a correct node counts any more
+abbrev pub IsStuck : ConfigValue → Nodes → Run → Type 0
+IsStuck config liars run =
+    (p : PacketValue) → Contains (pool config run) p → IsTrue (is_correct config.roles.sizes liars p.to) →
+    counts_now config run p ≡ false
+
+-- no correct node's history is full
+abbrev pub HasRoom : ConfigValue → Nodes → Run → Type 0
+HasRoom config liars run =
+    (node : ℕ) → IsTrue (is_correct config.roles.sizes liars node) → length (history_of node run) < config.limit
+
+-- Nothing is stuck. Of a cluster in which no history is full: where no packet of the pool counts any more, it is at
+-- rest, and only there. So none waits beyond a window for ever.
+abbrev pub NothingIsStuck : Type 0
+NothingIsStuck =
+    (config : ConfigValue) (liars : Nodes) (run : Run) → IsClusterRun config liars run → HasRoom config liars run →
+    IsStuck config liars run ↔ IsAtRest config liars run
+
+-- the packet may be given, and counts: a correct node has sent it to a correct node, which would record it
+pub record IsGivable (config : ConfigValue) (liars : Nodes) (run : Run) (p : PacketValue) : Type 0 where
+  pub sent : Contains (pool config run) p
+  pub to : IsTrue (is_correct config.roles.sizes liars p.to)
+  pub counts : IsTrue (counts_now config run p)
+
+-- The run is prolonged by packets of the pool alone, in whatever order: each of these pairs is such a packet, which
+-- counted when it was given, and its receiver.
+abbrev pub IsProlongation : ConfigValue → Nodes → Run → Run → Type 0
+IsProlongation config liars run more =
+    (t : ℕ) (pair : ℕ × Event) → slice_get more t ≡ Some pair →
+    (p : PacketValue) × IsGivable config liars (run ++ take t more) p × (pair ≡ (p.to, Take p))
+
+-- so many packets about a place can count at a node: a SEND of the owner, and an ECHO and a READY of each node
+abbrev pub most_at_place : Counts → ℕ
+most_at_place s = 2 * s.nodes + 1
+
+-- so many can count in all, about the places before this one of each owner at each node
+abbrev pub most_work : Counts → ℕ → ℕ
+most_work s places = s.nodes * (s.nodes * (places * most_at_place s))
+
+-- no packet of the pool is about this place or a later one
+abbrev pub IsPoolBelow : ConfigValue → Run → ℕ → Type 0
+IsPoolBelow config run places = (p : PacketValue) → Contains (pool config run) p → p.place < places
+
+-- Work is bounded: no more was recorded about a place than can count there, nothing about a place beyond the window,
+-- and by packets of the pool alone a run gets only so much longer, whatever liars did before.
+pub record IsWorkBounded (config : ConfigValue) (liars : Nodes) (run : Run) : Type 0 where
+  pub at_place : (node owner place : ℕ) →
+      length (takes_at owner place (packets (history_of node run))) ≤ most_at_place config.roles.sizes
+  pub none_beyond : (node owner place : ℕ) → reach_of config run node owner + window ≤ place →
+      takes_at owner place (packets (history_of node run)) ≡ []
+  pub ends : (more : Run) (places : ℕ) → IsPoolBelow config run places → IsProlongation config liars run more →
+      length more ≤ most_work config.roles.sizes places
+
+abbrev pub WorkIsBounded : Type 0
+WorkIsBounded =
+    (config : ConfigValue) (liars : Nodes) (run : Run) → IsClusterRun config liars run →
+    IsWorkBounded config liars run
+
+-- What holds of a run that is prolonged by packets of the pool, in whatever order they are given. It is a run of a
+-- cluster and gets only so much longer, so it fills no history that has room for that; and while no history is full,
+-- some packet counts until the cluster is at rest, and where none does, all is delivered.
+pub record ComesToRest (config : ConfigValue) (liars : Nodes) (run more : Run) : Type 0 where
+  pub is_run : IsClusterRun config liars (run ++ more)
+  pub ends : (places : ℕ) → IsPoolBelow config run places → length more ≤ most_work config.roles.sizes places
+  pub has_room : (places : ℕ) → IsPoolBelow config run places →
+      ((node : ℕ) → IsTrue (is_correct config.roles.sizes liars node) →
+      length (history_of node run) + most_work config.roles.sizes places < config.limit) →
+      HasRoom config liars (run ++ more)
+  pub goes_on : HasRoom config liars (run ++ more) →
+      IsAtRest config liars (run ++ more) ⊎ ((p : PacketValue) × IsGivable config liars (run ++ more) p)
+  pub settles : HasRoom config liars (run ++ more) → IsStuck config liars (run ++ more) →
+      HasSettled config liars (run ++ more)
+
+-- Whoever goes on giving packets that count comes to an end, and there the cluster is at rest.
+abbrev pub FairSchedulesSettle : Type 0
+FairSchedulesSettle =
+    (config : ConfigValue) (liars : Nodes) (run more : Run) → IsClusterRun config liars run →
+    IsProlongation config liars run more → ComesToRest config liars run more
