@@ -306,7 +306,7 @@ static HEADS: [(&str, Member); 7] = [
     (r#""op":"reach","owner":"#, Owner),
     (r#""op":"again","owner":0,"place":"#, Place),
 ];
-/// What is no number of any member, but a value.
+/// What is a value, and no number of any member.
 static NO_NUMBERS: [&str; 12] = [
     "null",
     "true",
