@@ -1,7 +1,7 @@
 -- The roles of a cluster text, one after another.
 use Rattle.std.proofs.Common.{◌≡◌, ℕ, ◌+◌, ◌<◌, ◌≤◌, ◌==◌, Bool, true, false, ◌||◌, nat_le, if◌then◌else◌}
 use Rattle.std.proofs.Common.{List, [], ◌∷◌, ◌++◌, drop, take, get_or, length, is_some, cond, option_and_then}
-use Rattle.std.proofs.Common.{Option, Some, None, Result, Ok, Err, refl, sym, ap, subst, ◌∙◌, append-nil, length-append}
+use Rattle.std.proofs.Common.{Option, Some, None, Result, Ok, Err, IsOk, refl, sym, ap, subst, ◌∙◌, append-nil, length-append}
 use Rattle.std.proofs.lemmas.List.{drop_more, drop_all, take_more}
 use Rattle.std.proofs.lemmas.List.Folds.{list_any-append}
 use Rattle.std.proofs.lemmas.List.Elements.{filter_map-append}
@@ -56,6 +56,19 @@ first_refused : (t : Table) (p : ℕ × ℕ) (rest : List (ℕ × ℕ)) (f : Tab
 unfolding table_of
 first_refused t p rest f due = ap (λ f. or_table_fault (with_role t p.0 p.1) f >>= (λ more. table_of more rest)) due
 
+-- where all of them can be added, the first can
+first_fits : (t : Table) (p : Option (ℕ × ℕ)) (rest : List (ℕ × ℕ)) → IsOk (table_of t (cons_option p rest))
+    → IsOk (table_of t (cons_option p []))
+unfolding table_of
+first_fits t None rest fits = refl
+first_fits t (Some p) rest fits = by_due (add_due t p.0 p.1) fits
+  where
+    by_due : (due : Option TableFault)
+        → IsOk (or_table_fault (with_role t p.0 p.1) due >>= (λ (more : Table). table_of more rest))
+        → IsOk (or_table_fault (with_role t p.0 p.1) due >>= (λ (more : Table). table_of more []))
+    by_due None e = refl
+    by_due (Some f) e = e
+
 -- the pairs of items
 abbrev pub pairs : List Value → List (ℕ × ℕ)
 pairs items = filter_map (λ v. pair_of (view v)) items
@@ -85,6 +98,12 @@ module _ (start t : Table) (whole items : List Value) (i : ℕ) (before : table_
       → table_of start (pairs whole) ≡ table_of new (pairs (drop (i + 1) items))
   added_on new item h is done =
       before ∙ ap (table_of t) (pairs-more items i item h is) ∙ first_added t new (pair_of (view item)) _ done
+
+  pub next_fits : (item : Value) → i < length items → item ≡ get_or items i item
+      → IsOk (table_of start (pairs whole)) → IsOk (table_of t (cons_option (pair_of (view item)) []))
+  next_fits item h is fits =
+      let left = before ∙ ap (table_of t) (pairs-more items i item h is) in
+      first_fits t (pair_of (view item)) _ (subst IsOk left fits)
 
   pub all_added : length items ≤ i → table_of start (pairs whole) ≡ Ok t
   unfolding table_of

@@ -2,6 +2,7 @@ pub mod Shapes
 pub mod Results
 pub mod Setups
 pub mod Statuses
+pub mod Files
 pub mod Answers
 pub mod Laws
 pub mod Pipes

@@ -1,6 +1,6 @@
 //! The cluster text: what a node is told at its start.
 
-ghost use Rattle.std.specs.Prelude.{◌≡◌, ◌<◌, ◌≤◌, ◌==◌, [], length, option_and_then, IfOk, IfErr, OnOk, Ok};
+ghost use Rattle.std.specs.Prelude.{◌≡◌, ◌<◌, ◌≤◌, ◌==◌, [], length, option_and_then, IsOk, IfOk, IfErr, OnOk, Ok};
 ghost use Rattle.std.specs.List.{filter_map, cons_option, list_any};
 ghost use Rattle.serde_json.specs.View.{view};
 ghost use Rattle.role_commands.specs.Tables.{no_roles};
@@ -168,6 +168,7 @@ fn role_count(items: &[Value]) -> usize
 
 /// The table of roles with their owners that were checked, so that it is refused for want of memory alone.
 fn roles_of(alloc: Global, sizes: Sizes, items: &[Value]) -> Result<RoleTable, AllocError>
+    requires { IsOk (setups.table_of (no_roles sizes) (filter_map (λ v. shapes.pair_of (view v)) items.now)) }
     ensures table { IfOk result (λ roles.
         setups.table_of (no_roles sizes) (filter_map (λ v. shapes.pair_of (view v)) items.now) ≡ Ok roles) }
     ensures sizes { IfOk result (λ roles. roles.sizes ≡ sizes) }
@@ -179,8 +180,10 @@ fn roles_of(alloc: Global, sizes: Sizes, items: &[Value]) -> Result<RoleTable, A
     Ok(roles)
 }
 
+/// Adds a role that is not refused.
 #[tactic(auto, unfolding(crate::specs::Setups::table_of))]
 fn add_role(roles: &mut RoleTable, item: &Value) -> Result<(), AllocError>
+    requires { IsOk (setups.table_of roles.old (cons_option (shapes.pair_of (view item.now)) [])) }
     ensures added { OnOk result
         (setups.table_of roles.old (cons_option (shapes.pair_of (view item.now)) []) ≡ Ok roles.new) }
     ensures sizes { roles.new.sizes ≡ roles.old.sizes }
@@ -190,7 +193,10 @@ fn add_role(roles: &mut RoleTable, item: &Value) -> Result<(), AllocError>
     };
     match roles.add(role, owner) {
         Ok(()) => Ok(()),
-        Err(_) => Err(AllocError),
+        Err(TableFault::Memory) => Err(AllocError),
+        Err(TableFault::NoSuchNode | TableFault::Repeated | TableFault::TooManyRoles) => {
+            unreachable!()
+        }
     }
 }
 

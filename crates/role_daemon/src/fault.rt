@@ -133,6 +133,26 @@ impl FileFault {
     }
 }
 
+impl From<AllocError> for FileFault {
+    ghost use Rattle.role_daemon.specs.declared.fault.FileFault.TheVariants.{Memory};
+
+    ghost from_gives = { λ _ e. e ≡ Memory };
+
+    fn from(_e: AllocError) -> Self {
+        FileFault::Memory
+    }
+}
+
+impl From<DeviceFault> for FileFault {
+    ghost use Rattle.role_daemon.specs.declared.fault.FileFault.TheVariants.{Unread};
+
+    ghost from_gives = { λ _ e. e ≡ Unread };
+
+    fn from(_e: DeviceFault) -> Self {
+        FileFault::Unread
+    }
+}
+
 /// Why a pipe ended before its end.
 #[derive(Debug, Drop, Error)]
 pub enum PipeFault {

@@ -10,6 +10,7 @@ ghost use Rattle.role_daemon.specs.Setups.{IsNodeSetup, IsServerSetup};
 
 mod answers;
 pub mod cluster;
+pub mod cluster_file;
 pub mod fault;
 mod held;
 pub mod pipe;
@@ -17,13 +18,14 @@ pub mod serve;
 mod shape;
 pub mod words;
 
-use cluster::{MOST_TEXT_BYTES, Mode, Setup, read_cluster};
-use fault::{ClusterFault, FileFault, PipeFault, WordsFault};
+use cluster::Setup;
+use cluster_file::read_setup;
+use fault::{FileFault, PipeFault, WordsFault};
 use link_frames::Watched;
 use pipe::run_pipe;
 use serve::serve;
 use std::fs::File;
-use std::io::{ErrorKind, Read};
+use std::io::ErrorKind;
 use std::process::ExitCode;
 use std::{env, io};
 use words::{Words, read_words};
@@ -96,31 +98,22 @@ fn setup_of(rt: &HostRuntime, file: &str) -> Result<Setup, FileFault>
     ensures node { IfOk result IsNodeSetup }
     ensures server { IfOk result IsServerSetup }
 {
-    let text = match text_of(rt, file) {
-        Ok(text) => text,
+    match File::open(rt, file) {
+        Ok(file) => read_setup(rt.alloc(), &mut Watched::new(file)),
         Err(error) => {
             if error.kind() == ErrorKind::OutOfMemory {
-                return Err(FileFault::Memory);
+                Err(FileFault::Memory)
+            } else {
+                Err(FileFault::Unread)
             }
-            return Err(FileFault::Unread);
         }
-    };
-    match read_cluster(rt.alloc(), &text, Mode::Serve) {
-        Ok(setup) => Ok(setup),
-        Err(ClusterFault::Memory) => Err(FileFault::Memory),
-        Err(fault) => Err(FileFault::Cluster(fault)),
     }
 }
 
-/// The text of a cluster file, of one that is too long as much as shows it.
-fn text_of(rt: &HostRuntime, file: &str) -> io::Result<Vec<u8>> {
-    let mut text = Vec::new(rt.alloc());
-    File::open(rt, file)?
-        .take(MOST_TEXT_BYTES as u64 + 1)
-        .read_to_end(&mut text)?;
-    Ok(text)
-}
-
+#[cfg(test)]
+mod device_tests;
+#[cfg(test)]
+mod serve_help;
 #[cfg(test)]
 mod serve_tests;
 #[cfg(test)]

@@ -1,29 +1,26 @@
 //! The pipe: one node, whose clients speak in lines.
 
-ghost use Rattle.std.specs.Prelude.{◌≡◌, ◌≢◌, ◌<◌, ◌≤◌, ◌++◌, ◌⊎◌, length, IfOk, IfErr, OnOk, OnErr, Ok, Err};
+ghost use Rattle.std.specs.Prelude.{◌≡◌, ◌≢◌, ◌++◌, ◌⊎◌, IfOk, IfErr, OnOk, Err};
 ghost use Rattle.link_frames.specs.Watching.{watched_inner, watched_tally};
-ghost use Rattle.link_frames.specs.Devices.{WentOn, CallFailed, ReaderFailed, AppendsFront};
+ghost use Rattle.link_frames.specs.Devices.{WentOn, CallFailed, ReaderFailed};
 ghost use Rattle.link_frames.specs.Lines.{ended};
-ghost use Rattle.link_frames.specs.LinePrograms.{Moved};
 ghost use Rattle.link_frames.specs.Aheads.{pending};
-ghost use Rattle.client_lines.specs.AnswerTexts.{IsWritten, answer_text};
 ghost use Rattle.role_daemon.specs.Pipes.{stops, line_text, after_line};
 ghost use Rattle.role_daemon.specs.Runs.{PipeRan, IsEndless};
 ghost use Rattle.role_daemon.specs.Steps.{IsNodeOf, RefusesNode, Opened, Answered, LinesRan, LinesEndless, Finished};
 
 pub mod laws;
+mod requests;
 
-use crate::answers::answer;
 use crate::cluster::{MOST_TEXT_BYTES, Mode, read_cluster};
 use crate::fault::{ClusterFault, PipeFault};
-use client_lines::{ClientAnswer, LineFault, MOST_LINE_BYTES, Request, answer_text, read_request};
-use link_frames::{Ahead, Next, Watched, write_whole};
+use crate::held::Held;
+use client_lines::{ClientAnswer, LineFault, MOST_LINE_BYTES, Request, read_request};
+use link_frames::{Ahead, Next, Watched};
+use requests::answer;
 use role_node::Node;
 use std::alloc::{AllocError, Global};
 use std::io::{Read, Write};
-
-/// How many bytes of answers are held back at most before they are written.
-const MOST_HELD_BYTES: usize = 8192;
 
 /// Sets up the node that the first line says, and answers each later line, up to the first that stops the node.
 ///
@@ -114,14 +111,14 @@ fn answer_lines<R: Read, W: Write>(
     ensures quiet { result ≢ Err PipeFault.Device → WentOn (watched_tally reader.old) (watched_tally reader.new)
         × WentOn (watched_tally writer.old) (watched_tally writer.new) }
 {
-    let mut held = Vec::new(alloc);
+    let mut held = Held::new(alloc);
     for number in 1..u64::MAX {
-        write_when_due(ahead, &mut held, writer)?;
+        held.write_when_due(ahead, writer)?;
         if !answer_next(alloc, node, ahead, &mut held, reader)? {
-            return finish(writer, &held, Ok(()));
+            return finish(&mut held, writer, Ok(()));
         }
     }
-    finish(writer, &held, Err(PipeFault::Device))
+    finish(&mut held, writer, Err(PipeFault::Device))
 }
 
 /// Answers what comes next. Whether another line may come behind it.
@@ -129,12 +126,12 @@ fn answer_next<R: Read>(
     alloc: Global,
     node: &mut Node,
     ahead: &mut Ahead,
-    held: &mut Vec<u8>,
+    held: &mut Held,
     reader: &mut Watched<R>,
 ) -> Result<bool, PipeFault>
     ensures answered { IfOk result (Answered (pending (R.remaining (watched_inner reader.old)) ahead.old)
         (pending (R.remaining (watched_inner reader.new)) ahead.new) (R.remaining (watched_inner reader.new))
-        node.old node.new held.old.items held.new.items) }
+        node.old node.new held.old.bytes.items held.new.bytes.items) }
     ensures device { IfErr result (λ e. e ≡ PipeFault.Device →
         ReaderFailed (watched_tally reader.old) (watched_tally reader.new)) }
     ensures kind { IfErr result (λ e. (e ≡ PipeFault.Device) ⊎ (e ≡ PipeFault.Memory)) }
@@ -153,7 +150,7 @@ fn answer_next<R: Read>(
         }
         Next::TooLong => {
             let had_end = ahead.pass_line(reader)?;
-            hold(alloc, held, &ClientAnswer::BadLine(LineFault::NotJson))?;
+            held.push_line(&ClientAnswer::BadLine(LineFault::NotJson))?;
             Ok(had_end)
         }
     }
@@ -164,70 +161,39 @@ fn answer_next<R: Read>(
 fn answer_line(
     alloc: Global,
     node: &mut Node,
-    held: &mut Vec<u8>,
+    held: &mut Held,
     line: &[u8],
 ) -> Result<bool, AllocError>
     ensures stops { IfOk result (λ stopped. stopped ≡ stops node.old line.now) }
-    ensures text { OnOk result (held.new.items ≡ held.old.items ++ ended (line_text node.old line.now)) }
+    ensures text { OnOk result (held.new.bytes.items ≡ held.old.bytes.items ++ ended (line_text node.old line.now)) }
     ensures after { OnOk result (node.new ≡ after_line node.old line.now) }
 {
     let sizes = node.config().roles().sizes();
     match read_request(alloc, &sizes, line) {
         Ok(request) => {
             let answer = answer(node, request)?;
-            hold(alloc, held, &answer)?;
+            held.push_line(&answer)?;
             Ok(matches!(request, Request::Stop))
         }
         Err(LineFault::Memory) => Err(AllocError),
         Err(fault) => {
-            hold(alloc, held, &ClientAnswer::BadLine(fault))?;
+            held.push_line(&ClientAnswer::BadLine(fault))?;
             Ok(false)
         }
     }
 }
 
-/// Holds the text of an answer behind the others.
-pub fn hold(alloc: Global, held: &mut Vec<u8>, answer: &ClientAnswer) -> Result<(), AllocError>
-    requires { IsWritten answer.now }
-    ensures { OnOk result (held.new.items ≡ held.old.items ++ ended (answer_text answer.now)) }
-{
-    let text = answer_text(alloc, answer)?;
-    held.extend_from_slice(text.as_bytes())?;
-    held.push(b'\n')?;
-    Ok(())
-}
-
-/// Writes what is held if it is much, or if more bytes have to be read for the next line.
-pub fn write_when_due<W: Write>(
-    ahead: &Ahead,
-    held: &mut Vec<u8>,
-    writer: &mut Watched<W>,
-) -> Result<(), PipeFault>
-    ensures ok { OnOk result (Moved (W.contents (watched_inner writer.old)) (W.contents (watched_inner writer.new))
-        held.old.items held.new.items) }
-    ensures err { OnErr result (AppendsFront (W.contents (watched_inner writer.old))
-        (W.contents (watched_inner writer.new)) held.old.items) }
-    ensures quiet { OnOk result (WentOn (watched_tally writer.old) (watched_tally writer.new)) }
-    ensures device { IfErr result (λ e. (e ≡ PipeFault.Device)
-        × CallFailed (watched_tally writer.old) (watched_tally writer.new)) }
-{
-    if held.len() >= MOST_HELD_BYTES || ahead.begins(MOST_LINE_BYTES).is_none() {
-        write_whole(writer, held)?;
-        held.clear();
-    }
-    Ok(())
-}
-
-/// Writes this text, and then ends so.
+/// Writes what is held, and then ends so.
 fn finish<W: Write>(
+    held: &mut Held,
     writer: &mut Watched<W>,
-    text: &[u8],
     ending: Result<(), PipeFault>,
 ) -> Result<(), PipeFault>
-    ensures ended { Finished (W.contents (watched_inner writer.old)) (W.contents (watched_inner writer.new)) text.now
-        ending result (CallFailed (watched_tally writer.old) (watched_tally writer.new)) }
+    ensures ended { Finished (W.contents (watched_inner writer.old)) (W.contents (watched_inner writer.new))
+        held.old.bytes.items ending result
+        (CallFailed (watched_tally writer.old) (watched_tally writer.new)) }
     ensures quiet { result ≢ Err PipeFault.Device → WentOn (watched_tally writer.old) (watched_tally writer.new) }
 {
-    write_whole(writer, text)?;
+    held.write_all(writer)?;
     ending
 }

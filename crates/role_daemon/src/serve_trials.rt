@@ -1,34 +1,26 @@
 //! A node over TCP, whose clients and peers do not do as they should.
 
-use crate::cluster::{Mode, read_cluster};
-use crate::serve::serve;
+use crate::serve_help::{
+    AGAIN, FRAME, MOST_LOOKS, PATIENCE, STOP, answer_to, are_taken, ask, connected, is_closed,
+    local, serve_text, text_of,
+};
+use link_frames::{FRAME_LEN, Frame};
 use std::alloc::Global;
-use std::io::{BufRead, BufReader, ErrorKind, Read, Write};
-use std::net::{Ipv4Addr, Net, SocketAddr, SocketAddrV4, TcpListener, TcpStream};
+use std::io::{BufRead, BufReader, Read, Write};
+use std::net::{Net, TcpListener, TcpStream};
 use std::sync::Wait;
 use std::test::Fail;
 use std::thread;
 use std::thread::Threads;
 use std::time::{Clock, Duration};
 
-/// How often something is looked for that is due, a millisecond apart.
-const MOST_LOOKS: u32 = 20_000;
-
-/// The milliseconds that a read or a write waits at most.
-const PATIENCE: u64 = 20_000;
-
 const OPEN: &[u8] = b"{\"op\":\"open\",\"user\":7}\n";
 
-const STOP: &[u8] = b"{\"op\":\"stop\"}\n";
+/// A check whose answer says how many events the node has recorded.
+const CHECK: &[u8] = b"{\"op\":\"check\",\"session\":1,\"user\":7,\"operation\":5,\"object\":9}\n";
 
-/// The frame from node 0 to node 1 of cluster 1 with the first command of node 0, which assigns role 2 to user 7, under
-/// the laboratory's key. Its tag was made outside.
-const FRAME: [u8; 52] = [
-    0x01, 0x00, 0x00, 0x00, 0x01, 0x00, 0x01, 0x01, 0x00, 0x00, 0x00, 0x01, 0x00, 0x02, 0x00, 0x00,
-    0x00, 0x07, 0x00, 0x00, 0x77, 0x48, 0x22, 0x7d, 0xd6, 0x0f, 0xa0, 0xe7, 0xd9, 0xfe, 0x50, 0xa5,
-    0xb9, 0xac, 0x4a, 0x3a, 0x2e, 0x2f, 0x05, 0x1b, 0x6d, 0x9e, 0xf1, 0x9e, 0x52, 0xf2, 0x81, 0x3c,
-    0x98, 0x87, 0x25, 0x5a,
-];
+/// How many bytes of a frame are before its tag.
+const UNTAGGED: usize = FRAME_LEN - 32;
 
 /// What a node is put through.
 #[derive(Clone, Copy)]
@@ -40,6 +32,10 @@ enum Trial {
     SilentPeer,
     LateFrames,
     PeerThatCloses,
+    CutFrame,
+    ZeroFrame,
+    RandomFrames,
+    FlippedBits,
 }
 
 /// The listeners that stand for the other nodes, and the ports of the node itself.
@@ -48,56 +44,6 @@ struct Place {
     others: Vec<TcpListener>,
     peers: u16,
     client: u16,
-}
-
-fn local(port: u16) -> SocketAddr {
-    SocketAddr::V4(SocketAddrV4::new(Ipv4Addr::LOCALHOST, port))
-}
-
-/// The text of node 1 of four, with the laboratory's keys, at these ports.
-fn text_of(alloc: Global, ports: &[u16], client: u16) -> Result<String, Fail> {
-    let mut keys = String::new(alloc);
-    let mut shown = String::new(alloc);
-    for (other, port) in ports.iter().enumerate() {
-        let comma = if other == 0 { "" } else { "," };
-        let (less, more) = (1.min(other), 1.max(other));
-        let key = format!(in alloc; "{comma}\"{less:02x}{more:02x}{:060}\"", 0)?;
-        keys.push_str(&key)?;
-        shown.push_str(&format!(in alloc; "{comma}{port}")?)?;
-    }
-    Ok(format!(in alloc;
-        "{{\"client\":{client},\"cluster\":1,\"f\":1,\"keys\":[{keys}],\"me\":1,\"n\":4,\
-        \"nodes\":[{shown}],\"roles\":[[2,1]]}}"
-    )?)
-}
-
-/// Serves the node of a cluster text. The program's exit status.
-fn serve_text<R>(rt: &R, alloc: Global, text: &str) -> u8
-where
-    R: Net<Listener = TcpListener, Stream = TcpStream> + Threads + Wait + Clock + Sync,
-{
-    match read_cluster(alloc, text.as_bytes(), Mode::Serve) {
-        Ok(setup) => match serve(rt, alloc, setup) {
-            Ok(()) => 0,
-            Err(fault) => fault.status(),
-        },
-        Err(fault) => fault.status(),
-    }
-}
-
-/// A connection to a port, made again until somebody listens there.
-fn connected<R>(rt: &R, port: u16) -> Result<TcpStream, Fail>
-where
-    R: Net<Listener = TcpListener, Stream = TcpStream> + Clock,
-{
-    for _ in 0..MOST_LOOKS {
-        if let Ok(stream) = TcpStream::connect(rt, local(port)) {
-            stream.set_read_timeout(Some(Duration::from_millis(PATIENCE)))?;
-            return Ok(stream);
-        }
-        thread::sleep(rt, Duration::from_millis(1));
-    }
-    Err("nobody listens".into())
 }
 
 /// The next connection of a listener.
@@ -110,35 +56,6 @@ fn accepted<R: Clock>(rt: &R, listener: &TcpListener) -> Result<TcpStream, Fail>
         thread::sleep(rt, Duration::from_millis(1));
     }
     Err("nobody connects".into())
-}
-
-/// What is answered to a line, if anything is.
-fn answer_to(alloc: Global, stream: &TcpStream, line: &[u8]) -> Option<String> {
-    let mut writer = stream;
-    writer.write_all(line).ok()?;
-    let mut answer = String::new(alloc);
-    BufReader::new(alloc, stream)
-        .ok()?
-        .read_line(&mut answer)
-        .ok()?;
-    Some(answer)
-}
-
-/// The answer to a line.
-fn ask(alloc: Global, stream: &TcpStream, line: &[u8]) -> Result<String, Fail> {
-    match answer_to(alloc, stream, line) {
-        Some(answer) => Ok(answer),
-        None => Err("no answer".into()),
-    }
-}
-
-/// Whether the connection is closed in time.
-fn is_closed(stream: &TcpStream) -> bool {
-    let mut reader = stream;
-    match reader.read(&mut [0u8; 1]) {
-        Ok(count) => count == 0,
-        Err(error) => error.kind() == ErrorKind::ConnectionReset,
-    }
 }
 
 /// Whether a session is opened, over a connection that is made again where it is closed.
@@ -231,7 +148,7 @@ where
 {
     let silent = connected(rt, place.peers)?;
     let mut wrong = connected(rt, place.peers)?;
-    wrong.write_all(&[0; 104])?;
+    wrong.write_all(&[0; 2 * FRAME_LEN])?;
     Ok(is_closed(&silent) && is_closed(&wrong) && opens(rt, alloc, place.client)?)
 }
 
@@ -267,10 +184,72 @@ where
     };
     drop(accepted(rt, listener)?);
     let mut next = accepted(rt, listener)?;
-    let mut frame = [0u8; 52];
+    let mut frame: Frame = [0; FRAME_LEN];
     next.read_exact(&mut frame)?;
     // a SEND from node 1 to node 0 of its place 0
     Ok(frame.starts_with(&[1, 0, 0, 0, 1, 1, 0, 1, 1, 0, 0]))
+}
+
+/// What a client hears that asks how many events there are, and what the node sent at the first place of node 0.
+fn heard(alloc: Global, stream: &TcpStream) -> Result<(String, String), Fail> {
+    Ok((ask(alloc, stream, CHECK)?, ask(alloc, stream, AGAIN)?))
+}
+
+/// Whether a client hears that nothing has happened before these bytes came to the port for peers and behind them, and
+/// the frame counts that comes then.
+fn are_lost<R>(rt: &R, alloc: Global, place: &Place, bytes: &[u8]) -> Result<bool, Fail>
+where
+    R: Net<Listener = TcpListener, Stream = TcpStream> + Clock,
+{
+    let stream = connected(rt, place.client)?;
+    for _ in 0..2u8 {
+        let (check, again) = heard(alloc, &stream)?;
+        if check.as_str() != "{\"allow\":false,\"at\":0,\"rule\":\"N1\"}\n"
+            || again.as_str() != "{\"again\":0}\n"
+            || !are_taken(rt, place.peers, bytes)?
+        {
+            return Ok(false);
+        }
+    }
+    let taken = are_taken(rt, place.peers, &FRAME)?;
+    let (_, again) = heard(alloc, &stream)?;
+    Ok(taken && again.as_str() == "{\"again\":1}\n")
+}
+
+/// The next of some numbers that look random.
+fn next_number(number: u64) -> u64 {
+    let left = number ^ number.wrapping_shl(13);
+    let right = left ^ (left >> 7);
+    right ^ right.wrapping_shl(17)
+}
+
+/// Ten thousand frames that look random. Every other begins as the good one does, so that only its tag is wrong.
+fn random_frames(alloc: Global) -> Result<Vec<u8>, Fail> {
+    let mut bytes = Vec::new(alloc);
+    let mut number = 88_172_645_463_325_252;
+    for index in 0..10_000u32 {
+        let mut frame = FRAME;
+        let begin = if index % 2 == 0 { 0 } else { UNTAGGED };
+        for byte in &mut frame[begin..] {
+            number = next_number(number);
+            *byte = (number % 256) as u8;
+        }
+        bytes.extend_from_slice(&frame)?;
+    }
+    Ok(bytes)
+}
+
+/// The good frame once for each of its bits, which is another there.
+fn flipped_frames(alloc: Global) -> Result<Vec<u8>, Fail> {
+    let mut bytes = Vec::new(alloc);
+    for at in 0..FRAME_LEN {
+        for bit in 0..8u32 {
+            let mut frame = FRAME;
+            frame[at] ^= 1u8 << bit;
+            bytes.extend_from_slice(&frame)?;
+        }
+    }
+    Ok(bytes)
 }
 
 /// Whether the node does as it should.
@@ -286,6 +265,10 @@ where
         Trial::SilentPeer => silent_peer(rt, alloc, place),
         Trial::LateFrames => late_frames(rt, alloc, place),
         Trial::PeerThatCloses => peer_that_closes(rt, alloc, place),
+        Trial::CutFrame => are_lost(rt, alloc, place, &FRAME[..FRAME_LEN - 1]),
+        Trial::ZeroFrame => are_lost(rt, alloc, place, &[0; FRAME_LEN]),
+        Trial::RandomFrames => are_lost(rt, alloc, place, &random_frames(alloc)?),
+        Trial::FlippedBits => are_lost(rt, alloc, place, &flipped_frames(alloc)?),
     }
 }
 
@@ -333,7 +316,7 @@ where
         _ => return Ok(false),
     };
     drop(own);
-    let text = text_of(alloc, &[a, peers, c, d], client)?;
+    let text = text_of(alloc, 1, 1, &[a, peers, c, d], client)?;
     let shown = text.as_str();
     let place = Place {
         others,
@@ -390,5 +373,29 @@ fn late_frames_do_no_harm(rt: HostRuntime) -> Result<(), Fail> {
 #[test]
 fn a_lost_connection_is_made_again(rt: HostRuntime) -> Result<(), Fail> {
     assert!(rt; is_fit(&rt, rt.alloc(), Trial::PeerThatCloses)?);
+    Ok(())
+}
+
+#[test]
+fn a_frame_without_its_last_byte_is_lost(rt: HostRuntime) -> Result<(), Fail> {
+    assert!(rt; is_fit(&rt, rt.alloc(), Trial::CutFrame)?);
+    Ok(())
+}
+
+#[test]
+fn a_frame_of_zeros_is_lost(rt: HostRuntime) -> Result<(), Fail> {
+    assert!(rt; is_fit(&rt, rt.alloc(), Trial::ZeroFrame)?);
+    Ok(())
+}
+
+#[test]
+fn frames_of_random_bytes_are_lost(rt: HostRuntime) -> Result<(), Fail> {
+    assert!(rt; is_fit(&rt, rt.alloc(), Trial::RandomFrames)?);
+    Ok(())
+}
+
+#[test]
+fn a_frame_with_another_bit_is_lost(rt: HostRuntime) -> Result<(), Fail> {
+    assert!(rt; is_fit(&rt, rt.alloc(), Trial::FlippedBits)?);
     Ok(())
 }

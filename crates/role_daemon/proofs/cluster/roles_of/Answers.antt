@@ -1,7 +1,13 @@
-use Rattle.std.proofs.Common.{sym, ap, ◌∙◌}
+use Rattle.std.proofs.Common.{sym, ap, subst, ◌∙◌, IsOk}
+use Rattle.role_commands.specs.Tables.{Table}
 use Rattle.role_daemon.specs.Setups.{table_of}
-use Rattle.role_daemon.proofs.SetupLemmas.{pairs, added_on, all_added}
+use Rattle.role_daemon.proofs.SetupLemmas.{pairs, added_on, next_fits, all_added}
 use Rattle.role_daemon.proofs.cluster.roles_of.Goals as goal
+
+pub add_role-requires : goal.add_role-requires
+add_role-requires c =
+    let fits = subst (λ (t : Table). IsOk (table_of t (pairs c.args.items.now))) (sym c.new-roles.ensures) c.requires in
+    next_fits _ _ _ _ _ c.loop-item.invariant.0 c.item-item.result c.loop-item-test.true c.item-item.is fits
 
 pub loop-item-preserved : goal.loop-item-preserved
 loop-item-preserved c = (

@@ -1,4 +1,4 @@
-use Rattle.std.proofs.Common.{arith, inl, inr, ◌∙◌, None}
+use Rattle.std.proofs.Common.{arith, inl, inr, refl, None}
 use Rattle.std.proofs.lemmas.Result.{err_from_is_err_and}
 use Rattle.link_frames.proofs.Exported.{Ran-moved, WentOn-nothing, WentOn-trans, CallFailed-later, ReaderFailed-later}
 use Rattle.role_daemon.proofs.RunLemmas.{Lines-start, Ran-more, Lines-front, Lines-kept, Lines-end}
@@ -6,20 +6,20 @@ use Rattle.role_daemon.proofs.RunLemmas.{Lines-out, Lines-endless, LinesRan-faul
 use Rattle.role_daemon.proofs.pipe.answer_lines.Goals as goal
 
 pub loop-number-init : goal.loop-number-init
-loop-number-init g c = (Lines-start _ _ _ _ c.new-held.ensures.items, WentOn-nothing _, WentOn-nothing _)
+loop-number-init g c = (Lines-start _ _ _ _ c.new-held.ensures, WentOn-nothing _, WentOn-nothing _)
 
 pub returns-in_err-write_when_due-clause-ran : goal.returns-in_err-write_when_due-clause-ran
 returns-in_err-write_when_due-clause-ran g c =
     let (ran, reads, writes) = c.loop-number.invariant in
     let p = err_from_is_err_and c.from_residual.result c.from_residual.ensures.1 in
     let front = Lines-front ran _ c.in_err-write_when_due.ensures.err in
-    rw p.1 (LinesRan-fault _ _ None _ _ p.0 (inl (p.2 ∙ c.in_err-write_when_due.ensures.device.0)) front)
+    rw p.1 (LinesRan-fault _ _ None _ _ p.0 (inl p.2) front)
 
 pub returns-in_err-write_when_due-clause-device : goal.returns-in_err-write_when_due-clause-device
 returns-in_err-write_when_due-clause-device g c =
     let (ran, reads, writes) = c.loop-number.invariant in
     let p = err_from_is_err_and c.from_residual.result c.from_residual.ensures.1 in
-    rw p.1 (λ q. inr (inl (CallFailed-later _ _ _ writes c.in_err-write_when_due.ensures.device.1)))
+    rw p.1 (λ q. inr (inl (CallFailed-later _ _ _ writes c.in_err-write_when_due.ensures.device)))
 
 pub returns-in_err-answer_next-clause-ran : goal.returns-in_err-answer_next-clause-ran
 returns-in_err-answer_next-clause-ran g c =
@@ -41,13 +41,20 @@ returns-then-not-branch-clause-ran g c =
     let (ran, reads, writes) = c.loop-number.invariant in
     let moved = Ran-moved ran _ _ c.in_ok-write_when_due.ensures.ok in
     let answered = rw c.if-not-branch.true at c.in_ok-answer_next.ensures.answered in
-    Lines-end moved _ None _ c.args.node.now _ _ _ _ answered c.deref.ensures.value c.finish.ensures.ended
+    Lines-end moved _ None _ c.args.node.now _ _ _ _ answered refl c.finish.ensures.ended
 
 pub returns-then-not-branch-clause-device : goal.returns-then-not-branch-clause-device
 returns-then-not-branch-clause-device g c =
     let (ran, reads, writes) = c.loop-number.invariant in
     finish_device _ _ _ _ _ _ _ _ _ _ tt (WentOn-trans writes c.in_ok-write_when_due.ensures.quiet)
     c.finish.ensures.ended
+
+pub returns-then-not-branch-clause-quiet : goal.returns-then-not-branch-clause-quiet
+returns-then-not-branch-clause-quiet g c = λ other.
+    let (ran, reads, writes) = c.loop-number.invariant in (
+      WentOn-trans reads (c.in_ok-answer_next.ensures.quiet (not_device _)),
+      WentOn-trans writes (WentOn-trans c.in_ok-write_when_due.ensures.quiet (c.finish.ensures.quiet other)),
+    )
 
 pub loop-number-preserved : goal.loop-number-preserved
 loop-number-preserved g c =
@@ -62,10 +69,10 @@ loop-number-preserved g c =
 pub returns-clause-ran : goal.returns-clause-ran
 returns-clause-ran g c =
     let (ran, reads, writes) = c.loop-number.invariant in
-    Lines-out ran _ _ _ _ _ c.deref-2.ensures.value c.finish-2.ensures.ended
+    Lines-out ran _ _ _ _ _ refl c.finish-2.ensures.ended
 
 pub returns-clause-device : goal.returns-clause-device
 returns-clause-device g c =
     let (ran, reads, writes) = c.loop-number.invariant in
     finish_device _ _ _ _ _ _ _ _ _ _
-    (λ q sent. Lines-endless ran _ (omega arith) (rw c.deref-2.ensures.value at sent)) writes c.finish-2.ensures.ended
+    (λ q sent. Lines-endless ran _ (omega arith) sent) writes c.finish-2.ensures.ended

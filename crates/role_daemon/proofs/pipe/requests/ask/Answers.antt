@@ -1,7 +1,7 @@
 use Rattle.std.proofs.Common.{ap, ◌∙◌}
 use Rattle.role_daemon.specs.Answers.{listed}
 use Rattle.role_daemon.proofs.AnswerLemmas.{asked-answer}
-use Rattle.role_daemon.proofs.answers.ask.Goals as goal
+use Rattle.role_daemon.proofs.pipe.requests.ask.Goals as goal
 
 pub returns-in-Ok-clause-answer : goal.returns-in-Ok-clause-answer
 returns-in-Ok-clause-answer c =

@@ -1,7 +1,7 @@
 use Rattle.std.proofs.Common.{◌≡◌, rules, Err}
 use Rattle.role_node.specs.Nodes.{due_at}
 use Rattle.role_daemon.proofs.AnswerLemmas.{event_done, event_refused}
-use Rattle.role_daemon.proofs.answers.due.Goals as goal
+use Rattle.role_daemon.proofs.pipe.requests.due.Goals as goal
 
 pub returns-in-Ok-clause-after : goal.returns-in-Ok-clause-after
 returns-in-Ok-clause-after c = event_done _ _ _ c.in-Ok.reply c.in-Ok.ensures.due c.in-Ok.ensures.ok

@@ -3,7 +3,7 @@ use Rattle.std.proofs.lemmas.List.{length-map}
 use Rattle.role_node.specs.Configs.{ConfigValue, most_events}
 use Rattle.role_node.specs.Kept.{event_of}
 use Rattle.role_daemon.proofs.AnswerLemmas.{legal_is_short}
-use Rattle.role_daemon.proofs.answers.events_recorded.Goals as goal
+use Rattle.role_daemon.proofs.pipe.requests.events_recorded.Goals as goal
 
 pub overflow_cast-result : goal.overflow_cast-result
 overflow_cast-result c =

@@ -1,6 +1,6 @@
 use Rattle.std.proofs.Common.{ℕ, ◌<◌, ◌^◌, List, get_or, arith}
 use Rattle.role_daemon.proofs.AnswerLemmas.{each_within}
-use Rattle.role_daemon.proofs.answers.are_permissions.Goals as goal
+use Rattle.role_daemon.proofs.pipe.requests.are_permissions.Goals as goal
 use borrow.Author.Count.{below_more}
 
 pub loop-operation-init : goal.loop-operation-init

@@ -1,5 +1,5 @@
 use Rattle.role_daemon.proofs.OwnLemmas.{TakenSoFar, owed}
-use Rattle.role_daemon.proofs.answers.settle.Given as goal
+use Rattle.role_daemon.proofs.pipe.requests.settle.Given as goal
 
 abbrev pub invariant-loop-waiting : goal.invariant-loop-waiting
 invariant-loop-waiting l = TakenSoFar l.initial.node l.node l.initial.waiting l.waiting

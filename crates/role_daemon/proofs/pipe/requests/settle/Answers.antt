@@ -1,5 +1,5 @@
 use Rattle.role_daemon.proofs.OwnLemmas.{nothing_taken, one_taken, all_taken, less_owed}
-use Rattle.role_daemon.proofs.answers.settle.Goals as goal
+use Rattle.role_daemon.proofs.pipe.requests.settle.Goals as goal
 
 pub loop-waiting-init : goal.loop-waiting-init
 loop-waiting-init c = nothing_taken _ _

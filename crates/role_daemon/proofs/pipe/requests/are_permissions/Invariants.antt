@@ -1,5 +1,5 @@
 use Rattle.std.proofs.Common.{ℕ, ◌<◌, ◌^◌, get_or}
-use Rattle.role_daemon.proofs.answers.are_permissions.Given as goal
+use Rattle.role_daemon.proofs.pipe.requests.are_permissions.Given as goal
 
 abbrev pub invariant-loop-operation : goal.invariant-loop-operation
 invariant-loop-operation l =

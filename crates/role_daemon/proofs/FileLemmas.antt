@@ -1,0 +1,103 @@
+-- A cluster file that was read in several reads.
+use Rattle.std.proofs.Common.{◌≡◌, ℕ, ◌+◌, ◌<◌, ◌≤◌, ◌⊎◌, inl, inr, true, nat_lt, List, [], ◌++◌, length, take}
+use Rattle.std.proofs.Common.{Option, Some, None, Result, Ok, Err, IfOk, IfErr, refl, ap, sym, subst, ◌∙◌, arith, append-nil, length-append}
+use Rattle.std.proofs.Common.{length-take-le}
+use Rattle.std.proofs.lemmas.Bool.{cases_lt}
+use Rattle.std.proofs.lemmas.Bool.Decides.{nat_tests}
+use Rattle.std.proofs.lemmas.List.{take-append-le}
+use Rattle.std.proofs.Math.Seq.{take-append-add, take-append_seam}
+use Rattle.std.proofs.KnownBytes.{Consumes-trans}
+use Rattle.std.specs.Io.KnownBytes.{Consumes, IsAtEnd}
+use borrow.Rule.Slice.PartMut.{put_mid, post_of}
+use Rattle.link_frames.specs.Devices.{WentOn}
+use Rattle.link_frames.specs.LinePrograms.{HasBytes}
+use Rattle.link_frames.specs.Watching.{Tally}
+use Rattle.link_frames.proofs.Exported.{HasBytes-done, WentOn-trans, some_tail}
+use Rattle.role_daemon.specs.Files.{Filled, SetupRead, RefusesSetup}
+use Rattle.role_daemon.specs.Setups.{setup_due, most_text_bytes}
+use Rattle.role_daemon.specs.declared.cluster.Mode.TheVariants.{Serve}
+use Rattle.role_daemon.specs.declared.cluster.Setup.{Setup}
+use Rattle.role_daemon.specs.declared.fault.ClusterFault.TheVariants as fault
+use Rattle.role_daemon.specs.declared.fault.FileFault.{FileFault}
+use Rattle.role_daemon.specs.declared.fault.FileFault.TheVariants as file
+
+-- so many bytes were read so far
+pub record Filling (before now : Option (List ℕ)) (old new : Tally) (buffer : List ℕ) (have : ℕ) : Type 0 where
+  pub within : have ≤ length buffer
+  pub gave : Consumes before now (take have buffer)
+  pub went : WentOn old new
+
+-- the front of a buffer whose rest was read into
+front_read : (a k n : ℕ) (xs ys : List ℕ) → a ≤ length xs → n ≤ length ys
+    → take (a + n) (put_mid a k xs ys) ≡ take a xs ++ take n ys
+front_read a k n xs ys within fits =
+    let after = post_of a k xs in
+    let len : length (take a xs) ≡ a = length-take-le a xs within in
+    ap (λ m. take (m + n) (put_mid a k xs ys)) (sym len) ∙ take-append-add (take a xs) (ys ++ after) n
+    ∙ ap (λ l. take a xs ++ l) (take-append-le n ys after fits)
+
+-- n bytes more were read
+pub filled_more : {a b : Option (List ℕ)} {old mid : Tally} {buffer : List ℕ} {have : ℕ} (c : Option (List ℕ))
+    (new : Tally) (k n : ℕ) (rest : List ℕ) → Filling a b old mid buffer have → n ≤ length rest
+    → have + n ≤ length (put_mid have k buffer rest) → Consumes b c (take n rest) → WentOn mid new
+    → Filling a c old new (put_mid have k buffer rest) (have + n)
+filled_more {buffer} {have} c new k n rest h fits within read went = record {
+  within = within;
+  gave = subst (Consumes _ _) (sym (front_read have k n buffer rest h.within fits))
+      (Consumes-trans _ _ _ _ _ h.gave read);
+  went = WentOn-trans h.went went;
+}
+
+-- ---- the text that was read says what all that the reader had says
+
+nothing_left : (p : Option (List ℕ)) → IsAtEnd p → HasBytes p []
+nothing_left None end = tt
+nothing_left (Some ys) end = end
+
+long_text : (text : List ℕ) → most_text_bytes < length text → setup_due Serve text ≡ Err fault.NotJson
+unfolding setup_due
+long_text text long =
+    let past : nat_lt most_text_bytes (length text) ≡ true = grind (arith, nat_tests) in rw past refl
+
+whole_text : (p q : Option (List ℕ)) (buffer : List ℕ) (n : ℕ) → length buffer ≡ most_text_bytes + 1
+    → Filled p q buffer n
+    → (text : List ℕ) × HasBytes p text × (setup_due Serve text ≡ setup_due Serve (take n buffer))
+whole_text p q buffer n len (within, read, end) = by_length (cases_lt n (most_text_bytes + 1))
+  where
+    by_length : (n < most_text_bytes + 1) ⊎ (most_text_bytes + 1 ≤ n)
+        → (text : List ℕ) × HasBytes p text × (setup_due Serve text ≡ setup_due Serve (take n buffer))
+    by_length (inl short) =
+        let has = HasBytes-done p q (take n buffer) [] read (nothing_left q (end (omega (arith, len, short)))) in
+        (take n buffer ++ [], has, ap (setup_due Serve) (append-nil (take n buffer)))
+    by_length (inr full) =
+        let (tail, has) = some_tail q in
+        let front = take n buffer in
+        let size : length front ≡ n = length-take-le n buffer within in
+        let long = long_text front (omega (arith, size, full)) in
+        let longer = long_text (front ++ tail) (omega (arith, size, full, length-append front tail)) in
+        (front ++ tail, HasBytes-done p q front tail read has, longer ∙ sym long)
+
+-- what the text says is what all that the reader had says
+pub setup_read : (p q : Option (List ℕ)) (buffer : List ℕ) (n : ℕ) (result : Result Setup FileFault)
+    → length buffer ≡ most_text_bytes + 1 → Filled p q buffer n
+    → IfOk result (λ setup. setup_due Serve (take n buffer) ≡ Ok setup)
+    → IfErr result (RefusesSetup (take n buffer)) → SetupRead p result
+setup_read p q buffer n (Ok setup) len filled due refused =
+    let (text, has, same) = whole_text p q buffer n len filled in (text, has, same ∙ due)
+setup_read p q buffer n (Err (file.Cluster fault)) len filled due refused =
+    let (text, has, same) = whole_text p q buffer n len filled in (text, has, same ∙ refused)
+setup_read p q buffer n (Err file.Unread) len filled due refused = tt
+setup_read p q buffer n (Err file.Memory) len filled due refused = tt
+
+pub not_unread : (text : List ℕ) (result : Result Setup FileFault) (F : Type 0) → IfErr result (RefusesSetup text)
+    → IfErr result (λ e. e ≡ file.Unread → F)
+not_unread text (Ok setup) F refused = tt
+not_unread text (Err (file.Cluster fault)) F refused = λ e. absurd cc
+not_unread text (Err file.Unread) F refused = absurd refused
+not_unread text (Err file.Memory) F refused = λ e. absurd cc
+
+-- a buffer as it is shown after it was written
+pub shown_buffer : (shown buffer behind : List ℕ) (whole : ℕ) → shown ≡ take whole (buffer ++ behind)
+    → whole ≡ length buffer → shown ≡ buffer
+shown_buffer shown buffer behind whole is size =
+    is ∙ ap (λ m. take m (buffer ++ behind)) size ∙ take-append_seam buffer behind

@@ -1,0 +1,188 @@
+//! What the pipe's node answers to a request, and how it takes its own packets before it answers.
+
+ghost use Rattle.std.specs.Prelude.{◌≡◌, ◌<◌, ◌≤◌, ◌^◌, length, IfOk, IfErr, OnOk};
+ghost use Rattle.std.specs.List.{AllByRecursion};
+ghost use Rattle.client_lines.specs.AnswerTexts.{IsWritten};
+ghost use Rattle.client_lines.specs.Faults.{IsRefusal};
+ghost use Rattle.client_lines.specs.Requests.{NamesNodes};
+ghost use Rattle.role_node.specs.Listed.{IsWithin};
+ghost use Rattle.role_node.specs.Nodes.{due_at};
+ghost use Rattle.role_daemon.specs.Answers as answers;
+ghost use Rattle.role_daemon.specs.Answers.{answer_to, after_request, after_event, own_packet, settled};
+
+use crate::answers::{listed, sent_count};
+use client_lines::{ClientAnswer, Request};
+use link_frames::{Message, Packet};
+use role_node::{Answer, AskFault, Event, Node, NodeFault, Question, Reply};
+use role_sessions::SessionFault;
+use std::alloc::AllocError;
+
+/// The answer of the node to a request, whose owner must be a node. A command that is published is taken by the node
+/// before it is answered.
+///
+/// # Errors
+///
+/// Only for want of memory.
+#[tactic(auto, unfolding(crate::specs::Answers::answer_to, crate::specs::Answers::after_request))]
+pub fn answer(node: &mut Node, request: Request) -> Result<ClientAnswer, AllocError>
+    requires { NamesNodes node.old.config.roles.sizes request }
+    ensures answer { IfOk result (λ answer. answer ≡ answer_to node.old request) }
+    ensures written { IfOk result IsWritten }
+    ensures after { OnOk result (node.new ≡ after_request node.old request) }
+{
+    match request {
+        Request::Issue(command) => take(node, Event::Issue(command)),
+        Request::Client(act) => take(node, Event::Client(act)),
+        Request::Ask(question) => ask(node, question),
+        Request::Reach(owner) => Ok(ClientAnswer::Reach(node.reach(owner))),
+        Request::Again { owner, place } => {
+            let again = node.again(owner, place);
+            Ok(ClientAnswer::Again(sent_count(&again)))
+        }
+        Request::Stop => Ok(ClientAnswer::Stopped),
+    }
+}
+
+/// Has the node answer an event and take its own packets.
+#[tactic(auto, unfolding(crate::specs::Answers::after_taken))]
+fn take(node: &mut Node, event: Event) -> Result<ClientAnswer, AllocError>
+    ensures answer { IfOk result (λ answer. answer
+        ≡ answers.replied (answers.after_taken node.old event) (due_at node.old event)) }
+    ensures written { IfOk result IsWritten }
+    ensures after { OnOk result (node.new ≡ answers.after_taken node.old event) }
+{
+    let due = due(node, event)?;
+    settle(node, sent_by(&due))?;
+    Ok(replied(node, &due))
+}
+
+/// Has the node answer an event. What is due, want of memory apart.
+fn due(node: &mut Node, event: Event) -> Result<Result<Reply, NodeFault>, AllocError>
+    ensures due { IfOk result (λ due. due ≡ due_at node.old event) }
+    ensures refusal { IfOk result (λ due. IfErr due IsRefusal) }
+    ensures after { OnOk result (node.new ≡ after_event node.old event) }
+{
+    match node.apply(event) {
+        Ok(reply) => Ok(Ok(reply)),
+        Err(NodeFault::Memory | NodeFault::Session(SessionFault::Memory)) => Err(AllocError),
+        Err(fault) => Ok(Err(fault)),
+    }
+}
+
+/// Has the node take its own packets until none is left: of this message, of the one that it then sends, and so on.
+fn settle(node: &mut Node, send: Option<Message>) -> Result<(), AllocError>
+    ensures { OnOk result (node.new ≡ settled node.old send) }
+{
+    let mut waiting = send;
+    while let Some(message) = waiting {
+        waiting = take_own(node, message)?;
+    }
+    Ok(())
+}
+
+/// Has the node take the packet of a message to itself. What it sends then.
+fn take_own(node: &mut Node, message: Message) -> Result<Option<Message>, AllocError>
+    ensures sent { IfOk result (λ sent. sent ≡ answers.sent_own node.old (own_packet node.old message)) }
+    ensures after { OnOk result (node.new ≡ answers.after_own node.old (own_packet node.old message)) }
+{
+    let me = node.me();
+    match Packet::new(me, me, message) {
+        Some(packet) => {
+            let due = due(node, Event::Take(packet))?;
+            Ok(sent_by(&due))
+        }
+        None => Ok(None),
+    }
+}
+
+/// The message that the node sends to all.
+fn sent_by(due: &Result<Reply, NodeFault>) -> Option<Message>
+    ensures { result ≡ answers.sent_by due.now }
+{
+    match due {
+        Ok(Reply::Issued(message)) => Some(*message),
+        Ok(Reply::Counted { send, .. }) => *send,
+        Ok(Reply::Idle | Reply::Session(_) | Reply::Done) | Err(_) => None,
+    }
+}
+
+/// What is due to a client's event, as the client hears it.
+fn replied(node: &Node, due: &Result<Reply, NodeFault>) -> ClientAnswer
+    requires { IfErr due.now IsRefusal }
+    ensures answer { result ≡ answers.replied node.now due.now }
+    ensures written { IsWritten result }
+{
+    match due {
+        Ok(Reply::Issued(message)) => {
+            let reach = node.reach(node.me());
+            ClientAnswer::Issued {
+                place: message.place,
+                reach,
+            }
+        }
+        Ok(Reply::Session(id)) => ClientAnswer::Session(*id),
+        Ok(Reply::Idle | Reply::Counted { .. } | Reply::Done) => ClientAnswer::Done,
+        Err(fault) => ClientAnswer::Refused(*fault),
+    }
+}
+
+#[tactic(auto, unfolding(crate::specs::Answers::asked))]
+fn ask(node: &mut Node, question: Question) -> Result<ClientAnswer, AllocError>
+    ensures answer { IfOk result (λ answer. answer ≡ answers.asked node.old question) }
+    ensures written { IfOk result IsWritten }
+    ensures same { node.new ≡ node.old }
+{
+    let at = events_recorded(node);
+    match node.ask(question) {
+        Ok(answer) => {
+            are_within(&answer);
+            Ok(listed(at, answer))
+        }
+        Err(AskFault::NoSession) => {
+            let fault = NodeFault::Session(SessionFault::NoSession);
+            Ok(ClientAnswer::Refused(fault))
+        }
+        Err(AskFault::Memory) => Err(AllocError),
+    }
+}
+
+/// How many events the node has recorded.
+fn events_recorded(node: &Node) -> u32
+    ensures { result ≡ length node.now.history }
+{
+    // what the node may record at most bounds its history
+    let _limit = node.config().roles();
+    node.history().len() as u32
+}
+
+/// The numbers of an answer are within their widths, as their types say.
+fn are_within(answer: &Answer)
+    ensures { IsWithin answer.now }
+{
+    match answer {
+        Answer::Verdict(_) | Answer::Roles(_) => {}
+        Answer::Users(users) => are_wide(users.as_slice()),
+        Answer::Permissions(permissions) => are_permissions(permissions.as_slice()),
+        Answer::Operations(operations) => are_narrow(operations.as_slice()),
+    }
+}
+
+fn are_wide(numbers: &[u32])
+    ensures { AllByRecursion (λ n. n < 2 ^ 32) numbers.now }
+{}
+
+fn are_narrow(numbers: &[u16])
+    ensures { AllByRecursion (λ n. n < 2 ^ 16) numbers.now }
+{}
+
+fn are_permissions(permissions: &[(u16, u32)])
+    ensures { AllByRecursion (λ p. (p.0 < 2 ^ 16) × (p.1 < 2 ^ 32)) permissions.now }
+{
+    for &(operation, object) in permissions {
+        fit(operation, object);
+    }
+}
+
+fn fit(operation: u16, object: u32)
+    ensures { (operation < 2 ^ 16) × (object < 2 ^ 32) }
+{}
