@@ -211,7 +211,7 @@ impl<L: Ledger> Client<'_, '_, L> {
     }
 
     /// Holds an answer, behind those of the lines before.
-    fn say<R: Wait>(&mut self, rt: &R, answer: &ClientAnswer) -> Result<Then, PipeFault>
+    fn say<R: Wait + Clock>(&mut self, rt: &R, answer: &ClientAnswer) -> Result<Then, PipeFault>
         requires { IsWritten answer.now }
     {
         self.settle(rt)?;
@@ -250,7 +250,7 @@ impl<L: Ledger> Client<'_, '_, L> {
     /// # Errors
     ///
     /// `Memory` where one of them has no answer. Those before it are held.
-    fn settle<R: Wait>(&mut self, rt: &R) -> Result<(), PipeFault> {
+    fn settle<R: Wait + Clock>(&mut self, rt: &R) -> Result<(), PipeFault> {
         let due = mem::replace(&mut self.in_flight, 0);
         if due == 0 {
             return Ok(());
@@ -285,13 +285,18 @@ impl<L: Ledger> Client<'_, '_, L> {
     }
 
     /// Looks at a place of the owner's stream, after the lines before were answered.
-    fn look<R: Wait>(&mut self, rt: &R, owner: NodeName, place: Place) -> Result<View, PipeFault> {
+    fn look<R: Wait + Clock>(
+        &mut self,
+        rt: &R,
+        owner: NodeName,
+        place: Place,
+    ) -> Result<View, PipeFault> {
         self.settle(rt)?;
         self.shared.look(rt, owner, place).ok_or(PipeFault::Memory)
     }
 
     /// Sends to all once more what was sent at a place.
-    fn send_again<R: Wait>(
+    fn send_again<R: Wait + Clock>(
         &mut self,
         rt: &R,
         owner: NodeName,
@@ -323,7 +328,7 @@ impl<L: Ledger> Client<'_, '_, L> {
     }
 
     /// The place is free again, once no job is in flight.
-    fn close<R: Wait>(mut self, rt: &R) {
+    fn close<R: Wait + Clock>(mut self, rt: &R) {
         self.shared.ring(rt);
         self.connection.free(rt, self.queue, self.put);
     }

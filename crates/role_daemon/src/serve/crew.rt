@@ -5,6 +5,7 @@ use crate::serve::waiting::Awaited;
 use crate::serve::workers::Worker;
 use std::sync::Wait;
 use std::sync::ledger::Ledger;
+use std::time::Clock;
 
 /// How many batches in a row a thread does that has work of its own.
 const MOST_TURNS: u32 = 4;
@@ -50,7 +51,7 @@ impl<'a, L: Ledger> Crew<'a, L> {
 impl<'a, L: Ledger> Shared<'a, L> {
     /// Jobs were put. This thread does them with an idle worker. Where a worker takes jobs now, or all are at work,
     /// those look again.
-    pub fn ring<R: Wait>(&self, rt: &R) {
+    pub fn ring<R: Wait + Clock>(&self, rt: &R) {
         let worker = {
             let mut crew = self.crew.lock(rt);
             crew.value.jobs = true;
@@ -62,7 +63,7 @@ impl<'a, L: Ledger> Shared<'a, L> {
     }
 
     /// Does jobs that are left to others, until the end.
-    pub fn do_jobs<R: Wait>(&self, rt: &R) {
+    pub fn do_jobs<R: Wait + Clock>(&self, rt: &R) {
         for _ in rt.forever() {
             let crew = self.crew.lock(rt);
             let Some(mut crew) = self.crew.wait(rt, crew) else {
@@ -77,7 +78,7 @@ impl<'a, L: Ledger> Shared<'a, L> {
     }
 
     /// Does jobs with a worker, a batch at a time, until there are none or it did many.
-    fn work<R: Wait>(&self, rt: &R, mut worker: Worker<'a, L>) {
+    fn work<R: Wait + Clock>(&self, rt: &R, mut worker: Worker<'a, L>) {
         for turn in 1..=MOST_TURNS {
             for _ in rt.forever() {
                 let is_full = worker.take_jobs(rt, self);

@@ -141,7 +141,7 @@ impl<L: Ledger> Peer<'_, '_, L> {
     }
 
     /// Puts the packets of frames into the inbox, and rings. A frame that does not open is lost. False at the end.
-    fn take<R: Wait>(&mut self, rt: &R, stream: &TcpStream, frames: &[Frame]) -> bool {
+    fn take<R: Wait + Clock>(&mut self, rt: &R, stream: &TcpStream, frames: &[Frame]) -> bool {
         let put = self.put;
         for frame in frames {
             if let Some(packet) = self.shared.links.open(frame) {
@@ -172,7 +172,7 @@ impl<L: Ledger> Peer<'_, '_, L> {
 
     /// Puts a packet into the inbox, where it is lost if there is no room. Waits where too many jobs are in flight.
     /// False at the end.
-    fn put<R: Wait>(&mut self, rt: &R, packet: Packet) -> bool {
+    fn put<R: Wait + Clock>(&mut self, rt: &R, packet: Packet) -> bool {
         if self.put.saturating_sub(self.done) >= self.most {
             self.shared.ring(rt);
             let wanted = self.put.saturating_sub(self.most / 2);
@@ -192,7 +192,7 @@ impl<L: Ledger> Peer<'_, '_, L> {
     }
 
     /// The place is free again, once no job is in flight.
-    fn close<R: Wait>(mut self, rt: &R) {
+    fn close<R: Wait + Clock>(mut self, rt: &R) {
         if let Some(from) = self.from {
             self.shared.is_silent(rt, from, self.slot);
         }

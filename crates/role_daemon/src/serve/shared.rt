@@ -117,7 +117,7 @@ impl<L: Ledger> Shared<'_, L> {
     }
 
     /// Sends messages to all other nodes. What does not fit is lost.
-    pub fn send_to_peers<R: Wait>(&self, rt: &R, messages: &[Message], room: &mut Room) {
+    pub fn send_to_peers<R: Wait + Clock>(&self, rt: &R, messages: &[Message], room: &mut Room) {
         if messages.is_empty() {
             return;
         }

@@ -19,6 +19,7 @@ use role_sessions::SessionFault;
 use std::alloc::{AllocError, Global};
 use std::sync::Wait;
 use std::sync::ledger::Ledger;
+use std::time::Clock;
 
 /// The most jobs that a worker takes at once.
 const MOST_BATCH: usize = 64;
@@ -98,7 +99,7 @@ impl<'a, L: Ledger> Worker<'a, L> {
     }
 
     /// Sends what the outcomes have the node send.
-    pub fn send<R: Wait>(&mut self, rt: &R, shared: &Shared<'a, L>) {
+    pub fn send<R: Wait + Clock>(&mut self, rt: &R, shared: &Shared<'a, L>) {
         shared.send_to_peers(rt, &self.messages, &mut self.room);
         self.messages.clear();
     }
