@@ -1,7 +1,8 @@
 //! The node over TCP: frames of its peers, and lines of its clients.
 //!
 //! Each connection is served by a thread of its own, which puts jobs into one inbox; four workers make their calls
-//! under the node's lock. A thread that waits sleeps.
+//! under the node's lock. A worker has no thread: whoever put jobs does them with an idle worker, and what is left is
+//! done by threads that wait for it. A thread that waits sleeps.
 
 ghost use Rattle.std.specs.Prelude.{◌≡◌, length, IfOk};
 ghost use Rattle.role_daemon.specs.Linked.{ring_of};
@@ -11,7 +12,10 @@ mod accept;
 mod caller;
 mod clients;
 mod connection;
+mod crew;
 mod frames;
+#[cfg(test)]
+mod idle_tests;
 mod job_queue;
 mod links;
 mod outbox;
@@ -26,9 +30,10 @@ use crate::fault::ServeFault;
 use accept::Side;
 use caller::{MOST_CLIENTS, MOST_PEERS};
 use connection::connections;
-use job_queue::{JobQueue, Ready, job_queues};
+use crew::Crew;
+use job_queue::{JobQueue, job_queues};
 use links::Links;
-use node_lock::{Inbox, Seat, SharedNode};
+use node_lock::{Inbox, SharedNode};
 use outbox::Outbox;
 use role_node::Node;
 use shared::{Life, Shared, local};
@@ -38,7 +43,7 @@ use std::net::{Net, TcpListener, TcpStream};
 use std::sync::ledger::{Blank, Ledger};
 use std::sync::{Mutex, Wait};
 use std::thread::Threads;
-use std::time::Clock;
+use std::time::{Clock, Duration};
 use std::{io, thread};
 use task::Task;
 use waiting::Waiting;
@@ -49,6 +54,9 @@ const WORKERS: u8 = 4;
 
 /// The workers have a seat each, and those who only look share one more.
 const SEATS: u8 = WORKERS + 1;
+
+/// The milliseconds after which a client that sends nothing is closed.
+const IDLE: u64 = 600_000;
 
 /// One pass for each worker, and one for each connection.
 const PASSES: u8 = WORKERS + MOST_CLIENTS as u8 + MOST_PEERS as u8;
@@ -71,8 +79,23 @@ where
     requires me { IsNodeSetup setup }
     requires peers { IsServerSetup setup }
 {
+    serve_until_idle(rt, alloc, setup, Duration::from_millis(IDLE))
+}
+
+/// The same, where a client that sends nothing for so long is closed.
+fn serve_until_idle<R>(
+    rt: &R,
+    alloc: Global,
+    setup: Setup,
+    idle: Duration,
+) -> Result<(), ServeFault>
+where
+    R: Net<Listener = TcpListener, Stream = TcpStream> + Threads + Wait + Clock + Sync,
+    requires me { IsNodeSetup setup }
+    requires peers { IsServerSetup setup }
+{
     let blank = Blank::new(u64::from(SEATS));
-    serve_at::<Brand, R>(rt, alloc, blank, setup)
+    serve_at::<Brand, R>(rt, alloc, blank, setup, idle)
 }
 
 /// The same at a ledger with one part for each seat.
@@ -81,6 +104,7 @@ fn serve_at<L: Ledger + Send + Sync, R>(
     alloc: Global,
     blank: Blank,
     setup: Setup,
+    idle: Duration,
 ) -> Result<(), ServeFault>
 where
     R: Net<Listener = TcpListener, Stream = TcpStream> + Threads + Wait + Clock + Sync,
@@ -90,11 +114,10 @@ where
     requires peers { IsServerSetup setup }
 {
     let listeners = Listeners::new(rt, &setup)?;
-    let ready = Waiting::new(Ready::new(usize::from(WORKERS)));
     let (inbox, passes) = Inbox::new(alloc, PASSES)?;
-    let mut queues = job_queues(alloc, &inbox, &ready, passes)?;
-    let (shared, seats) = shared_of::<L>(alloc, blank, setup, &ready, &mut queues)?;
-    let tasks = tasks(alloc, &shared, &listeners, seats, queues)?;
+    let queues = job_queues(alloc, &inbox, passes)?;
+    let shared = shared_of::<L>(alloc, blank, setup, idle, queues)?;
+    let tasks = tasks(alloc, &shared, &listeners)?;
     run(rt, alloc, &shared, tasks)?;
     if shared.life.lock(rt).value.failed {
         return Err(ServeFault::Device);
@@ -143,20 +166,20 @@ fn bound<R: Net<Listener = TcpListener, Stream = TcpStream>>(
     Ok(listener)
 }
 
-/// What the threads of a setup's node share, and the seats of its workers.
+/// What the threads of a setup's node share.
 fn shared_of<'a, L: Ledger>(
     alloc: Global,
     blank: Blank,
     setup: Setup,
-    ready: &'a Waiting<Ready>,
-    queues: &mut Vec<JobQueue<'a>>,
-) -> Result<(Shared<'a, L>, Vec<Seat<L>>), AllocError>
+    idle: Duration,
+    mut queues: Vec<JobQueue<'a>>,
+) -> Result<Shared<'a, L>, AllocError>
     requires name { blank.name ≡ L.name }
     requires parts { (blank.parts ≡ L.parts) × (5 ≡ L.parts) }
     requires me { IsNodeSetup setup }
     requires peers { IsServerSetup setup }
-    ensures keys { IfOk result (λ made. made.0.links.keys ≡ ring_of setup) }
-    ensures cluster { IfOk result (λ made. made.0.links.cluster ≡ setup.config.cluster) }
+    ensures keys { IfOk result (λ made. made.links.keys ≡ ring_of setup) }
+    ensures cluster { IfOk result (λ made. made.links.cluster ≡ setup.config.cluster) }
 {
     let links = Links::new(alloc, &setup)?;
     let outboxes = outboxes(alloc, &links, setup.nodes.as_slice())?;
@@ -166,18 +189,24 @@ fn shared_of<'a, L: Ledger>(
     let Some(view_seat) = seats.pop() else {
         unreachable!()
     };
-    let shared = Shared {
+    let clients = connections(alloc, &mut queues, MOST_CLIENTS)?;
+    let peers = connections(alloc, &mut queues, MOST_PEERS)?;
+    let mut workers = Vec::new(alloc);
+    for (seat, queue) in seats.into_iter().zip(queues) {
+        workers.push(Worker::new(alloc, queue, seat)?)?;
+    }
+    Ok(Shared {
         node,
         view_seat: Mutex::new(view_seat),
         links,
-        ready,
+        crew: Waiting::new(Crew::new(workers)),
         outboxes,
-        clients: connections(alloc, queues, MOST_CLIENTS)?,
-        peers: connections(alloc, queues, MOST_PEERS)?,
+        clients,
+        peers,
         speakers: Mutex::new(speakers),
         life: Waiting::new(Life { failed: false }),
-    };
-    Ok((shared, seats))
+        idle,
+    })
 }
 
 /// An empty outbox for each other node.
@@ -194,16 +223,14 @@ fn outboxes(alloc: Global, links: &Links, ports: &[u16]) -> Result<Vec<Outbox>, 
 }
 
 /// What the threads do that are there from the start: the workers, one for each other node, and one for each listener.
-fn tasks<'a, 'b, L: Ledger>(
+fn tasks<'b, L: Ledger>(
     alloc: Global,
-    shared: &'b Shared<'a, L>,
+    shared: &'b Shared<'_, L>,
     listeners: &'b Listeners,
-    seats: Vec<Seat<L>>,
-    queues: Vec<JobQueue<'a>>,
-) -> Result<Vec<Task<'a, 'b, L>>, AllocError> {
+) -> Result<Vec<Task<'b>>, AllocError> {
     let mut tasks = Vec::new(alloc);
-    for (seat, queue) in seats.into_iter().zip(queues) {
-        tasks.push(Task::Work(Worker::new(alloc, queue, seat)?))?;
+    for _ in 0..WORKERS {
+        tasks.push(Task::Work)?;
     }
     for outbox in &shared.outboxes {
         tasks.push(Task::SendFrames(outbox))?;
@@ -222,11 +249,11 @@ fn tasks<'a, 'b, L: Ledger>(
 }
 
 /// Does each task in a thread of its own, until the node ends.
-fn run<'a, L: Ledger + Send + Sync, R>(
+fn run<L: Ledger + Send + Sync, R>(
     rt: &R,
     alloc: Global,
-    shared: &Shared<'a, L>,
-    tasks: Vec<Task<'a, '_, L>>,
+    shared: &Shared<'_, L>,
+    tasks: Vec<Task<'_>>,
 ) -> Result<(), AllocError>
 where
     R: Net<Listener = TcpListener, Stream = TcpStream> + Threads + Wait + Clock + Sync,

@@ -1,7 +1,7 @@
 //! Connections as they come.
 
-use crate::serve::clients::{IDLE, answer_client};
-use crate::serve::connection::Connection;
+use crate::serve::clients::answer_client;
+use crate::serve::connection::{Connection, Standing};
 use crate::serve::frames::{FIRST_FRAME, take_frames};
 use crate::serve::shared::Shared;
 use std::alloc::Global;
@@ -20,6 +20,9 @@ const NEXT_LOOK: u64 = 15;
 
 const NEXT_TRY: u64 = 5;
 
+/// How often a newcomer looks for a place where one will be free soon, a millisecond apart.
+const MOST_LOOKS: u32 = 50;
+
 /// How many milliseconds a write to a client may wait until some bytes are taken; then its connection is closed.
 const WRITE_PATIENCE: u64 = 1_000;
 
@@ -31,7 +34,8 @@ pub enum Side {
 }
 
 /// Serves each connection of a listener by a thread of its own, until the end. Where there is no place or no thread for
-/// it, it is closed.
+/// it, it is closed. A newcomer among peers takes the place of the oldest connection on which no frame has opened, if
+/// all places are taken.
 pub fn accept<L: Ledger + Send + Sync, R: Threads + Wait + Clock + Sync>(
     rt: &R,
     alloc: Global,
@@ -39,16 +43,21 @@ pub fn accept<L: Ledger + Send + Sync, R: Threads + Wait + Clock + Sync>(
     listener: &TcpListener,
     side: Side,
 ) {
-    let places = match side {
-        Side::Clients => shared.clients.as_slice(),
-        Side::Peers => shared.peers.as_slice(),
-    };
+    let places = places(shared, side);
     thread::scope(thread::scope_env(), rt, move |scope| {
+        let mut number = 0u64;
         for _ in rt.forever() {
             let Some(stream) = next_stream(rt, shared, listener) else {
                 return;
             };
-            if let Some((slot, stream)) = placed(rt, alloc, places, side, stream) {
+            number = number.saturating_add(1);
+            if prepare(&stream, side, shared.idle).is_err() {
+                continue;
+            }
+            let Ok(stream) = Arc::new(alloc, stream) else {
+                continue;
+            };
+            if let Some(slot) = placed(rt, shared, side, &stream, number) {
                 let begun = scope.spawn(move || serve(rt, alloc, shared, side, slot, &stream));
                 if begun.is_err() {
                     refuse(rt, places, slot);
@@ -113,29 +122,65 @@ fn is_want(error: &io::Error) -> bool {
     matches!(error.raw_os_error(), Some(12 | 23 | 24 | 105))
 }
 
-/// Gives the connection to the first free place. Its number.
-fn placed<R: Wait>(
+fn places<'a, 'b, L: Ledger>(shared: &'b Shared<'a, L>, side: Side) -> &'b [Connection<'a>] {
+    match side {
+        Side::Clients => shared.clients.as_slice(),
+        Side::Peers => shared.peers.as_slice(),
+    }
+}
+
+/// Gives the connection to the first free place, before which so many were given. The number of the place.
+fn placed<L: Ledger, R: Wait + Clock>(
     rt: &R,
-    alloc: Global,
-    places: &[Connection<'_>],
+    shared: &Shared<'_, L>,
     side: Side,
-    stream: TcpStream,
-) -> Option<(u32, Arc<TcpStream>)> {
-    prepare(&stream, side).ok()?;
-    let stream = Arc::new(alloc, stream).ok()?;
-    for (slot, place) in (0..u32::MAX).zip(places) {
-        if place.give(rt, &stream) {
-            return Some((slot, stream));
+    stream: &Arc<TcpStream>,
+    number: u64,
+) -> Option<u32> {
+    let places = places(shared, side);
+    for _ in 0..MOST_LOOKS {
+        for (slot, place) in (0..u32::MAX).zip(places) {
+            if place.give(rt, stream, number) {
+                return Some(slot);
+            }
+        }
+        let waits = side == Side::Peers && makes_room(rt, places);
+        if !waits || !shared.life.pause(rt, Duration::from_millis(1)) {
+            return None;
         }
     }
     None
 }
 
-fn prepare(stream: &TcpStream, side: Side) -> io::Result<()> {
+/// Whether a place will be free soon. If no connection is about to go, the oldest on which no frame has opened is shut
+/// down.
+fn makes_room<R: Wait>(rt: &R, places: &[Connection<'_>]) -> bool {
+    let mut oldest: Option<(u64, &Connection<'_>)> = None;
+    for place in places {
+        match place.standing(rt) {
+            Standing::Free | Standing::Leaving => return true,
+            Standing::Kept => {}
+            Standing::Silent(number) => {
+                if oldest.is_none_or(|(least, _)| number < least) {
+                    oldest = Some((number, place));
+                }
+            }
+        }
+    }
+    match oldest {
+        Some((number, place)) => {
+            place.cut_if(rt, Standing::Silent(number));
+            true
+        }
+        None => false,
+    }
+}
+
+fn prepare(stream: &TcpStream, side: Side, idle: Duration) -> io::Result<()> {
     stream.set_nodelay(true)?;
     match side {
         Side::Clients => {
-            stream.set_read_timeout(Some(Duration::from_millis(IDLE)))?;
+            stream.set_read_timeout(Some(idle))?;
             stream.set_write_timeout(Some(Duration::from_millis(WRITE_PATIENCE)))
         }
         Side::Peers => stream.set_read_timeout(Some(Duration::from_millis(FIRST_FRAME))),

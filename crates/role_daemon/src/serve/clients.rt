@@ -8,7 +8,7 @@ use crate::held::Held;
 use crate::serve::caller::{Caller, MOST_LINES};
 use crate::serve::connection::{Answers, Connection};
 use crate::serve::job_queue::JobQueue;
-use crate::serve::shared::{Room, Shared};
+use crate::serve::shared::{Room, Shared, is_past, put_own};
 use client_lines::{ClientAnswer, LineFault, MOST_LINE_BYTES, Request, read_request};
 use link_frames::{Ahead, Kind, Message, Next, Place, Watched};
 use node_lock::{Call, Job, View};
@@ -18,17 +18,14 @@ use std::alloc::{AllocError, Global};
 use std::net::TcpStream;
 use std::sync::Wait;
 use std::sync::ledger::Ledger;
-use std::time::{Clock, Duration};
+use std::time::{Clock, Duration, Instant};
 use std::{mem, thread};
 
-/// The milliseconds after which a client that sends nothing is closed.
-pub const IDLE: u64 = 600_000;
+/// The milliseconds for which the lines of a client that takes no answers are looked through, or the next waited for.
+const LAST_LOOK: u64 = 2_000;
 
 /// The milliseconds before a job is put again that the inbox did not take.
 const NEXT_PUT: u64 = 1;
-
-/// After so many lines the workers hear of them, though more lines are there.
-const RING_LINES: u32 = 16;
 
 /// What a client's line leaves to be done.
 #[derive(Clone, Copy, Debug, PartialEq, Eq)]
@@ -100,9 +97,47 @@ impl<L: Ledger> Client<'_, '_, L> {
                 let _ = self.settle(rt);
                 let _ = self.held.write_all(&mut writer);
             }
-            return matches!(next, Ok(Then::Stop));
+            return match next {
+                Ok(then) => then == Then::Stop,
+                Err(_) => self.leaves_a_stop(rt, stream, &mut ahead, &mut reader),
+            };
         }
         unreachable!()
+    }
+
+    /// Whether one of the lines that came and are not answered any more stops the node.
+    fn leaves_a_stop<R: Wait + Clock>(
+        &self,
+        rt: &R,
+        stream: &TcpStream,
+        ahead: &mut Ahead,
+        reader: &mut Watched<&TcpStream>,
+    ) -> bool {
+        let patience = Duration::from_millis(LAST_LOOK);
+        let (Ok(begin), Ok(())) = (Instant::now(rt), stream.set_read_timeout(Some(patience))) else {
+            return false;
+        };
+        for _ in rt.forever() {
+            let (stops, goes_on) = match ahead.peek(reader, MOST_LINE_BYTES) {
+                Ok(Next::Line(count)) => {
+                    let stops = self.is_stop(&ahead.front()[..count]);
+                    ahead.take(count + 1);
+                    (stops, true)
+                }
+                Ok(Next::Last(_)) => (self.is_stop(ahead.front()), false),
+                Ok(Next::TooLong) => (false, matches!(ahead.pass_line(reader), Ok(true))),
+                Ok(Next::End) | Err(_) => (false, false),
+            };
+            if stops || !goes_on || is_past(rt, &begin, LAST_LOOK) {
+                return stops;
+            }
+        }
+        unreachable!()
+    }
+
+    fn is_stop(&self, line: &[u8]) -> bool {
+        let sizes = self.shared.links.sizes();
+        matches!(read_request(self.alloc, &sizes, line), Ok(Request::Stop))
     }
 
     /// Answers what comes next. All that is due is written before the program waits for it.
@@ -176,7 +211,7 @@ impl<L: Ledger> Client<'_, '_, L> {
     }
 
     /// Holds an answer, behind those of the lines before.
-    fn say<R: Wait>(&mut self, rt: &R, answer: &ClientAnswer) -> Result<Then, PipeFault>
+    fn say<R: Wait + Clock>(&mut self, rt: &R, answer: &ClientAnswer) -> Result<Then, PipeFault>
         requires { IsWritten answer.now }
     {
         self.settle(rt)?;
@@ -199,12 +234,9 @@ impl<L: Ledger> Client<'_, '_, L> {
             if self.queue.put(rt, *job).is_ok() {
                 self.put = self.put.saturating_add(1);
                 self.in_flight = self.in_flight.saturating_add(1);
-                if self.in_flight % RING_LINES == 0 {
-                    self.queue.ring(rt);
-                }
                 return Ok(Then::GoOn);
             }
-            self.queue.ring(rt);
+            self.shared.ring(rt);
             if self.shared.life.has_ended(rt) {
                 return Err(PipeFault::Device);
             }
@@ -218,12 +250,12 @@ impl<L: Ledger> Client<'_, '_, L> {
     /// # Errors
     ///
     /// `Memory` where one of them has no answer. Those before it are held.
-    fn settle<R: Wait>(&mut self, rt: &R) -> Result<(), PipeFault> {
+    fn settle<R: Wait + Clock>(&mut self, rt: &R) -> Result<(), PipeFault> {
         let due = mem::replace(&mut self.in_flight, 0);
         if due == 0 {
             return Ok(());
         }
-        self.queue.ring(rt);
+        self.shared.ring(rt);
         if self
             .connection
             .wait(rt, self.put, &mut self.answers)
@@ -253,13 +285,18 @@ impl<L: Ledger> Client<'_, '_, L> {
     }
 
     /// Looks at a place of the owner's stream, after the lines before were answered.
-    fn look<R: Wait>(&mut self, rt: &R, owner: NodeName, place: Place) -> Result<View, PipeFault> {
+    fn look<R: Wait + Clock>(
+        &mut self,
+        rt: &R,
+        owner: NodeName,
+        place: Place,
+    ) -> Result<View, PipeFault> {
         self.settle(rt)?;
         self.shared.look(rt, owner, place).ok_or(PipeFault::Memory)
     }
 
     /// Sends to all once more what was sent at a place.
-    fn send_again<R: Wait>(
+    fn send_again<R: Wait + Clock>(
         &mut self,
         rt: &R,
         owner: NodeName,
@@ -282,14 +319,17 @@ impl<L: Ledger> Client<'_, '_, L> {
             }
         }
         let mut room = Room::new(self.alloc, messages.len())?;
-        self.shared
-            .send_to_all(rt, &mut self.queue, &messages, &mut room);
+        self.shared.send_to_peers(rt, &messages, &mut room);
+        for message in &messages {
+            put_own(rt, &mut self.queue, self.shared.links.me(), message);
+        }
+        self.shared.ring(rt);
         Ok(())
     }
 
     /// The place is free again, once no job is in flight.
-    fn close<R: Wait>(mut self, rt: &R) {
-        self.queue.ring(rt);
+    fn close<R: Wait + Clock>(mut self, rt: &R) {
+        self.shared.ring(rt);
         self.connection.free(rt, self.queue, self.put);
     }
 }

@@ -16,10 +16,27 @@ pub struct Answers {
     pub lines: Held,
 }
 
+/// How a place stands towards a newcomer.
+#[derive(Clone, Copy, Debug, PartialEq, Eq)]
+pub enum Standing {
+    /// It has no connection.
+    Free,
+    /// Its connection, before which so many were given, has said nothing yet that authenticates.
+    Silent(u64),
+    /// Its connection is to be kept.
+    Kept,
+    /// Its connection has ended or was shut down, and the place will be free soon.
+    Leaving,
+}
+
 /// What a connection has, and what was done for it.
 #[derive(Drop)]
 struct Slot<'a> {
     stream: Option<Arc<TcpStream>>,
+    /// How many connections were given before it.
+    number: u64,
+    /// Nothing was heard that authenticates.
+    is_silent: bool,
     /// Absent while a thread serves the connection.
     queue: Option<JobQueue<'a>>,
     /// How many of its jobs are done.
@@ -38,6 +55,20 @@ impl Awaited for Slot<'_> {
 }
 
 impl Slot<'_> {
+    fn standing(&self) -> Standing {
+        match (&self.stream, &self.queue) {
+            (None, Some(_)) => Standing::Free,
+            (Some(_), _) if !self.is_cut => {
+                if self.is_silent {
+                    Standing::Silent(self.number)
+                } else {
+                    Standing::Kept
+                }
+            }
+            _ => Standing::Leaving,
+        }
+    }
+
     fn cut(&mut self) {
         self.is_cut = true;
         if let Some(stream) = &self.stream {
@@ -58,6 +89,8 @@ impl<'a> Connection<'a> {
         Connection {
             slot: Waiting::new(Slot {
                 stream: None,
+                number: 0,
+                is_silent: true,
                 queue: Some(queue),
                 done: 0,
                 wanted: 0,
@@ -67,17 +100,39 @@ impl<'a> Connection<'a> {
         }
     }
 
-    /// Gives a connection to the place. False where it has one, or the node has ended.
-    pub fn give<R: Wait>(&self, rt: &R, stream: &Arc<TcpStream>) -> bool {
+    /// Gives a connection to the place, before which so many were given. False where it has one, or the node has ended.
+    pub fn give<R: Wait>(&self, rt: &R, stream: &Arc<TcpStream>, number: u64) -> bool {
         let Ok(other) = Arc::try_clone(stream) else {
             return false;
         };
         let mut slot = self.slot.lock(rt);
-        if slot.ended || slot.value.stream.is_some() || slot.value.queue.is_none() {
+        if slot.ended || slot.value.standing() != Standing::Free {
             return false;
         }
         slot.value.stream = Some(other);
+        slot.value.number = number;
+        slot.value.is_silent = true;
         true
+    }
+
+    /// How the place stands towards a newcomer.
+    pub fn standing<R: Wait>(&self, rt: &R) -> Standing {
+        self.slot.lock(rt).value.standing()
+    }
+
+    /// What the connection says authenticates, so that it is kept. False where it was shut down before.
+    pub fn keep<R: Wait>(&self, rt: &R) -> bool {
+        let mut slot = self.slot.lock(rt);
+        slot.value.is_silent = false;
+        !slot.value.is_cut
+    }
+
+    /// Shuts the connection down if it still stands so.
+    pub fn cut_if<R: Wait>(&self, rt: &R, standing: Standing) {
+        let mut slot = self.slot.lock(rt);
+        if slot.value.standing() == standing {
+            slot.value.cut();
+        }
     }
 
     /// The way into the inbox, for the thread that serves the connection.

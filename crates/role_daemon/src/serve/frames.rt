@@ -5,7 +5,7 @@ ghost use Rattle.std.specs.Prelude.{◌≡◌, ◌≤◌, vec_len};
 use crate::serve::caller::Caller;
 use crate::serve::connection::{Answers, Connection};
 use crate::serve::job_queue::JobQueue;
-use crate::serve::shared::Shared;
+use crate::serve::shared::{Shared, is_past};
 use link_frames::{FRAME_LEN, Frame, Packet, Watched, read_patiently};
 use node_lock::{Call, Job};
 use quorum_sizes::NodeName;
@@ -14,7 +14,7 @@ use std::alloc::{AllocError, Global};
 use std::net::TcpStream;
 use std::sync::Wait;
 use std::sync::ledger::Ledger;
-use std::time::{Clock, Duration, Instant};
+use std::time::{Clock, Instant};
 
 /// How many frames are read at once.
 const BLOCK_FRAMES: usize = 160;
@@ -141,7 +141,8 @@ impl<L: Ledger> Peer<'_, '_, L> {
     }
 
     /// Puts the packets of frames into the inbox, and rings. A frame that does not open is lost. False at the end.
-    fn take<R: Wait>(&mut self, rt: &R, stream: &TcpStream, frames: &[Frame]) -> bool {
+    fn take<R: Wait + Clock>(&mut self, rt: &R, stream: &TcpStream, frames: &[Frame]) -> bool {
+        let put = self.put;
         for frame in frames {
             if let Some(packet) = self.shared.links.open(frame) {
                 if self.from.is_none() && !self.speak(rt, stream, packet.from()) {
@@ -152,12 +153,18 @@ impl<L: Ledger> Peer<'_, '_, L> {
                 }
             }
         }
-        self.queue.ring(rt);
+        if self.put > put {
+            self.shared.ring(rt);
+        }
         true
     }
 
-    /// The first frame has opened, so that the connection may be silent for long, and is the one of its node.
+    /// The first frame has opened, so that the connection is kept, may be silent for long, and is the one of its node.
+    /// False where it was shut down before.
     fn speak<R: Wait>(&mut self, rt: &R, stream: &TcpStream, from: NodeName) -> bool {
+        if !self.connection.keep(rt) {
+            return false;
+        }
         self.from = Some(from);
         self.shared.speaks(rt, from, self.slot);
         stream.set_read_timeout(None).is_ok()
@@ -165,9 +172,9 @@ impl<L: Ledger> Peer<'_, '_, L> {
 
     /// Puts a packet into the inbox, where it is lost if there is no room. Waits where too many jobs are in flight.
     /// False at the end.
-    fn put<R: Wait>(&mut self, rt: &R, packet: Packet) -> bool {
+    fn put<R: Wait + Clock>(&mut self, rt: &R, packet: Packet) -> bool {
         if self.put.saturating_sub(self.done) >= self.most {
-            self.queue.ring(rt);
+            self.shared.ring(rt);
             let wanted = self.put.saturating_sub(self.most / 2);
             match self.connection.wait(rt, wanted, &mut self.answers) {
                 Some(done) => self.done = done,
@@ -185,19 +192,11 @@ impl<L: Ledger> Peer<'_, '_, L> {
     }
 
     /// The place is free again, once no job is in flight.
-    fn close<R: Wait>(mut self, rt: &R) {
+    fn close<R: Wait + Clock>(mut self, rt: &R) {
         if let Some(from) = self.from {
             self.shared.is_silent(rt, from, self.slot);
         }
-        self.queue.ring(rt);
+        self.shared.ring(rt);
         self.connection.free(rt, self.queue, self.put);
-    }
-}
-
-/// Whether so many milliseconds went by.
-fn is_past<R: Clock>(rt: &R, begin: &Instant, millis: u64) -> bool {
-    match begin.elapsed(rt) {
-        Ok(time) => time >= Duration::from_millis(millis),
-        Err(_) => true,
     }
 }

@@ -1,5 +1,6 @@
 //! Frames that wait for a peer, and the connection by which they go.
 
+use crate::serve::shared::is_past;
 use crate::serve::waiting::{Awaited, Waiting};
 use link_frames::{FRAME_LEN, Frame};
 use quorum_sizes::NodeName;
@@ -9,7 +10,7 @@ use std::io;
 use std::io::Write;
 use std::net::TcpStream;
 use std::sync::{Arc, Wait};
-use std::time::{Clock, Duration};
+use std::time::{Clock, Duration, Instant};
 
 /// The most frames that wait for a peer.
 const MOST_FRAMES: usize = 1_024;
@@ -21,12 +22,17 @@ const BATCH_FRAMES: usize = 128;
 /// thread, and goes on beside it.
 const FEW_FRAMES: usize = 8;
 
+/// A connection is looked at before a batch is written there, but once in so many milliseconds at most.
+const NEXT_LOOK: u64 = 20;
+
 /// The frames, oldest first. A frame stays until it is written.
 #[derive(Drop)]
 struct Frames {
     frames: VecDeque<Frame>,
     /// The connection, which never waits. Absent while there is none.
     stream: Option<Arc<TcpStream>>,
+    /// When it was last seen not to have ended.
+    seen: Option<Instant>,
     /// A thread writes the oldest frames, as one at a time does.
     writing: bool,
     /// Who wrote has left it to the outbox's own thread.
@@ -111,6 +117,7 @@ impl Outbox {
             waiting: Waiting::new(Frames {
                 frames: VecDeque::new(alloc),
                 stream: None,
+                seen: None,
                 writing: false,
                 left: false,
                 written: 0,
@@ -121,7 +128,7 @@ impl Outbox {
     /// Puts frames at the end, and writes them where there is a connection. What does not fit into 1,024 frames is
     /// lost.
     /// `batch` is room for bytes.
-    pub fn send<R: Wait>(&self, rt: &R, frames: &[Frame], batch: &mut Vec<u8>) {
+    pub fn send<R: Wait + Clock>(&self, rt: &R, frames: &[Frame], batch: &mut Vec<u8>) {
         if let Some(stream) = self.push(rt, frames) {
             if self.write(rt, &stream, batch) != Progress::Finished {
                 self.waiting.lock(rt).value.left = true;
@@ -145,15 +152,23 @@ impl Outbox {
     }
 
     /// Writes the oldest frames, 128 at most. The thread that writes calls it.
-    pub fn write<R: Wait>(&self, rt: &R, stream: &TcpStream, batch: &mut Vec<u8>) -> Progress {
-        let Ok(written) = self.copy_front(rt, batch) else {
+    pub fn write<R: Wait + Clock>(
+        &self,
+        rt: &R,
+        stream: &TcpStream,
+        batch: &mut Vec<u8>,
+    ) -> Progress {
+        let Ok((written, seen)) = self.copy_front(rt, batch) else {
             return Progress::Full;
         };
         if batch.is_empty() {
             return self.forget(rt, 0);
         }
-        if has_ended(stream) {
-            return Progress::Broken;
+        if !is_fresh(rt, seen) {
+            if has_ended(stream) {
+                return Progress::Broken;
+            }
+            self.waiting.lock(rt).value.seen = Instant::now(rt).ok();
         }
         let mut writer = stream;
         match writer.write(batch.get(written..).unwrap_or(&[])) {
@@ -164,14 +179,19 @@ impl Outbox {
         }
     }
 
-    /// The bytes of the oldest frames, in place of those that are there. How many of them are written already.
-    fn copy_front<R: Wait>(&self, rt: &R, batch: &mut Vec<u8>) -> Result<usize, AllocError> {
+    /// The bytes of the oldest frames, in place of those that are there. How many of them are written already, and when
+    /// the connection was last seen.
+    fn copy_front<R: Wait>(
+        &self,
+        rt: &R,
+        batch: &mut Vec<u8>,
+    ) -> Result<(usize, Option<Instant>), AllocError> {
         batch.clear();
         let state = self.waiting.lock(rt);
         for frame in state.value.frames.iter().take(BATCH_FRAMES) {
             batch.extend_from_slice(frame)?;
         }
-        Ok(state.value.written)
+        Ok((state.value.written, state.value.seen))
     }
 
     /// So many bytes more are written. Where no frame is left this thread writes no more.
@@ -202,6 +222,7 @@ impl Outbox {
     pub fn open<R: Wait>(&self, rt: &R, stream: Arc<TcpStream>) {
         let mut state = self.waiting.lock(rt);
         state.value.stream = Some(stream);
+        state.value.seen = None;
         state.value.writing = true;
     }
 
@@ -232,6 +253,14 @@ impl Outbox {
 /// Only for want of memory.
 pub fn batch_room(alloc: Global) -> Result<Vec<u8>, AllocError> {
     Vec::with_capacity(alloc, BATCH_FRAMES * FRAME_LEN)
+}
+
+/// Whether the connection was seen a short while ago.
+fn is_fresh<R: Clock>(rt: &R, seen: Option<Instant>) -> bool {
+    match seen {
+        Some(seen) => !is_past(rt, &seen, NEXT_LOOK),
+        None => false,
+    }
 }
 
 /// Whether the peer has closed the connection. It sends nothing here.

@@ -2,7 +2,8 @@
 
 use crate::serve::caller::Caller;
 use crate::serve::connection::Connection;
-use crate::serve::job_queue::{JobQueue, Ready};
+use crate::serve::crew::Crew;
+use crate::serve::job_queue::JobQueue;
 use crate::serve::links::Links;
 use crate::serve::outbox::{Outbox, batch_room};
 use crate::serve::waiting::{Awaited, Waiting};
@@ -15,6 +16,7 @@ use std::mem;
 use std::net::{Ipv4Addr, SocketAddr, SocketAddrV4};
 use std::sync::ledger::Ledger;
 use std::sync::{Mutex, Wait};
+use std::time::{Clock, Duration, Instant};
 
 /// Whether a listener has failed. Who waits for it waits for the node's end.
 #[derive(Drop)]
@@ -35,7 +37,7 @@ pub struct Shared<'a, L: Ledger> {
     /// The seat of those who only look.
     pub view_seat: Mutex<Seat<L>>,
     pub links: Links,
-    pub ready: &'a Waiting<Ready>,
+    pub crew: Waiting<Crew<'a, L>>,
     /// An outbox for each other node.
     pub outboxes: Vec<Outbox>,
     pub clients: Vec<Connection<'a>>,
@@ -43,6 +45,8 @@ pub struct Shared<'a, L: Ledger> {
     /// The place of the connection of each node, at the node's index.
     pub speakers: Mutex<Vec<Option<u32>>>,
     pub life: Waiting<Life>,
+    /// After so long a client that sends nothing is closed.
+    pub idle: Duration,
 }
 
 /// Room for the frames to one node, and for their bytes.
@@ -71,11 +75,30 @@ pub fn local(port: u16) -> SocketAddr {
     SocketAddr::V4(SocketAddrV4::new(Ipv4Addr::LOCALHOST, port))
 }
 
+/// Whether so many milliseconds went by.
+pub fn is_past<R: Clock>(rt: &R, begin: &Instant, millis: u64) -> bool {
+    match begin.elapsed(rt) {
+        Ok(time) => time >= Duration::from_millis(millis),
+        Err(_) => true,
+    }
+}
+
+/// Puts the packet of a message to the node itself into the inbox. Where there is no room it is lost.
+pub fn put_own<R: Wait>(rt: &R, queue: &mut JobQueue<'_>, me: NodeName, message: &Message) {
+    if let Some(packet) = Packet::new(me, me, *message) {
+        let job = Job {
+            number: Caller::Itself.number(),
+            call: Call::Step(Event::Take(packet)),
+        };
+        let _ = queue.put(rt, job);
+    }
+}
+
 impl<L: Ledger> Shared<'_, L> {
     /// Ends every thread.
     pub fn end<R: Wait>(&self, rt: &R) {
         self.life.end(rt);
-        self.ready.end(rt);
+        self.crew.end(rt);
         for outbox in &self.outboxes {
             outbox.end(rt);
         }
@@ -93,14 +116,8 @@ impl<L: Ledger> Shared<'_, L> {
         self.end(rt);
     }
 
-    /// Sends messages to all nodes. What does not fit is lost.
-    pub fn send_to_all<R: Wait>(
-        &self,
-        rt: &R,
-        queue: &mut JobQueue<'_>,
-        messages: &[Message],
-        room: &mut Room,
-    ) {
+    /// Sends messages to all other nodes. What does not fit is lost.
+    pub fn send_to_peers<R: Wait + Clock>(&self, rt: &R, messages: &[Message], room: &mut Room) {
         if messages.is_empty() {
             return;
         }
@@ -108,10 +125,6 @@ impl<L: Ledger> Shared<'_, L> {
             self.seal_all(outbox.to, messages, &mut room.frames);
             outbox.send(rt, &room.frames, &mut room.bytes);
         }
-        for message in messages {
-            self.send_to_itself(rt, queue, message);
-        }
-        queue.ring(rt);
     }
 
     /// The frames of messages to a node, in place of those that are there.
@@ -121,17 +134,6 @@ impl<L: Ledger> Shared<'_, L> {
             if let Some(frame) = self.links.seal(to, message) {
                 let _ = frames.push(frame);
             }
-        }
-    }
-
-    fn send_to_itself<R: Wait>(&self, rt: &R, queue: &mut JobQueue<'_>, message: &Message) {
-        let me = self.links.me();
-        if let Some(packet) = Packet::new(me, me, *message) {
-            let job = Job {
-                number: Caller::Itself.number(),
-                call: Call::Step(Event::Take(packet)),
-            };
-            let _ = queue.put(rt, job);
         }
     }
 

@@ -4,7 +4,6 @@ use crate::serve::accept::{Side, accept};
 use crate::serve::outbox::Outbox;
 use crate::serve::senders::send_frames;
 use crate::serve::shared::Shared;
-use crate::serve::workers::Worker;
 use std::alloc::Global;
 use std::net::{Net, TcpListener, TcpStream};
 use std::sync::Wait;
@@ -14,9 +13,9 @@ use std::time::Clock;
 
 /// What one thread of a serving node does, until the end.
 #[derive(Drop)]
-pub enum Task<'a, 'b, L: Ledger> {
-    /// It makes the calls of jobs.
-    Work(Worker<'a, L>),
+pub enum Task<'b> {
+    /// It does jobs.
+    Work,
     /// It sends the frames of an outbox.
     SendFrames(&'b Outbox),
     /// It has each connection of a listener served.
@@ -26,14 +25,14 @@ pub enum Task<'a, 'b, L: Ledger> {
     },
 }
 
-impl<'a, L: Ledger + Send + Sync> Task<'a, '_, L> {
+impl Task<'_> {
     /// Does it, until the end.
-    pub fn run<R>(self, rt: &R, alloc: Global, shared: &Shared<'a, L>)
+    pub fn run<L: Ledger + Send + Sync, R>(self, rt: &R, alloc: Global, shared: &Shared<'_, L>)
     where
         R: Net<Listener = TcpListener, Stream = TcpStream> + Threads + Wait + Clock + Sync,
     {
         match self {
-            Task::Work(worker) => worker.work(rt, shared),
+            Task::Work => shared.do_jobs(rt),
             Task::SendFrames(outbox) => send_frames(rt, alloc, outbox),
             Task::Accept { listener, side } => accept(rt, alloc, shared, listener, side),
         }

@@ -8,8 +8,8 @@ use crate::answers::listed;
 use crate::held::Held;
 use crate::serve::caller::Caller;
 use crate::serve::connection::{Answers, Connection};
-use crate::serve::job_queue::{JobQueue, MOST_BATCH};
-use crate::serve::shared::{Room, Shared};
+use crate::serve::job_queue::JobQueue;
+use crate::serve::shared::{Room, Shared, put_own};
 use client_lines::ClientAnswer;
 use link_frames::Message;
 use node_lock::{Call, Locked, Outcome, Seat, View};
@@ -19,7 +19,10 @@ use role_sessions::SessionFault;
 use std::alloc::{AllocError, Global};
 use std::sync::Wait;
 use std::sync::ledger::Ledger;
-use std::thread;
+use std::time::Clock;
+
+/// The most jobs that a worker takes at once.
+const MOST_BATCH: usize = 64;
 
 /// What a hold said to a job; nothing for want of memory, and where the seat does not fit the node.
 #[derive(Drop)]
@@ -73,53 +76,40 @@ impl<'a, L: Ledger> Worker<'a, L> {
         })
     }
 
-    /// Makes the calls of jobs, a batch at a time, until the end.
-    pub fn work<R: Wait>(mut self, rt: &R, shared: &Shared<'a, L>) {
-        for _ in rt.forever() {
-            let Some(count) = self.queue.claim(rt) else {
-                return;
-            };
-            self.take_jobs(rt, shared, count);
-            let left = count.saturating_sub(self.done.len());
-            self.queue.release(rt, left);
-            self.send(rt, shared);
-            self.answer(rt, shared);
-            if left > 0 {
-                thread::yield_now();
-            }
-        }
-    }
-
-    /// Makes the calls of so many jobs, each by one hold, all under one lock.
-    fn take_jobs<R: Wait>(&mut self, rt: &R, shared: &Shared<'a, L>, count: usize) {
+    /// Makes the calls of jobs, each by one hold, all under one lock, until the inbox is empty or the batch is full.
+    /// Whether it is full. What the node sends to itself is put into the inbox at once.
+    pub fn take_jobs<R: Wait>(&mut self, rt: &R, shared: &Shared<'a, L>) -> bool {
         let me = shared.links.me();
         let mut locked = shared.node.node.lock(rt);
-        for _ in 0..count {
+        for _ in self.done.len()..MOST_BATCH {
             let Some(job) = self.queue.take(rt) else {
-                return;
+                return false;
             };
             let said = call(&mut locked, &mut self.seat, job.call, me);
+            if let Some((outcome, _)) = &said {
+                if let Some(message) = message_of(outcome) {
+                    let _ = self.messages.push(message);
+                    put_own(rt, &mut self.queue, me, &message);
+                }
+            }
             let caller = Caller::of(job.number);
             let _ = self.done.push(Done { caller, said });
         }
+        true
     }
 
     /// Sends what the outcomes have the node send.
-    fn send<R: Wait>(&mut self, rt: &R, shared: &Shared<'a, L>) {
+    pub fn send<R: Wait + Clock>(&mut self, rt: &R, shared: &Shared<'a, L>) {
+        shared.send_to_peers(rt, &self.messages, &mut self.room);
         self.messages.clear();
-        for done in &self.done {
-            if let Some((outcome, _)) = &done.said {
-                if let Some(message) = message_of(outcome) {
-                    let _ = self.messages.push(message);
-                }
-            }
-        }
-        shared.send_to_all(rt, &mut self.queue, &self.messages, &mut self.room);
     }
 
     /// Tells each connection what was done for it, and its answers.
-    fn answer<R: Wait>(&mut self, rt: &R, shared: &Shared<'a, L>) {
+    pub fn answer<R: Wait>(&mut self, rt: &R, shared: &Shared<'a, L>) {
         for done in self.done.drain(..) {
+            if done.caller == Caller::Itself {
+                continue;
+            }
             if let Some(share) = share_of(self.alloc, &mut self.shares, done.caller) {
                 share.add(done);
             }
