@@ -5,6 +5,8 @@
 --     empty_run, cluster_run_push, after_step_runs, after_steps_runs      a world's run is a cluster run, and stays one
 --     pool-length      how many packets the messages of a run are
 --     consistency, integrity, same_policy, at_rest      the laws of every run, or of one at rest
+--     nothing_is_stuck, work_is_bounded, fair_schedules_settle      the laws of runs that go on by what was sent
+--     settled_prolongs, settled_is, settled-config      a world that has settled
 --     ready_for_one ..      their parts, of a run with what is known of it; `taken_by` is what a node took at a place
 pub use Rattle.byz_world.proofs.Pooled.{sent_is_pooled, pooled_is_sent, pool_is_what_was_sent, has_sent_is}
 pub use Rattle.byz_world.proofs.Pooled.{is_has_sent, has_sent_stays, recorded_after}
@@ -17,3 +19,7 @@ pub use Rattle.byz_world.proofs.Safety.{consistency, integrity, ready_for_one, d
 pub use Rattle.byz_world.proofs.Safety.{delivered_was_ready, ready_was_issued, delivered_was_issued, streamed}
 pub use Rattle.byz_world.proofs.Policy.{same_policy, same_stream}
 pub use Rattle.byz_world.proofs.Rest.{ready_by_all, delivered_by_all, issued_reaches_all, at_rest}
+pub use Rattle.byz_world.proofs.Progress.{nothing_is_stuck}
+pub use Rattle.byz_world.proofs.Prolonging.{work_is_bounded}
+pub use Rattle.byz_world.proofs.Schedules.{fair_schedules_settle, stuck_or_not}
+pub use Rattle.byz_world.proofs.Passes.{settled_prolongs, settled_is, settled-config}

@@ -25,6 +25,7 @@ pub mod Progress
 pub mod Work
 pub mod Prolonging
 pub mod Schedules
+pub mod Passes
 pub mod Telling
 pub mod Stepping
 pub mod Arriving

@@ -171,7 +171,7 @@ one_of : (takes : List Take) → (takes ≡ [] → ⊥) → (t : Take) × IsIn t
 one_of [] some = absurd (some refl)
 one_of (t ∷ takes) some = (t, (0, refl))
 
-some_within : {A : Type 0} (xs : List A) (k : ℕ) → k < length xs → (x : A) × (slice_get xs k ≡ Some x)
+pub some_within : {A : Type 0} (xs : List A) (k : ℕ) → k < length xs → (x : A) × (slice_get xs k ≡ Some x)
 some_within [] k h = absurd (omega (arith, h))
 some_within (x ∷ xs) zero h = (x, refl)
 some_within (x ∷ xs) (suc k) h = some_within xs k (omega (arith, h))

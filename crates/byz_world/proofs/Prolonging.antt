@@ -41,11 +41,11 @@ use Rattle.byz_world.proofs.Work.{few_at_place}
 
 -- Sums.
 
-total : (ℕ → ℕ) → ℕ → ℕ
+pub total : (ℕ → ℕ) → ℕ → ℕ
 total f zero = 0
 total f (suc n) = f n + total f n
 
-total_most : (f : ℕ → ℕ) (n most : ℕ) → ((k : ℕ) → f k ≤ most) → total f n ≤ n * most
+pub total_most : (f : ℕ → ℕ) (n most : ℕ) → ((k : ℕ) → f k ≤ most) → total f n ≤ n * most
 unfolding total
 total_most f zero most each = omega arith
 total_most f (suc n) most each =
@@ -59,7 +59,7 @@ unfolding total
 total_keeps f g zero keeps = omega arith
 total_keeps f g (suc n) keeps = omega (arith, keeps n, total_keeps f g n keeps)
 
-total_more : (f g : ℕ → ℕ) (n k : ℕ) → ((k : ℕ) → f k ≤ g k) → k < n → f k + 1 ≤ g k → total f n + 1 ≤ total g n
+pub total_more : (f g : ℕ → ℕ) (n k : ℕ) → ((k : ℕ) → f k ≤ g k) → k < n → f k + 1 ≤ g k → total f n + 1 ≤ total g n
 unfolding total
 total_more f g zero k keeps h more = absurd (omega (arith, h))
 total_more f g (suc n) k keeps h more =
@@ -210,14 +210,14 @@ given_is_run config liars run p cluster givable =
     same_take : (p q : PacketValue) → event.Take p ≡ event.Take q → p ≡ q
     same_take p q e = cc
 
-first_given : (config : ConfigValue) (liars : Nodes) (run more : Run) (pair : ℕ × Event) →
+pub first_given : (config : ConfigValue) (liars : Nodes) (run more : Run) (pair : ℕ × Event) →
     IsProlongation config liars run (pair ∷ more) →
     (p : PacketValue) × IsGivable config liars run p × (pair ≡ (p.to, event.Take p))
 first_given config liars run more pair prolongs =
     let one = prolongs 0 pair refl in
     (one.0, subst (λ r. IsGivable config liars r one.0) (append-nil run) one.1, one.2)
 
-rest_given : (config : ConfigValue) (liars : Nodes) (run more : Run) (pair : ℕ × Event) →
+pub rest_given : (config : ConfigValue) (liars : Nodes) (run more : Run) (pair : ℕ × Event) →
     IsProlongation config liars run (pair ∷ more) → IsProlongation config liars (run ++ pair ∷ []) more
 rest_given config liars run more pair prolongs t next at =
     let one = prolongs (suc t) next at in

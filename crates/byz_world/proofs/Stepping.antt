@@ -48,7 +48,7 @@ due_where : (w : WorldValue) (step : Step) (at : ℕ) (e : Event) → arrival w 
 unfolding step_due
 due_where w step at e arrives' = ap (answer_of w) arrives'
 
-after_where : (w : WorldValue) (step : Step) (a : Arrival) → arrival w step ≡ a →
+pub after_where : (w : WorldValue) (step : Step) (a : Arrival) → arrival w step ≡ a →
     after_step w step ≡ with_run w (w.run ++ recorded_pair w a)
 unfolding after_step
 after_where w step a e = ap (λ x. with_run w (w.run ++ recorded_pair w x)) e
@@ -58,7 +58,7 @@ recorded_where : (w : WorldValue) (at : ℕ) (e : Event) (b : Bool) → is_recor
 recorded_where w at e b h = ap (λ t. if t then (at, e) ∷ [] else []) h
 
 -- what leaves the run leaves the world
-same_run : (w : WorldValue) → with_run w (w.run ++ []) ≡ w
+pub same_run : (w : WorldValue) → with_run w (w.run ++ []) ≡ w
 same_run w = λ i. record { config = w.config; liars = w.liars; run = append-nil w.run i }
 
 adds_where : (w : WorldValue) (step : Step) (at : ℕ) (e : Event) → arrival w step ≡ Ok (Some (at, e)) →

@@ -3,6 +3,7 @@ pub mod Pools
 pub mod Worlds
 pub mod LabKeys
 pub mod Steps
+pub mod Settled
 pub mod Faults
 pub mod Resting
 pub mod Progress

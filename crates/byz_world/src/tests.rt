@@ -281,6 +281,19 @@ fn one_silent_liar(rt: HostRuntime) -> Result<(), Fail> {
     settled(&rt, &mut world)
 }
 
+/// Settling records node 0's command, and at three correct nodes its SEND, three ECHOs and three READYs.
+#[test]
+fn settling(rt: HostRuntime) -> Result<(), Fail> {
+    let mut world = new_world(rt.alloc(), MOST_EVENTS, &[3])?;
+    walk(&rt, rt.alloc(), &mut world, &[(Act::Issue, Due::Sends(0))])?;
+    if world.settle().is_err() {
+        world.settle()?;
+    }
+    assert!(rt; world.run_len() == 22);
+    assert!(rt; world.settle()? == 0);
+    settled(&rt, &mut world)
+}
+
 /// What is due where each of four correct nodes took what node 0 published.
 fn delivered_everywhere(rt: &impl Abort, world: &mut World) -> Result<(), Fail> {
     assert!(rt; world.at_rest() && world.sent_len() == 36);

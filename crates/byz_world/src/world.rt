@@ -470,6 +470,14 @@ impl World {
         self.sent.len() as u32 * u32::from(self.sizes().n())
     }
 
+    /// How many events the correct nodes have recorded.
+    pub fn run_len(&self) -> u64
+        ensures value { result ≡ length self.now.run }
+        ensures run { IsClusterRunOf self.now }
+    {
+        self.order.len() as u64
+    }
+
     /// How far two correct nodes' streams of an owner agree: the length of the longest list that both begin with.
     /// `None` where one is no correct node or the owner is no node.
     pub fn agree(&self, i: NodeName, j: NodeName, owner: NodeName) -> Option<u32>

@@ -10,11 +10,12 @@ use Rattle.quorum_sizes.specs.NodeSets.{nodes_among}
 use Rattle.quorum_sizes.proofs.Exported.{same_names, contains-nodes_among}
 use Rattle.byz_world.specs.Steps.{after_step}
 use Rattle.byz_world.specs.Worlds.{WorldValue, too_many_lie}
+use Rattle.byz_world.proofs.Exported.{settled-config}
 use Rattle.byz_world.specs.declared.step.Step.{Step}
 use Rattle.byz_world.specs.declared.step.Step.TheVariants.{Give}
 use Rattle.role_lab.specs.Labs.{Lab, lab_sizes, next_number, after_doing, flush_within, after_order}
 use Rattle.role_lab.specs.declared.orders.Order.{Order}
-use Rattle.role_lab.specs.declared.orders.Order.TheVariants.{Do, Flush, Rest, Ask, Reach, Agree}
+use Rattle.role_lab.specs.declared.orders.Order.TheVariants.{Do, Flush, Settle, Rest, Ask, Reach, Agree}
 
 pub after_step-config : (w : WorldValue) (step : Step) → (after_step w step).config ≡ w.config
 unfolding after_step
@@ -37,6 +38,7 @@ flush_within-config (suc times) count lab =
 pub after_order-sizes : (lab : Lab) (order : Order) → lab_sizes (after_order lab order) ≡ lab_sizes lab
 after_order-sizes lab (Do step) = ap (λ c. c.roles.sizes) (after_step-config lab.world step)
 after_order-sizes lab Flush = ap (λ c. c.roles.sizes) (flush_within-config lab.world.config.limit 0 lab)
+after_order-sizes lab Settle = ap (λ c. c.roles.sizes) (settled-config lab.world)
 after_order-sizes lab Rest = refl
 after_order-sizes lab (Ask node question) = refl
 after_order-sizes lab (Reach node owner) = refl

@@ -14,3 +14,4 @@ pub mod Answering
 pub mod Resting
 pub mod ScriptRunning
 pub mod Leaving
+pub mod Settling

@@ -29,7 +29,7 @@ use Rattle.role_lab.specs.Texts.{kind_word}
 use Rattle.role_lab.specs.declared.orders.Setup.{Setup}
 use Rattle.role_lab.specs.declared.orders.Setup.TheVariants.{Owned, Liar}
 use Rattle.role_lab.specs.declared.orders.Order.{Order}
-use Rattle.role_lab.specs.declared.orders.Order.TheVariants.{Do, Flush, Rest, Ask, Reach, Agree}
+use Rattle.role_lab.specs.declared.orders.Order.TheVariants.{Do, Flush, Settle, Rest, Ask, Reach, Agree}
 use Rattle.role_lab.proofs.LineNumbers.{two_text, three_text}
 use Rattle.role_lab.proofs.Spelled.{sizes_of_line_spelled, take_of_line_spelled}
 use Rattle.role_lab.proofs.SpelledBytes.{bytes_text, spelling_spells}
@@ -115,6 +115,7 @@ step_text s (Client node act) few is = act_text node (omega (arith, is.0)) act i
 order_text : (s : Counts) (order : Order) → s.nodes ≤ 64 → IsOrder s order → Ascii (order_spelling order)
 order_text s (Do step) few is = step_text s step few is
 order_text s Flush few is = word_text (codes "flush") refl
+order_text s Settle few is = word_text (codes "settle") refl
 order_text s Rest few is = word_text (codes "rest") refl
 order_text s (Ask node q) few is = question_text node (omega (arith, is.0)) q is.1
 order_text s (Reach node owner) few is =

@@ -36,7 +36,7 @@ use Rattle.role_lab.specs.OrderSpellings.{IsAct, IsQuestion, IsLie, IsStep, IsOr
 use Rattle.role_lab.specs.OrderSpellings.{SpellsBytes, SpellsOrder, OrdersAreRead, OrdersAreSpelled}
 use Rattle.role_lab.specs.Texts.{kind_word}
 use Rattle.role_lab.specs.declared.orders.Order.{Order}
-use Rattle.role_lab.specs.declared.orders.Order.TheVariants.{Do, Flush, Rest, Ask, Reach, Agree}
+use Rattle.role_lab.specs.declared.orders.Order.TheVariants.{Do, Flush, Settle, Rest, Ask, Reach, Agree}
 use Rattle.role_lab.proofs.SpelledBytes.{bytes_read, bytes_spelled, spelling_spells}
 use Rattle.role_lab.proofs.LineNames.{node_read, node_spelled, node_rest_spelled, kind_read, plain_kind}
 use Rattle.role_lab.proofs.LineNames.{kind_spelled, then_rest-word, then_rest-decimal, then_rest_is}
@@ -62,6 +62,10 @@ one_word line word words none some = told (bytes_eq line word) refl
 no_space_flush : split_word (codes "flush") ≡ None
 unfolding split_word
 no_space_flush = refl
+
+no_space_settle : split_word (codes "settle") ≡ None
+unfolding split_word
+no_space_settle = refl
 
 no_space_rest : split_word (codes "rest") ≡ None
 unfolding split_word
@@ -147,9 +151,10 @@ module _ (s : Counts) (are : AreSizes s) (node : ℕ) (within : node < s.nodes) 
       let line = name ++ (32 ∷ (decimal node ++ (32 ∷ text))) in
       let words = split_word-word name (decimal node ++ (32 ∷ text)) plain in
       let no_flush = one_word line (codes "flush") (name, decimal node ++ (32 ∷ text)) no_space_flush words in
+      let no_settle = one_word line (codes "settle") (name, decimal node ++ (32 ∷ text)) no_space_settle words in
       let no_rest = one_word line (codes "rest") (name, decimal node ++ (32 ∷ text)) no_space_rest words in
       ap (order_of_line s) (at_node-grouped name node text)
-      ∙ rw (no_flush, no_rest) (rw words (rw (no_bytes, no_give, no_lie) (order_of_node-read name text)))
+      ∙ rw (no_flush, no_settle, no_rest) (rw words (rw (no_bytes, no_give, no_lie) (order_of_node-read name text)))
 
   act_read : (act : ClientEvent) → IsAct act → order_of_line s (act_spelling node act) ≡ Some (Do (Client node act))
   unfolding order_at_node
@@ -229,8 +234,9 @@ unfolding order_of_line
 named_line s name text plain no_bytes =
     let words = split_word-word name text plain in
     let no_flush = one_word (name ++ (32 ∷ text)) (codes "flush") (name, text) no_space_flush words in
+    let no_settle = one_word (name ++ (32 ∷ text)) (codes "settle") (name, text) no_space_settle words in
     let no_rest = one_word (name ++ (32 ∷ text)) (codes "rest") (name, text) no_space_rest words in
-    rw (no_flush, no_rest) (rw words (rw no_bytes refl))
+    rw (no_flush, no_settle, no_rest) (rw words (rw no_bytes refl))
 
 -- bytes, in any of their spellings
 bytes_line : (s : Counts) (to : ℕ) (bytes word : List ℕ) → AreSizes s → to < s.nodes → IsBytes bytes
@@ -241,9 +247,11 @@ bytes_line s to bytes word are within fits spells =
     let line = codes "bytes" ++ (32 ∷ text) in
     let words = split_word-word (codes "bytes") text refl in
     let no_flush = one_word line (codes "flush") (codes "bytes", text) no_space_flush words in
+    let no_settle = one_word line (codes "settle") (codes "bytes", text) no_space_settle words in
     let no_rest = one_word line (codes "rest") (codes "bytes", text) no_space_rest words in
     ap (order_of_line s) (at_node-grouped (codes "bytes") to word)
-    ∙ rw (no_flush, no_rest) (rw words (rw (then_rest-decimal (node_number s) to to word (omega (arith, are.0, within))
+    ∙ rw (no_flush, no_settle, no_rest) (rw words
+    (rw (then_rest-decimal (node_number s) to to word (omega (arith, are.0, within))
     (node_read s to are within)) (rw (bytes_read word bytes fits spells) refl)))
 
 step_read : (s : Counts) (step : Step) → AreSizes s → IsStep s step → order_of_line s (step_spelling step)
@@ -262,6 +270,7 @@ order_read : (s : Counts) (order : Order) → AreSizes s → IsOrder s order →
 unfolding order_of_line
 order_read s (Do step) are is = step_read s step are is
 order_read s Flush are is = refl
+order_read s Settle are is = refl
 order_read s Rest are is = refl
 order_read s (Ask node q) are is = question_read s are node is.0 q is.1
 order_read s (Reach node owner) are is = reach_read s are node is.0 owner is.1
@@ -473,14 +482,15 @@ pub order_of_line_spelled : OrdersAreSpelled
 unfolding order_of_line
 order_of_line_spelled s line order e =
     if_else _ _ _ order e (alone (codes "flush") Flush (λ h. h) tt)
-    (λ e1. if_else _ _ _ order e1 (alone (codes "rest") Rest (λ h. h) tt)
+    (λ e1. if_else _ _ _ order e1 (alone (codes "settle") Settle (λ h. h) tt)
+    (λ e2. if_else _ _ _ order e2 (alone (codes "rest") Rest (λ h. h) tt)
     (λ at. option_and_then_some _ _ _ at
     (λ words cut read.
     subst (λ (w : List ℕ). SpellsOrder order w × IsOrder s order) (sym (split_word-joined line words cut))
     (by_name (λ (name : List ℕ) (o : Order). SpellsOrder o (name ++ (32 ∷ words.1)) × IsOrder s o)
     words.0 (codes "bytes") _ _ order read (bytes_said s words.1 order)
     (λ others. let ordered = named_ordered s words.1 words.0 order others in
-    (own_spelling s _ order ordered.is ordered.line_is, ordered.is))))))
+    (own_spelling s _ order ordered.is ordered.line_is, ordered.is)))))))
   where
     alone : (word : List ℕ) (o : Order) → (line ≡ word → SpellsOrder o line) → IsOrder s o → bytes_eq line word ≡ true
         → ◌≡◌ {A = Option Order} (Some o) (Some order) → SpellsOrder order line × IsOrder s order

@@ -16,7 +16,7 @@ use Rattle.role_lab.specs.declared.given.Given.{Given}
 use Rattle.role_lab.specs.declared.grammar.Said.{Said}
 use Rattle.role_lab.specs.declared.lab.Lab.{Lab}
 use Rattle.role_lab.specs.declared.orders.Order.{Order}
-use Rattle.role_lab.specs.declared.orders.Order.TheVariants.{Do, Flush, Rest, Ask, Reach, Agree}
+use Rattle.role_lab.specs.declared.orders.Order.TheVariants.{Do, Flush, Settle, Rest, Ask, Reach, Agree}
 
 abbrev pub given_in : Given → (ℕ → Bool)
 given_in given = flagged given.flags.items
@@ -37,6 +37,7 @@ packet_given (Client node act) = None
 abbrev pub IsWithinSizes : Counts → Order → Type 0
 IsWithinSizes s (Do step) = ⊤
 IsWithinSizes s Flush = ⊤
+IsWithinSizes s Settle = ⊤
 IsWithinSizes s Rest = ⊤
 IsWithinSizes s (Ask node question) = ⊤
 IsWithinSizes s (Reach node owner) = owner < s.nodes

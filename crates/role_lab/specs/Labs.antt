@@ -1,5 +1,5 @@
 -- A cluster as a script runs it: the world, and which packets of its pool were given.
-use Rattle.std.specs.Prelude.{ℕ, zero, suc, ◌+◌, ◌==◌, Bool, false, not, ◌||◌}
+use Rattle.std.specs.Prelude.{ℕ, zero, suc, ◌+◌, ◌-◌, ◌==◌, Bool, false, not, ◌||◌}
 use Rattle.std.specs.Prelude.{nat_lt, if◌then◌else◌, length, find, Option}
 use Rattle.std.specs.List.{range_with_len}
 use Rattle.std.specs.Option.{option_map_or}
@@ -8,12 +8,13 @@ use Rattle.quorum_sizes.specs.NodeSets.{Nodes}
 use Rattle.role_commands.specs.Tables.{Table}
 use Rattle.role_node.specs.Configs.{ConfigValue, most_events}
 use Rattle.byz_world.specs.Pools.{pool}
+use Rattle.byz_world.specs.Settled.{settled}
 use Rattle.byz_world.specs.Steps.{after_step}
 use Rattle.byz_world.specs.Worlds.{WorldValue, new_world}
 use Rattle.byz_world.specs.declared.step.Step.{Step}
 use Rattle.byz_world.specs.declared.step.Step.TheVariants.{Issue, Give, Lie, Bytes, Client}
 use Rattle.role_lab.specs.declared.orders.Order.{Order}
-use Rattle.role_lab.specs.declared.orders.Order.TheVariants.{Do, Flush, Rest, Ask, Reach, Agree}
+use Rattle.role_lab.specs.declared.orders.Order.TheVariants.{Do, Flush, Settle, Rest, Ask, Reach, Agree}
 
 -- the world, and whether the packet of a number was given
 pub record Lab : Type 0 where
@@ -75,10 +76,24 @@ flush_within (suc times) count lab =
 abbrev pub flush : Lab → Flushed
 flush lab = flush_within lab.world.config.limit 0 lab
 
+-- how many events are recorded while the cluster settles
+abbrev pub settling_adds : Lab → ℕ
+settling_adds lab = length (settled lab.world).run - length lab.world.run
+
+-- each number below this one was given too
+abbrev pub with_all_below : (ℕ → Bool) → ℕ → (ℕ → Bool)
+with_all_below given end = λ k. nat_lt k end || given k
+
+-- after it has settled: each packet that its pool has then was given
+abbrev pub after_settling : Lab → Lab
+after_settling lab =
+    let w = settled lab.world in record { world = w; given = with_all_below lab.given (pool_length w) }
+
 -- after what a line asks
 abbrev pub after_order : Lab → Order → Lab
 after_order lab (Do step) = after_doing lab step
 after_order lab Flush = (flush lab).lab
+after_order lab Settle = after_settling lab
 after_order lab Rest = lab
 after_order lab (Ask node question) = lab
 after_order lab (Reach node owner) = lab

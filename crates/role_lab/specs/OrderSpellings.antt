@@ -20,7 +20,7 @@ use Rattle.role_lab.specs.Orders.{cluster_of_line, setup_of_line, order_of_line}
 use Rattle.role_lab.specs.declared.orders.Setup.{Setup}
 use Rattle.role_lab.specs.declared.orders.Setup.TheVariants.{Owned, Liar}
 use Rattle.role_lab.specs.declared.orders.Order.{Order}
-use Rattle.role_lab.specs.declared.orders.Order.TheVariants.{Do, Flush, Rest, Ask, Reach, Agree}
+use Rattle.role_lab.specs.declared.orders.Order.TheVariants.{Do, Flush, Settle, Rest, Ask, Reach, Agree}
 
 -- `cluster N F`
 abbrev pub cluster_spelling : Counts → List ℕ
@@ -87,6 +87,7 @@ step_spelling (Client node act) = act_spelling node act
 abbrev pub order_spelling : Order → List ℕ
 order_spelling (Do step) = step_spelling step
 order_spelling Flush = codes "flush"
+order_spelling Settle = codes "settle"
 order_spelling Rest = codes "rest"
 order_spelling (Ask node question) = question_spelling node question
 order_spelling (Reach node owner) = at_node (codes "reach") node (decimal owner)
@@ -147,6 +148,7 @@ IsStep s (Client node act) = (node < s.nodes) × IsAct act
 abbrev pub IsOrder : Counts → Order → Type 0
 IsOrder s (Do step) = IsStep s step
 IsOrder s Flush = ⊤
+IsOrder s Settle = ⊤
 IsOrder s Rest = ⊤
 IsOrder s (Ask node question) = (node < s.nodes) × IsQuestion question
 IsOrder s (Reach node owner) = (node < s.nodes) × (owner < s.nodes)

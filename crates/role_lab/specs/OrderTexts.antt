@@ -29,10 +29,10 @@ use Rattle.byz_world.specs.declared.step.StepReply.TheVariants.{Absorbed, Node}
 use Rattle.byz_world.specs.declared.faults.WorldFault.{WorldFault}
 use Rattle.byz_world.specs.declared.faults.WorldFault.TheVariants as fault
 use Rattle.role_lab.specs.Texts.{kind_word}
-use Rattle.role_lab.specs.Labs.{Lab, flush}
+use Rattle.role_lab.specs.Labs.{Lab, flush, settling_adds}
 use Rattle.role_lab.specs.Rests.{rests}
 use Rattle.role_lab.specs.declared.orders.Order.{Order}
-use Rattle.role_lab.specs.declared.orders.Order.TheVariants.{Do, Flush, Rest, Ask, Reach, Agree}
+use Rattle.role_lab.specs.declared.orders.Order.TheVariants.{Do, Flush, Settle, Rest, Ask, Reach, Agree}
 
 -- ---- before anything happens
 
@@ -138,6 +138,7 @@ rest_text at_rest = if at_rest then codes "rest yes" else codes "rest no"
 unfoldable pub order_text : Lab → Order → List ℕ
 order_text lab (Do step) = step_text (step_due lab.world step)
 order_text lab Flush = codes "flushed " ++ decimal (flush lab).count
+order_text lab Settle = codes "settled " ++ decimal (settling_adds lab)
 order_text lab Rest = rest_text (rests lab.world)
 order_text lab (Ask node question) = asked_text lab.world node question
 order_text lab (Reach node owner) = reach_text lab.world node owner

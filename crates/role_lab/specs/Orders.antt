@@ -22,7 +22,7 @@ use Rattle.role_lab.specs.Grammar.{sizes_of_numbers}
 use Rattle.role_lab.specs.declared.orders.Setup.{Setup}
 use Rattle.role_lab.specs.declared.orders.Setup.TheVariants.{Owned, Liar}
 use Rattle.role_lab.specs.declared.orders.Order.{Order}
-use Rattle.role_lab.specs.declared.orders.Order.TheVariants.{Do, Flush, Rest, Ask, Reach, Agree}
+use Rattle.role_lab.specs.declared.orders.Order.TheVariants.{Do, Flush, Settle, Rest, Ask, Reach, Agree}
 
 -- the name of a node of these sizes
 abbrev pub node_number : Counts → List ℕ → Option ℕ
@@ -182,6 +182,7 @@ named_order s name text =
 unfoldable pub order_of_line : Counts → List ℕ → Option Order
 order_of_line s line =
     if bytes_eq line (codes "flush") then Some Flush
+    else (if bytes_eq line (codes "settle") then Some Settle
     else (if bytes_eq line (codes "rest") then Some Rest
     else option_and_then (λ words. if bytes_eq words.0 (codes "bytes") then bytes_order s words.1
-    else named_order s words.0 words.1) (split_word line))
+    else named_order s words.0 words.1) (split_word line)))

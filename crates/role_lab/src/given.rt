@@ -3,7 +3,7 @@
 ghost use Rattle.std.specs.Prelude.{◌≡◌, ℕ, ◌<◌, ◌≤◌, ◌^◌, true, false, not, find, length, OnOk, IfSome};
 ghost use Rattle.std.specs.List.{range_with_len};
 ghost use Rattle.role_lab.specs.Flags.{flagged, AllBelow};
-ghost use Rattle.role_lab.specs.Labs.{with_number};
+ghost use Rattle.role_lab.specs.Labs.{with_number, with_all_below};
 
 use std::alloc::{AllocError, Global};
 
@@ -40,6 +40,20 @@ impl Given {
         ensures { OnOk result (given_in self.new ≡ with_number (given_in self.old) number) }
     {
         set_flag(&mut self.flags, number as usize)
+    }
+
+    /// Adds all numbers below `end`.
+    ///
+    /// # Errors
+    ///
+    /// Only for want of memory.
+    pub fn mark_below(&mut self, end: u32) -> Result<(), AllocError>
+        ensures { OnOk result (given_in self.new ≡ with_all_below (given_in self.old) end) }
+    {
+        for number in 0..end {
+            self.mark(number)?;
+        }
+        Ok(())
     }
 
     /// The least number below `end` that was not given.

@@ -5,6 +5,7 @@ ghost use Rattle.byz_world.specs.Steps.{step_due, after_step};
 ghost use Rattle.byz_world.specs.declared.step.Step.TheVariants.{Give};
 ghost use Rattle.byz_world.specs.Worlds.{too_many_lie};
 ghost use Rattle.role_lab.specs.Labs.{lab_sizes, pool_length, new_lab, given_after, after_doing, flush, after_order};
+ghost use Rattle.role_lab.specs.Labs.{settling_adds, after_settling};
 ghost use Rattle.role_lab.specs.Rests.{rests};
 ghost use Rattle.role_lab.specs.Inside.{IsWithinSizes, is_want_of_memory};
 ghost use Rattle.role_lab.specs.OrderTexts as texts;
@@ -82,6 +83,10 @@ impl Lab {
                 let count = self.flush()?;
                 format!(in alloc; "flushed {count}")
             }
+            Order::Settle => {
+                let count = self.settle()?;
+                format!(in alloc; "settled {count}")
+            }
             Order::Rest => rest_text(alloc, self.rests()),
             Order::Ask { node, question } => asked_text(alloc, &mut self.world, node, question),
             Order::Reach { node, owner } => self.reach_text(alloc, node, owner),
@@ -123,6 +128,16 @@ impl Lab {
             self.give(packet)?;
         }
         Ok(limit)
+    }
+
+    /// Gives the packets of the pool until none counts any more. How many events were recorded.
+    fn settle(&mut self) -> Result<u64, AllocError>
+        ensures count { IfOk result (λ count. count ≡ settling_adds (lab_in self.old)) }
+        ensures after { OnOk result (lab_in self.new ≡ after_settling (lab_in self.old)) }
+    {
+        let count = self.world.settle()?;
+        self.given.mark_below(self.world.sent_len())?;
+        Ok(count)
     }
 
     /// Gives a packet of the pool, whatever the answer is.

@@ -35,6 +35,8 @@ pub enum Order {
     Do(Step),
     /// That all packets that wait are given.
     Flush,
+    /// That packets are given until none counts any more.
+    Settle,
     /// Whether the cluster is at rest.
     Rest,
     /// A decision or a review of a node.
@@ -120,6 +122,9 @@ pub fn order_of_line(alloc: Global, sizes: &Sizes, line: &str) -> Result<Option<
 {
     if line == "flush" {
         return Ok(Some(Order::Flush));
+    }
+    if line == "settle" {
+        return Ok(Some(Order::Settle));
     }
     if line == "rest" {
         return Ok(Some(Order::Rest));

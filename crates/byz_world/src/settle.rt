@@ -1,0 +1,57 @@
+//! Giving the packets of a world until none counts any more.
+
+ghost use Rattle.std.specs.Prelude.{◌≡◌, ◌+◌, length, IfOk, OnOk};
+ghost use Rattle.byz_world.specs.Settled.{IsProlonged, IsSettled, after_pass, pass_adds, longest_run, settled};
+ghost use Rattle.byz_world.specs.Worlds.{IsClusterRunOf};
+
+use crate::step::Step;
+use crate::world::World;
+use std::alloc::AllocError;
+
+impl World {
+    /// Gives the packets of the pool, pass after pass, until nothing is recorded any more. How many events were.
+    ///
+    /// Where neither the pool nor a correct node's history is full then, the cluster is at rest.
+    ///
+    /// # Errors
+    ///
+    /// Only for want of memory. What was given until then stays so.
+    pub fn settle(&mut self) -> Result<u64, AllocError>
+        ensures prolonged { IsProlonged self.old self.new }
+        ensures settled { OnOk result (IsSettled self.new) }
+        ensures count { IfOk result (λ count. length self.new.run ≡ length self.old.run + count) }
+        ensures after { OnOk result (self.new ≡ settled self.old) }
+        ensures run { IsClusterRunOf self.new }
+    {
+        let before = self.run_len();
+        for _pass in 0..self.longest_run() {
+            let adds = self.give_each()?;
+            if !adds {
+                return Ok(self.run_len() - before);
+            }
+        }
+        Ok(self.run_len() - before)
+    }
+
+    /// No run has more events.
+    fn longest_run(&self) -> u64
+        ensures value { result ≡ longest_run self.now.config }
+        ensures run { IsClusterRunOf self.now }
+    {
+        u64::from(self.sizes().n()) * u64::from(self.config().limit())
+    }
+
+    /// Gives each packet that the pool has. Whether something was recorded.
+    fn give_each(&mut self) -> Result<bool, AllocError>
+        ensures prolonged { IsProlonged self.old self.new }
+        ensures adds { IfOk result (λ adds. adds ≡ pass_adds self.old) }
+        ensures after { OnOk result (self.new ≡ after_pass self.old) }
+        ensures run { IsClusterRunOf self.new }
+    {
+        let before = self.run_len();
+        for packet in 0..self.sent_len() {
+            self.pass(&Step::Give { packet })?;
+        }
+        Ok(before < self.run_len())
+    }
+}
