@@ -105,7 +105,8 @@ fn run_lines<R: Read, W: Write>(
     Err(ScriptFault::Device)
 }
 
-/// Takes the next line, and holds what is due for it behind the rest.
+/// Takes the next line, and holds what is due for it behind the rest. Nothing may be held back where
+/// the reader has to be asked for more.
 fn take_next<R: Read>(
     alloc: Global,
     stage: &mut Stage,
@@ -113,6 +114,7 @@ fn take_next<R: Read>(
     held: &mut Vec<u8>,
     reader: &mut Watched<R>,
 ) -> Result<Took, AheadFault>
+    requires due { IsNotDue held.old.items (front_of ahead.old) }
     ensures taken { IfOk result
         (λ took. (known writer_old writer_new : Option (List ℕ)) (script : Script) (number : ℕ) →
         Follows stage.old script →
