@@ -3,6 +3,7 @@ pub mod Blocks
 pub mod Devices
 pub mod FrameReads
 pub mod Frames
+pub mod Holding
 pub mod Hmac
 pub mod Kinds
 pub mod KeyRings

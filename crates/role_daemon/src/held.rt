@@ -5,13 +5,16 @@ ghost use Rattle.link_frames.specs.Watching.{watched_inner, watched_tally};
 ghost use Rattle.link_frames.specs.Devices.{WentOn, CallFailed, AppendsFront};
 ghost use Rattle.link_frames.specs.Lines.{ended};
 ghost use Rattle.link_frames.specs.LinePrograms.{Moved};
+ghost use Rattle.link_frames.specs.Aheads.{front_of};
+ghost use Rattle.link_frames.specs.Holding.{IsNotDue};
+ghost use Rattle.client_lines.specs.Requests.{most_line_bytes};
 ghost use Rattle.std.specs.Io.KnownBytes.{Appends};
 ghost use Rattle.client_lines.specs.AnswerTexts.{IsWritten, answer_text};
 
 use client_lines::{ClientAnswer, MOST_LINE_BYTES, answer_text};
-use link_frames::{Ahead, DeviceFault, Next, Watched, write_whole};
+use link_frames::{Ahead, AheadFault, DeviceFault, Next, Watched, write_whole};
 use std::alloc::{AllocError, Global};
-use std::io::Write;
+use std::io::{Read, Write};
 
 /// How many bytes are held back at most before they are written.
 const MOST_HELD_BYTES: usize = 8192;
@@ -62,6 +65,7 @@ impl Held {
     ) -> Result<(), DeviceFault>
         ensures ok { OnOk result (Moved (W.contents (watched_inner writer.old)) (W.contents (watched_inner writer.new))
             self.old.bytes.items self.new.bytes.items) }
+        ensures due { OnOk result (IsNotDue most_line_bytes self.new.bytes.items (front_of ahead.now)) }
         ensures err { OnErr result (AppendsFront (W.contents (watched_inner writer.old))
             (W.contents (watched_inner writer.new)) self.old.bytes.items) }
         ensures quiet { OnOk result (WentOn (watched_tally writer.old) (watched_tally writer.new)) }
@@ -71,6 +75,22 @@ impl Held {
             self.write_all(writer)?;
         }
         Ok(())
+    }
+
+    /// How the bytes ahead and those of the reader begin. Here the program may wait, so nothing is held back that is
+    /// due.
+    ///
+    /// # Errors
+    ///
+    /// `Device` where the reader has failed, and `Memory`.
+    pub fn peek<R: Read>(
+        &self,
+        ahead: &mut Ahead,
+        reader: &mut Watched<R>,
+    ) -> Result<Next, AheadFault>
+        requires { IsNotDue most_line_bytes self.now.bytes.items (front_of ahead.old) }
+    {
+        ahead.peek(reader, MOST_LINE_BYTES)
     }
 
     /// Writes what is held.

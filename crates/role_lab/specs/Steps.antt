@@ -1,11 +1,9 @@
 -- What taking the next line of a script does. Serves the code, and no public contract.
-use Rattle.std.specs.Prelude.{◌≡◌, ℕ, ◌+◌, ◌<◌, ◌⊎◌, Bool, true, false, List, [], ◌++◌, length, Option, Some, None}
+use Rattle.std.specs.Prelude.{◌≡◌, ℕ, ◌+◌, Bool, true, false, List, ◌++◌, Option, Some, None}
 use Rattle.std.specs.Io.KnownBytes.{IsAtEnd}
 use Rattle.link_frames.specs.Lines.{ended}
-use Rattle.link_frames.specs.Nexts.{Begins, EndsWith}
-use Rattle.link_frames.specs.declared.next.Next.{Next}
 use Rattle.link_frames.proofs.Exported.{Ran, Ended}
-use Rattle.role_lab.specs.Scripts.{Script, Unread, most_line_bytes, next}
+use Rattle.role_lab.specs.Scripts.{Script, Unread, next}
 use Rattle.role_lab.specs.Stages.{Follows}
 use Rattle.role_lab.specs.declared.run.Took.{Took}
 use Rattle.role_lab.specs.declared.run.Took.TheVariants.{Line, BadLine, All}
@@ -36,16 +34,3 @@ IsTaken BadLine known left reader writer_old writer_new held stage number =
     ScriptEnds known writer_old writer_new held (Some number)
 IsTaken All known left reader writer_old writer_new held stage number =
     ScriptEnds known writer_old writer_new held None × IsAtEnd reader
-
--- the bytes ahead tell the next line, whatever the reader has left
-abbrev pub IsAtHand : List ℕ → Type 0
-IsAtHand front =
-    (line : Next) × Begins most_line_bytes front line × ((known : Option (List ℕ)) → EndsWith known line)
-
--- so many bytes of text are not held back
-abbrev pub block_bytes : ℕ
-block_bytes = 8192
-
--- nothing is held back, or less than that much while the next line is at hand
-abbrev pub IsNotDue : List ℕ → List ℕ → Type 0
-IsNotDue held front = (held ≡ []) ⊎ ((length held < block_bytes) × IsAtHand front)

@@ -6,12 +6,13 @@ ghost use Rattle.std.specs.Io.KnownBytes.{Appends};
 ghost use Rattle.link_frames.specs.Aheads.{front_of, pending};
 ghost use Rattle.link_frames.specs.Devices.{WentOn, CallFailed, ReaderFailed, AppendsFront};
 ghost use Rattle.link_frames.specs.Blocks.{ReadAhead};
+ghost use Rattle.link_frames.specs.Holding.{IsNotDue};
 ghost use Rattle.link_frames.specs.LinePrograms.{Moved};
 ghost use Rattle.link_frames.specs.Watching.{watched_inner, watched_tally};
 ghost use Rattle.role_lab.specs.Scripts.{Script, most_line_bytes, next};
 ghost use Rattle.role_lab.specs.Stages.{Follows};
 ghost use Rattle.role_lab.specs.Runs.{ScriptRan, IsEndless};
-ghost use Rattle.role_lab.specs.Steps.{Holds, ScriptRuns, IsTaken, IsNotDue};
+ghost use Rattle.role_lab.specs.Steps.{Holds, ScriptRuns, IsTaken};
 
 use crate::fault::ScriptFault;
 use crate::stage::{Stage, answer};
@@ -114,7 +115,7 @@ fn take_next<R: Read>(
     held: &mut Vec<u8>,
     reader: &mut Watched<R>,
 ) -> Result<Took, AheadFault>
-    requires due { IsNotDue held.old.items (front_of ahead.old) }
+    requires due { IsNotDue most_line_bytes held.old.items (front_of ahead.old) }
     ensures taken { IfOk result
         (λ took. (known writer_old writer_new : Option (List ℕ)) (script : Script) (number : ℕ) →
         Follows stage.old script →
@@ -173,7 +174,7 @@ fn write_when_due<W: Write>(
     ensures moved { OnOk result
         (Moved (W.contents (watched_inner writer.old))
         (W.contents (watched_inner writer.new)) held.old.items held.new.items) }
-    ensures due { OnOk result (IsNotDue held.new.items (front_of ahead.now)) }
+    ensures due { OnOk result (IsNotDue most_line_bytes held.new.items (front_of ahead.now)) }
     ensures went_on { OnOk result (WentOn (watched_tally writer.old) (watched_tally writer.new)) }
     ensures part { OnErr result
         (AppendsFront (W.contents (watched_inner writer.old)) (W.contents (watched_inner writer.new)) held.old.items) }

@@ -153,7 +153,7 @@ impl<L: Ledger> Client<'_, '_, L> {
             _ => {
                 self.settle(rt)?;
                 self.held.write_when_due(ahead, writer)?;
-                ahead.peek(reader, MOST_LINE_BYTES)?
+                self.held.peek(ahead, reader)?
             }
         };
         match next {
