@@ -1,6 +1,7 @@
--- What is done to a machine word, and what that does to the names that it holds.
+-- What is done to a word, and what that does to the names that it holds.
 use Rattle.std.proofs.Common.{◌≡◌, ℕ, zero, suc, ◌+◌, ◌-◌, ◌*◌, ◌/◌, ◌%◌, ◌^◌, ◌==◌, ◌<◌, ◌≤◌, Bool, true, false}
-use Rattle.std.proofs.Common.{cond, ◌&&◌, ◌||◌, refl, sym, ◌∙◌, ap, arith, nat_lt, bit_and, bit_or, min, w64}
+use Rattle.std.proofs.Common.{cond, ◌&&◌, ◌||◌, refl, sym, ◌∙◌, ap, arith, nat_lt, bit_and, bit_or, min}
+use mir.Syntax.{w128}
 use Rattle.std.proofs.lemmas.Bool.{ltb-true, and_parts, lt-ltb, le-ltb, eqb-true, eqb-false, eq-eqb, ltb-true}
 use Rattle.std.proofs.lemmas.Nat.{and_mask, ones_cat, pow_pos}
 use Rattle.std.proofs.lemmas.Nat.Bits.{bit_at-lt, bit_at_and, bit_at_set_same, bit_at_set_other, bit_at-zero, ones_shr}
@@ -45,8 +46,8 @@ has_bit-with_bit word name k small = at (k == name) refl
     at : (b : Bool) → (k == name) ≡ b → has_bit (with_bit word name) k ≡ (b || has_bit word k)
     at true same =
         let e : k ≡ name = eqb-true k name same in
-        ap (has_bit (with_bit word name)) e ∙ ap (λ b. b == 1) (bit_at_set_same w64 word name small)
-    at false other = ap (λ b. b == 1) (bit_at_set_other w64 word name small k (eqb-false k name other))
+        ap (has_bit (with_bit word name)) e ∙ ap (λ b. b == 1) (bit_at_set_same w128 word name small)
+    at false other = ap (λ b. b == 1) (bit_at_set_other w128 word name small k (eqb-false k name other))
 
 pub names_in-with_bit : (word name : ℕ) → name < most_nodes → names_in (with_bit word name)
     ≡ sets.insert (names_in word) name

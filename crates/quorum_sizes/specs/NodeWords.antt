@@ -1,4 +1,4 @@
--- How a machine word holds a set of names. Serves the code, and no public contract.
+-- How a word holds a set of names. Serves the code, and no public contract.
 use Rattle.std.specs.Prelude.{◌≡◌, ℕ, zero, suc, ◌+◌, ◌*◌, ◌/◌, ◌%◌, ◌^◌, ◌<◌, ◌==◌}
 use Rattle.std.specs.Prelude.{Bool, true, false, ◌&&◌, ◌||◌, nat_lt, if◌then◌else◌, refl}
 use Rattle.std.specs.Int.{bit_at}

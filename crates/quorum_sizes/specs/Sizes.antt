@@ -9,7 +9,7 @@ pub record Counts : Type 0 where
 
 -- the most nodes of a cluster
 abbrev pub most_nodes : ℕ
-most_nodes = 64
+most_nodes = 128
 
 -- there are not too many nodes, and fewer than a third of them may lie
 abbrev pub AreSizes : Counts → Type 0

@@ -8,8 +8,8 @@ use crate::name::NodeName;
 use crate::sizes::{MOST_NODES, Sizes};
 use std::marker::Model;
 
-/// A machine word with a bit for each of the most nodes of a cluster.
-type Word = u64;
+/// A word with a bit for each of the most nodes of a cluster.
+type Word = u128;
 
 /// A set of names of nodes. Contracts see it as that finite set.
 #[derive(Clone, Copy, Debug)]

@@ -7,8 +7,8 @@ use std::error::Error;
 use std::fmt;
 use std::marker::Model;
 
-/// The most nodes of a cluster, so that sets of them fit a machine word.
-pub const MOST_NODES: u8 = 64;
+/// The most nodes of a cluster, so that a set of them fits a word of 128 bits.
+pub const MOST_NODES: u8 = 128;
 
 /// Why there are no such sizes. Written as its code and its name.
 #[derive(Clone, Copy, Debug, PartialEq, Eq)]

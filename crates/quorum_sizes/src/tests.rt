@@ -8,6 +8,8 @@ fn quorums(rt: HostRuntime) -> Result<(), Fail> {
         [4, 1, 3, 2, 3],
         [5, 1, 4, 2, 3],
         [64, 21, 43, 22, 43],
+        [65, 0, 33, 1, 1],
+        [128, 42, 86, 43, 85],
     ] {
         let sizes = Sizes::new(row[0], row[1])?;
         let [echo, amplify, deliver] = [sizes.echo_quorum(), sizes.amplify(), sizes.deliver()];
@@ -21,8 +23,10 @@ fn quorums(rt: HostRuntime) -> Result<(), Fail> {
 fn refusals(rt: HostRuntime) {
     for (n, f, due) in [
         (3, 1, SizeFault::TooManyLiars),
-        (65, 0, SizeFault::TooMany),
-        (65, 30, SizeFault::TooMany),
+        (65, 30, SizeFault::TooManyLiars),
+        (128, 43, SizeFault::TooManyLiars),
+        (129, 0, SizeFault::TooMany),
+        (129, 60, SizeFault::TooMany),
         (0, 0, SizeFault::NoNodes),
         (0, 5, SizeFault::NoNodes),
     ] {
@@ -38,8 +42,8 @@ fn refusals(rt: HostRuntime) {
 fn sets_of_nodes(rt: HostRuntime) -> Result<(), Fail> {
     let sizes = Sizes::new(4, 1)?;
     let first = sizes.name(0).ok_or("no name")?;
-    let last = Sizes::new(64, 21)?.name(63).ok_or("no name")?;
-    assert!(rt; last.index() == 63 && sizes.has(first) && !sizes.has(last));
+    let last = Sizes::new(128, 42)?.name(127).ok_or("no name")?;
+    assert!(rt; last.index() == 127 && sizes.has(first) && !sizes.has(last));
     let mut one = NodeSet::new();
     assert!(rt; one.is_empty() && one.insert(first) && !one.insert(first));
     let mut both = one;

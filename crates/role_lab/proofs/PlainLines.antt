@@ -3,7 +3,7 @@ use Rattle.std.proofs.Common.{◌≡◌, ℕ, true, refl, ◌<◌, ◌≤◌, �
 use Rattle.std.proofs.lemmas.Str.{IsUtf8-from_ascii}
 use Rattle.std.specs.List.{list_all}
 use Rattle.std.specs.Str.{IsUtf8}
-use Rattle.quorum_sizes.specs.Sizes.{Counts, AreSizes}
+use Rattle.quorum_sizes.specs.Sizes.{Counts, AreSizes, most_nodes}
 use Rattle.role_commands.specs.Words.{IsCommand}
 use Rattle.role_commands.specs.declared.command.Command.{Command}
 use Rattle.role_commands.proofs.Exported.{Ascii, word_text, number, ◌then◌, space, command_text}
@@ -97,13 +97,13 @@ kind_text Send = word_text (codes "send") refl
 kind_text Echo = word_text (codes "echo") refl
 kind_text Ready = word_text (codes "ready") refl
 
-packet_text : (s : Counts) (p : PacketValue) → s.nodes ≤ 64 → IsLie s p → Ascii (packet_spelling p)
+packet_text : (s : Counts) (p : PacketValue) → s.nodes ≤ most_nodes → IsLie s p → Ascii (packet_spelling p)
 packet_text s p few is =
     kind_text p.kind then space
     then three_text p.from p.to p.owner (omega (arith, is.from)) (omega (arith, is.to)) (omega (arith, is.owner))
     then space then number p.place (omega (arith, is.packet.1)) then space then command_text p.command is.packet.2
 
-step_text : (s : Counts) (step : Step) → s.nodes ≤ 64 → IsStep s step → Ascii (step_spelling step)
+step_text : (s : Counts) (step : Step) → s.nodes ≤ most_nodes → IsStep s step → Ascii (step_spelling step)
 step_text s (Issue node c) few is = at_node_text node (omega (arith, is.0)) (codes "issue") _ refl (command_text c is.1)
 step_text s (Give k) few is = word_text (codes "give ") refl then number k (omega arith)
 step_text s (Lie p) few is = word_text (codes "lie ") refl then packet_text s p few is
@@ -112,7 +112,7 @@ step_text s (Bytes to bytes) few is =
     (bytes_text (bytes_spelling bytes) bytes (spelling_spells bytes is.1))
 step_text s (Client node act) few is = act_text node (omega (arith, is.0)) act is.1
 
-order_text : (s : Counts) (order : Order) → s.nodes ≤ 64 → IsOrder s order → Ascii (order_spelling order)
+order_text : (s : Counts) (order : Order) → s.nodes ≤ most_nodes → IsOrder s order → Ascii (order_spelling order)
 order_text s (Do step) few is = step_text s step few is
 order_text s Flush few is = word_text (codes "flush") refl
 order_text s Settle few is = word_text (codes "settle") refl
@@ -124,14 +124,14 @@ order_text s (Agree one other owner) few is =
     at_node_text one (omega (arith, is.0)) (codes "agree") _ refl
     (two_text other owner (omega (arith, is.1)) (omega (arith, is.2)))
 
-order_line_text : (s : Counts) (line : List ℕ) (order : Order) → s.nodes ≤ 64 → IsOrder s order → SpellsOrder order line
-    → Ascii line
+order_line_text : (s : Counts) (line : List ℕ) (order : Order) → s.nodes ≤ most_nodes → IsOrder s order
+    → SpellsOrder order line → Ascii line
 order_line_text s line (Do (Bytes to bytes)) few is spells =
     subst Ascii (sym spells.1)
     (at_node_text to (omega (arith, is.0)) (codes "bytes") spells.0 refl (bytes_text spells.0 bytes spells.2))
 order_line_text s line order few is spells = subst Ascii (sym spells) (order_text s order few is)
 
-setup_text : (s : Counts) (setup : Setup) → s.nodes ≤ 64 → IsSetup s setup → Ascii (setup_spelling setup)
+setup_text : (s : Counts) (setup : Setup) → s.nodes ≤ most_nodes → IsSetup s setup → Ascii (setup_spelling setup)
 setup_text s (Owned role owner) few is =
     word_text (codes "role ") refl then number role (omega (arith, is.0)) then space
     then number owner (omega (arith, is.1))

@@ -94,7 +94,7 @@ ok_of (Err f) x e = cc
 sizes_due_is : (n f : ℕ) (s : Counts) → sizes_due n f ≡ Ok s → (n ≡ s.nodes) × (f ≡ s.liars) × AreSizes s
 sizes_due_is n f s e = due (n == 0) (nat_lt most_nodes n) (nat_le n (3 * f)) refl refl refl e
   where
-    made : record { nodes = n; liars = f } ≡ s → n ≤ 64 → 3 * f < n → (n ≡ s.nodes) × (f ≡ s.liars) × AreSizes s
+    made : record { nodes = n; liars = f } ≡ s → n ≤ most_nodes → 3 * f < n → (n ≡ s.nodes) × (f ≡ s.liars) × AreSizes s
     made is few correct = let nodes = ap (λ (c : Counts). c.nodes) is in let liars =
         ap (λ (c : Counts). c.liars) is in (nodes, liars, (omega arith, omega arith))
 
