@@ -32,19 +32,28 @@ pub struct Message {
 pub struct Packet {
     from: NodeName,
     to: NodeName,
-    message: Message,
+    kind: Kind,
+    owner: NodeName,
+    place: Place,
+    command: Command,
 }
 
 impl Model for Packet {
-    ghost use Rattle.link_frames.specs.Packets.{PacketValue, IsPacket, packet_of, message_of};
+    ghost use Rattle.link_frames.specs.Packets.{PacketValue, IsPacket};
 
     ghost Value = { PacketValue };
 
-    ghost view = { λ a. packet_of a.from a.to a.message };
+    ghost view = { λ a. record {
+      from = a.from; to = a.to; kind = a.kind; owner = a.owner; place = a.place; command = a.command;
+    } };
 
-    ghost invariant = { λ a. IsPacket (packet_of a.from a.to a.message) };
+    ghost invariant = { λ a. IsPacket (record {
+      from = a.from; to = a.to; kind = a.kind; owner = a.owner; place = a.place; command = a.command;
+    }) };
 
-    ghost inverse = { λ p. record { from = p.from; to = p.to; message = message_of p } };
+    ghost inverse = { λ p. record {
+      from = p.from; to = p.to; kind = p.kind; owner = p.owner; place = p.place; command = p.command;
+    } };
 }
 
 impl Packet {
@@ -58,7 +67,20 @@ impl Packet {
         if matches!(message.kind, Kind::Send) && from.index() != message.owner.index() {
             return None;
         }
-        Some(Packet { from, to, message })
+        let Message {
+            kind,
+            owner,
+            place,
+            command,
+        } = message;
+        Some(Packet {
+            from,
+            to,
+            kind,
+            owner,
+            place,
+            command,
+        })
     }
 
     /// The node that sends the packet.
@@ -79,28 +101,28 @@ impl Packet {
     pub fn kind(&self) -> Kind
         ensures { result ≡ self.now.kind }
     {
-        self.message.kind
+        self.kind
     }
 
     /// The owner of its message.
     pub fn owner(&self) -> NodeName
         ensures { result ≡ self.now.owner }
     {
-        self.message.owner
+        self.owner
     }
 
     /// The place of its message.
     pub fn place(&self) -> Place
         ensures { result ≡ self.now.place }
     {
-        self.message.place
+        self.place
     }
 
     /// The command of its message.
     pub fn command(&self) -> Command
         ensures { result ≡ self.now.command }
     {
-        self.message.command
+        self.command
     }
 
     /// Its message. What the packet keeps is known of it: a SEND comes from its owner, and the numbers
@@ -110,6 +132,11 @@ impl Packet {
         ensures value { result ≡ message_of self.now }
         ensures kept { IsPacket self.now }
     {
-        self.message
+        Message {
+            kind: self.kind,
+            owner: self.owner,
+            place: self.place,
+            command: self.command,
+        }
     }
 }
