@@ -15,7 +15,7 @@ use Rattle.quorum_sizes.specs.NodeSets.{nodes_among}
 use Rattle.quorum_sizes.proofs.Exported.{contains-nodes_among, count, len-count}
 use Rattle.role_commands.specs.declared.command.Command.{Command}
 use Rattle.link_frames.specs.Kinds.{same_kind}
-use Rattle.link_frames.specs.Packets.{PacketValue, SentByOwner, message_of}
+use Rattle.link_frames.specs.Packets.{PacketValue, SentByOwner, IsSound, place_count, message_of}
 use Rattle.link_frames.specs.declared.kind.Kind.TheVariants.{Send}
 use Rattle.bracha_instance.specs.Broadcast.{is_for, vote, echoed}
 use Rattle.bracha_instance.specs.Prefixes.{at_first_prefix}
@@ -80,7 +80,7 @@ unfolding history_of
 first_run =
     cluster_run_push four_nodes three_lies [] 0 (Issue user_seven)
     (empty_run four_nodes three_lies (omega arith, omega arith) one_lies)
-    (record { correct = honest-is 0; sends = λ p e. absurd cc; links = λ p e _. absurd cc })
+    (record { correct = honest-is 0; sound = λ p e. absurd cc; links = λ p e _. absurd cc })
     issue_counts
 
 -- A packet that counts: it is routed, within the window of any stream, and its sender's first of its kind.
@@ -134,8 +134,8 @@ sent_now run p = λ i.
 abbrev follows : Run → PacketValue → Bool
 follows run p =
     (honest p.to && counts_now four_nodes p.to (history_of p.to run) p)
-    && ((not (same_kind p.kind Send) || (p.from == p.owner)) &&
-    (not (honest p.from) || is_for p.command (said_now run p)))
+    && (((not (same_kind p.kind Send) || (p.from == p.owner)) && nat_lt p.place place_count)
+    && (not (honest p.from) || is_for p.command (said_now run p)))
 
 own_send : (p : PacketValue) → (not (same_kind p.kind Send) || (p.from == p.owner)) ≡ true → SentByOwner p
 own_send p test is =
@@ -144,6 +144,11 @@ own_send p test is =
     (both_ways _ (not-true _ other) (ap (λ k. same_kind k Send) is)))
     (λ (own : (p.from == p.owner) ≡ true). eqb-true p.from p.owner own)
     (or_cases _ _ test)
+
+sound_packet : (p : PacketValue) →
+    ((not (same_kind p.kind Send) || (p.from == p.owner)) && nat_lt p.place place_count) ≡ true → IsSound p
+sound_packet p test =
+    let parts = and_parts _ _ test in (own_send p parts.0, ltb-true p.place place_count parts.1)
 
 was_sent : (run : Run) (p : PacketValue) → (not (honest p.from) || is_for p.command (said_now run p)) ≡ true →
     is_correct four three_lies p.from ≡ true → has_sent four run p.from (message_of p) ≡ true
@@ -165,7 +170,7 @@ one_more run p is test =
     cluster_run_push four_nodes three_lies run p.to (Take p) is
     (record {
       correct = honest-is p.to ∙ there.0;
-      sends = λ q e. subst SentByOwner (same_packet p q e) (own_send p true_links.0);
+      sound = λ q e. subst IsSound (same_packet p q e) (sound_packet p true_links.0);
       links = λ q e.
           subst (λ x. is_correct four three_lies x.from ≡ true → has_sent four run x.from (message_of x) ≡ true)
           (same_packet p q e)

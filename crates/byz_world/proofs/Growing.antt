@@ -64,10 +64,10 @@ cluster_run_push config liars run at e is may recorded =
           subst P (ap (λ x. x.0) h.1) may.correct)
           (at_push run (at, e) t (node, event) there);
       legal = λ node. legal_by config run at e node _ refl (is.legal node) recorded;
-      sends = λ t node p there.
+      sound = λ t node p there.
           ⊎_elim
-          (λ (h : (t < length run) × (slice_get run t ≡ Some (node, Take p))). is.sends t node p h.1)
-          (λ (h : (t ≡ length run) × ((at, e) ≡ (node, Take p))). may.sends p (ap (λ x. x.1) h.1))
+          (λ (h : (t < length run) × (slice_get run t ≡ Some (node, Take p))). is.sound t node p h.1)
+          (λ (h : (t ≡ length run) × ((at, e) ≡ (node, Take p))). may.sound p (ap (λ x. x.1) h.1))
           (at_push run (at, e) t (node, Take p) there);
       links = λ t node p there honest.
           let P : Run → Type 0 = λ past. IsTrue (has_sent config.roles.sizes past p.from (message_of p)) in
@@ -91,6 +91,6 @@ empty_run config liars sizes few =
       few = few;
       correct = λ t node event there. absurd cc;
       legal = λ node. subst (IsLegal config node) (sym (history_of-none node)) (λ k event there. absurd cc);
-      sends = λ t node p there. absurd cc;
+      sound = λ t node p there. absurd cc;
       links = λ t node p there honest. absurd cc;
     }

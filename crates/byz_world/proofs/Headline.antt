@@ -14,8 +14,7 @@ use Rattle.role_sessions.specs.declared.verdict.Verdict.TheVariants.{Allow, Deny
 use Rattle.byz_world.specs.Headline.{IsFirstRule, IsRightDecision, Headline}
 use Rattle.byz_world.specs.Laws.{stream_of}
 use Rattle.byz_world.specs.Runs.{history_of, IsClusterRun}
-use Rattle.byz_world.specs.Steps.{after_step, after_steps}
-use Rattle.byz_world.specs.Steps.{IsSound}
+use Rattle.byz_world.specs.Steps.{after_step, after_steps, IsSoundStep}
 use Rattle.byz_world.specs.Worlds.{WorldValue, new_world, too_many_lie}
 use Rattle.byz_world.specs.declared.step.Step.{Step}
 use Rattle.quorum_sizes.specs.Sizes.{AreSizes}
@@ -156,13 +155,13 @@ unfolding after_step after_steps
 liars_stay w [] = refl
 liars_stay w (step ∷ steps) = liars_stay (after_step w step) steps
 
-each_sound : (steps : List Step) → All IsSound steps → (k : ℕ) (step : Step) → slice_get steps k ≡ Some step
-    → IsSound step
+each_sound : (steps : List Step) → All IsSoundStep steps → (k : ℕ) (step : Step) → slice_get steps k ≡ Some step
+    → IsSoundStep step
 each_sound steps all k step e =
-    subst IsSound (get_or_from_slice_get steps k step step e) (all k step (slice_get_within steps k step e))
+    subst IsSoundStep (get_or_from_slice_get steps k step step e) (all k step (slice_get_within steps k step e))
 
 run_of_steps : (config : ConfigValue) (liars : Nodes) (steps : List Step) → AreSizes config.roles.sizes →
-    too_many_lie config.roles.sizes liars ≡ false → All IsSound steps →
+    too_many_lie config.roles.sizes liars ≡ false → All IsSoundStep steps →
     IsClusterRun config liars (after_steps (new_world config liars) steps).run
 run_of_steps config liars steps sizes few sound =
     let w : WorldValue = new_world config liars in

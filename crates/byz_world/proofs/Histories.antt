@@ -1,6 +1,7 @@
 -- The history of a node in a run: how it goes on, and where what the node took comes from.
-use Rattle.std.proofs.Common.{◌≡◌, ℕ, ◌<◌, Bool, true, false, ◌==◌, ◌&&◌, if◌then◌else◌, List, take, slice_get}
-use Rattle.std.proofs.Common.{Some, Result, Err, refl, ap, ◌∙◌, eqb-true, ltb-true, take_all, le_refl, length}
+use Rattle.std.proofs.Common.{◌≡◌, ℕ, ◌<◌, Bool, true, false, ◌==◌, ◌&&◌, if◌then◌else◌, List, [], ◌∷◌, take, slice_get}
+use Rattle.std.proofs.Common.{Some, Result, Err, refl, sym, ap, ◌∙◌, subst, eqb-true, ltb-true, take_all, le_refl}
+use Rattle.std.proofs.Common.{length}
 use Rattle.std.specs.List.{filter_map}
 use Rattle.std.proofs.lemmas.Bool.{and_parts}
 use Rattle.std.proofs.lemmas.Option.{cond_some}
@@ -101,6 +102,19 @@ taken_in m run node owner place t found =
       place_is = eqb-true p.place place both.1;
       message_is = at_place.1;
     }
+
+one_of : (takes : List Take) → (takes ≡ [] → ⊥) → (t : Take) × IsIn takes t
+one_of [] some = absurd (some refl)
+one_of (t ∷ takes) some = (t, (0, refl))
+
+-- where the node took anything, a packet has it
+pub some_taken : (run : Run) (node owner place : ℕ) → (taken_by run node owner place ≡ [] → ⊥) →
+    (t : Take) × IsTakenIn run (length run) node owner place t
+some_taken run node owner place some =
+    let one = one_of (taken_by run node owner place) some in
+    let in_whole : IsIn (taken_by (take (length run) run) node owner place) one.0 =
+    subst (λ ts. IsIn ts one.0) (sym (taken_whole run node owner place)) one.1 in
+    (one.0, taken_in (length run) run node owner place one.0 in_whole)
 
 -- A packet that was recorded is between nodes.
 

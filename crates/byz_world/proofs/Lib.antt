@@ -11,6 +11,7 @@ pub mod Recording
 pub mod Lists
 pub mod Histories
 pub mod Votes
+pub mod Sound
 pub mod Safety
 pub mod Policy
 pub mod Counts

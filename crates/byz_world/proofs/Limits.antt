@@ -38,6 +38,6 @@ limits_may_differ config liars run limits most h is = record {
   few = is.few;
   correct = is.correct;
   legal = λ node. legal_still config (limits node) most node (history_of node run) (h node) (is.legal node);
-  sends = is.sends;
+  sound = is.sound;
   links = is.links;
 }

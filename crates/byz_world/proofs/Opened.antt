@@ -3,9 +3,10 @@ use Rattle.std.proofs.Common.{◌≡◌, ℕ, Bool, true, false, List, Option, S
 use Rattle.std.specs.Prelude.{if◌then◌else◌}
 use Rattle.link_frames.specs.KeyRings.{KeyRing}
 use Rattle.link_frames.specs.Opening.{open_due}
-use Rattle.link_frames.specs.Packets.{PacketValue, SentByOwner}
+use Rattle.role_commands.specs.Bytes.{IsBytes}
+use Rattle.link_frames.specs.Packets.{PacketValue, IsSound}
 use Rattle.link_frames.specs.declared.opening.LinkFault.{LinkFault}
-use Rattle.link_frames.proofs.Exported.{opened_by_owner}
+use Rattle.link_frames.proofs.Exported.{open_takes}
 use Rattle.byz_world.specs.LabKeys.{lab_ring}
 use Rattle.byz_world.specs.Steps.{opened_at}
 use Rattle.byz_world.specs.Worlds.{WorldValue, is_correct_in}
@@ -18,9 +19,10 @@ is_opened : (b : Bool) (r : Opened) (p : PacketValue) →
 is_opened true r p e = cc
 is_opened false r p e = absurd cc
 
-pub opened_is_own : (w : WorldValue) (to : ℕ) (bytes : List ℕ) (p : PacketValue) → opened_at w to bytes ≡ Some (Ok p) →
-    SentByOwner p
-opened_is_own w to bytes p e =
+pub opened_is_sound : (w : WorldValue) (to : ℕ) (bytes : List ℕ) (p : PacketValue) → IsBytes bytes →
+    opened_at w to bytes ≡ Some (Ok p) → IsSound p
+opened_is_sound w to bytes p fits e =
     let ring : KeyRing = lab_ring w.config.roles.sizes to in
-    opened_by_owner ring w.config.cluster bytes p
-    (is_opened (is_correct_in w to) (open_due ring w.config.cluster bytes) p e)
+    let is = open_takes ring w.config.cluster bytes p fits
+    (is_opened (is_correct_in w to) (open_due ring w.config.cluster bytes) p e) in
+    (is.packet.0, is.packet.1)

@@ -1,18 +1,17 @@
 -- Passes over the pool: each prolongs the run by packets that count, and where one adds nothing none counts.
-use Rattle.std.proofs.Common.{◌≡◌, ℕ, zero, suc, ◌+◌, ◌-◌, ◌*◌, ◌<◌, ◌≤◌, ◌⊎◌, inl, inr, ⊎_elim, Bool, true, false}
+use Rattle.std.proofs.Common.{◌≡◌, ℕ, zero, suc, ◌+◌, ◌-◌, ◌<◌, ◌≤◌, ◌⊎◌, inl, inr, ⊎_elim, Bool, true, false}
 use Rattle.std.proofs.Common.{◌&&◌, ◌==◌, List, [], ◌∷◌, ◌++◌, length, take, Option, Some, None, Result, Ok, Err}
 use Rattle.std.proofs.Common.{refl, sym, ap, ◌∙◌, subst, append-nil, append_assoc, length-append, arith}
-use Rattle.std.specs.Prelude.{if◌then◌else◌, not, nat_le, nat_lt, map, slice_get, option_map, Contains, IsTrue}
+use Rattle.std.specs.Prelude.{if◌then◌else◌, not, nat_le, nat_lt, map, slice_get, option_map}
 use Rattle.std.specs.List.{range_with_len}
-use Rattle.std.proofs.Math.Seq.{take-append_seam}
 use Rattle.std.proofs.lemmas.Bool.Decides.{nat_tests}
 use Rattle.std.proofs.lemmas.Map.Views.{exact_unsigned_eq}
 use Rattle.std.proofs.lemmas.Option.{slice_get_within}
-use Rattle.std.proofs.lemmas.List.{nil_from_length, take-append-le}
+use Rattle.std.proofs.lemmas.List.{nil_from_length}
 use Rattle.std.proofs.lemmas.List.FromFn.{map-range_with_len_more}
 use Rattle.quorum_sizes.specs.NodeSets.{Nodes}
 use Rattle.link_frames.specs.Packets.{PacketValue}
-use Rattle.role_node.proofs.Exported.{at_push}
+use Rattle.role_node.proofs.Exported.{recorded_next}
 use Rattle.role_node.specs.Answers.{outlook_with_room, unless_full, answered, reply_to}
 use Rattle.role_node.specs.Answers.{answer_due, is_recorded, IsLegal}
 use Rattle.bracha_instance.specs.declared.instance.Effect.{Effect}
@@ -25,18 +24,17 @@ use Rattle.role_node.specs.declared.event.Event.TheVariants as event
 use Rattle.byz_world.specs.Inside.{Members, next_event, run_after, run_in, member_in, history_in, IsWorldIn}
 use Rattle.byz_world.specs.Pools.{Sent, listed, pool}
 use Rattle.byz_world.specs.Progress.{counts_now, IsGivable, IsProlongation, IsStuck}
-use Rattle.byz_world.specs.Runs.{Run, history_of, is_correct, IsClusterRun}
+use Rattle.byz_world.specs.Runs.{Run, history_of, IsClusterRun}
 use Rattle.byz_world.specs.Settled.{IsProlonged, IsSettled, after_pass, pass_adds, after_passes, longest_run, settled}
-use Rattle.byz_world.specs.Steps.{Arrival, arrival, arrives, given, is_pool_full, recorded_pair, with_run}
+use Rattle.byz_world.specs.Steps.{arrival, arrives, given, is_pool_full, recorded_pair, with_run}
 use Rattle.byz_world.specs.Steps.{after_step, after_steps}
 use Rattle.byz_world.specs.Worlds.{WorldValue, is_correct_in, IsClusterRunOf}
 use Rattle.byz_world.specs.declared.faults.WorldFault.TheVariants as fault
-use Rattle.byz_world.specs.declared.step.Step.{Step}
 use Rattle.byz_world.specs.declared.step.Step.TheVariants.{Give}
-use Rattle.byz_world.proofs.Elements.{contained, number_of, at_seam}
+use Rattle.byz_world.proofs.Elements.{contained, number_of}
 use Rattle.byz_world.proofs.Ordered.{times, times-append, times-own}
 use Rattle.byz_world.proofs.Pooled.{name_at}
-use Rattle.byz_world.proofs.Progress.{nothing_is_stuck, recorded_next, some_within}
+use Rattle.byz_world.proofs.Progress.{nothing_is_stuck, some_within}
 use Rattle.byz_world.proofs.Prolonging.{total, total_most, total_more, prolonged_is_run}
 use Rattle.byz_world.proofs.Prolonging.{first_given, rest_given}
 use Rattle.byz_world.proofs.Pushing.{history_of-own, history_of-other}

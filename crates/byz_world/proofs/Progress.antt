@@ -1,10 +1,9 @@
 -- Where no packet counts any more a cluster is at rest: about one place after another, so each reaches as far as the
 -- others, so nothing is beyond a window.
 use Rattle.std.proofs.Common.{◌≡◌, ℕ, zero, suc, ◌+◌, ◌<◌, ◌≤◌, ◌⊎◌, inl, inr, ⊎_elim, Bool, true, false, ◌==◌}
-use Rattle.std.proofs.Common.{List, [], ◌∷◌, ◌++◌, length, take, Some, None, Result, Ok, Err, refl, sym, ap}
-use Rattle.std.proofs.Common.{◌∙◌, subst, append-nil, append_assoc, length-append, arith, le_refl}
-use Rattle.std.specs.Prelude.{if◌then◌else◌, IsTrue, nat_le, slice_get, Contains}
-use Rattle.std.proofs.Math.Seq.{take-append_seam}
+use Rattle.std.proofs.Common.{List, [], ◌∷◌, ◌++◌, length, Some, None, Result, Ok, Err, refl, sym, ap}
+use Rattle.std.proofs.Common.{◌∙◌, subst, length-append, arith, le_refl}
+use Rattle.std.specs.Prelude.{if◌then◌else◌, nat_le, slice_get, Contains}
 use Rattle.std.proofs.lemmas.Bool.{and_from, cases_lt, lt-ltb}
 use Rattle.std.proofs.lemmas.Bool.Decides.{nat_tests}
 use Rattle.std.proofs.lemmas.Option.{slice_get_within}
@@ -19,8 +18,8 @@ use Rattle.bracha_instance.specs.Taking.{effect_of}
 use Rattle.bracha_instance.specs.declared.instance.Effect.{Effect}
 use Rattle.bracha_instance.specs.declared.instance.Effect.TheVariants as effect
 use Rattle.owner_streams.proofs.Exported.{stream_is_exact_lem, stream_grows_lem, echoed-none, readied-none}
-use Rattle.owner_streams.specs.Places.{place_count, window, take_of, takes_at, stream, reach}
-use Rattle.role_node.proofs.Exported.{issued-none, issued-Issue, issued-Take, issued-Client}
+use Rattle.owner_streams.specs.Places.{window, take_of, takes_at, stream, reach}
+use Rattle.role_node.proofs.Exported.{along_legal, issued-none, issued-Issue, issued-Take, issued-Client}
 use Rattle.role_node.proofs.Exported.{packets-Issue, packets-Take, packets-Client}
 use Rattle.role_node.specs.Access.{reach_at}
 use Rattle.role_node.specs.Answers.{outlook, answered, unless_full, or_counted, issue_fault}
@@ -37,15 +36,14 @@ use Rattle.byz_world.specs.Pools.{pool, WasSent}
 use Rattle.byz_world.specs.Progress.{IsStuck, HasRoom, NothingIsStuck}
 use Rattle.byz_world.specs.Resting.{IsAtRest}
 use Rattle.byz_world.specs.Runs.{Run, history_of, is_correct, IsClusterRun}
-use Rattle.byz_world.proofs.Elements.{at_seam}
-use Rattle.byz_world.proofs.Histories.{taken_by, taken_whole, IsTakenIn, taken_in}
+use Rattle.byz_world.proofs.Histories.{taken_by, some_taken}
 use Rattle.byz_world.proofs.Idle.{IsOpen, open_outlook, counted_early, taken_is_open, taken_is_idle, idle_is_taken}
-use Rattle.byz_world.proofs.Lists.{IsIn}
 use Rattle.byz_world.proofs.Pooled.{has_sent_is, pooled_is_sent}
 use Rattle.byz_world.proofs.Recording.{counted_recorded}
 use Rattle.byz_world.proofs.Rest.{IsAtRestAt, delivered_there}
 use Rattle.byz_world.proofs.Safety.{streamed}
-use Rattle.byz_world.proofs.Telling.{foreign_is_unsent, correct_is_node, pooled_is_own}
+use Rattle.byz_world.proofs.Sound.{pooled_is_sound}
+use Rattle.byz_world.proofs.Telling.{foreign_is_unsent, correct_is_node}
 use Rattle.byz_world.proofs.Votes.{said_by, if_own}
 
 -- What is before the end of its window, and does not count, is idle.
@@ -80,18 +78,6 @@ open_is_idle config me history p open' room uncounted =
 
 -- How far ahead of its own stream a node issues.
 
--- an event is recorded after what was before it
-pub recorded_next : (config : ConfigValue) (me : ℕ) (past rest : List Event) (e : Event) →
-    IsLegal config me (past ++ e ∷ rest) → is_recorded (answer_due config me past e) ≡ true
-recorded_next config me past rest e legal =
-    let P : List Event → Type 0 = λ es. IsTrue (is_recorded (answer_due config me es e)) in
-    subst P (take-append_seam past (e ∷ rest)) (legal (length past) e (at_seam past rest e))
-
--- its stream has a place for the command, and the window one more
-pub record HasPlace (roles_nodes : Counts) (me : ℕ) (past : List Event) : Type 0 where
-  pub of_stream : length (issued past) < place_count
-  pub of_window : length (issued past) < reach_at roles_nodes past me + window
-
 below : (a b : ℕ) → nat_le a b ≡ false → b < a
 below a b e = grind (arith, nat_tests)
 
@@ -99,20 +85,21 @@ unrefused : (mine stream_full busy : Bool) →
     ◌≡◌ {A = Result Effect NodeFault}
     (or_counted (if mine then Some fault.NotMine else (if stream_full then Some fault.StreamFull
     else (if busy then Some fault.Busy else None))))
-    (Ok effect.Counted) → (stream_full ≡ false) × (busy ≡ false)
+    (Ok effect.Counted) → busy ≡ false
 unrefused true stream_full busy e = absurd cc
 unrefused false true busy e = absurd cc
 unrefused false false true e = absurd cc
-unrefused false false false e = (refl, refl)
+unrefused false false false e = refl
 
-pub issue_has_place : (config : ConfigValue) (me : ℕ) (past : List Event) (c : Command) →
-    is_recorded (answer_due config me past (event.Issue c)) ≡ true → HasPlace config.roles.sizes me past
+-- where a command is issued, the window has a place for it
+issue_has_place : (config : ConfigValue) (me : ℕ) (past : List Event) (c : Command) →
+    is_recorded (answer_due config me past (event.Issue c)) ≡ true →
+    length (issued past) < reach_at config.roles.sizes past me + window
 issue_has_place config me past c recorded =
     let early : or_counted (issue_fault config.roles me past c) ≡ Ok effect.Counted =
     counted_early (nat_le config.limit (length past)) (or_counted (issue_fault config.roles me past c))
     (reply_to config.roles me past (event.Issue c)) recorded in
-    let both = unrefused _ _ _ early in
-    record { of_stream = below _ _ both.0; of_window = below _ _ both.1 }
+    below _ _ (unrefused _ _ _ early)
 
 pub reach_grows : (s : Counts) (owner : ℕ) (before later : List PacketValue) →
     reach s owner before ≤ reach s owner (before ++ later)
@@ -130,7 +117,7 @@ within_next : (config : ConfigValue) (me : ℕ) (past : List Event) (e : Event) 
     IssuesWithin config.roles.sizes me (past ++ e ∷ [])
 within_next config me past (event.Issue c) recorded was =
     let s : Counts = config.roles.sizes in
-    let place = (issue_has_place config me past c recorded).of_window in
+    let place = issue_has_place config me past c recorded in
     let more : length (issued (past ++ event.Issue c ∷ [])) ≡ length (issued past) + 1 =
     ap length (issued-Issue past c) ∙ length-append (issued past) (c ∷ []) in
     let same : reach_at s (past ++ event.Issue c ∷ []) me ≡ reach_at s past me =
@@ -150,26 +137,14 @@ within_next config me past (event.Client act) recorded was =
     ap (reach s me) (packets-Client past act) in
     omega (arith, was, same, after)
 
-within_after : (config : ConfigValue) (me : ℕ) (past rest : List Event) → IsLegal config me (past ++ rest) →
-    IssuesWithin config.roles.sizes me past → IssuesWithin config.roles.sizes me (past ++ rest)
-within_after config me past [] legal was = subst (IssuesWithin config.roles.sizes me) (sym (append-nil past)) was
-within_after config me past (e ∷ rest) legal was =
-    let split : past ++ e ∷ rest ≡ (past ++ e ∷ []) ++ rest = sym (append_assoc past (e ∷ []) rest) in
-    let next = within_next config me past e (recorded_next config me past rest e legal) was in
-    subst (IssuesWithin config.roles.sizes me) (sym split)
-    (within_after config me (past ++ e ∷ []) rest (subst (IsLegal config me) split legal) next)
-
 -- a node has issued no more than the window beyond the reach of its own stream
 pub issues_within : (config : ConfigValue) (me : ℕ) (history : List Event) → IsLegal config me history →
     length (issued history) ≤ reach_at config.roles.sizes history me + window
 issues_within config me history legal =
-    within_after config me [] history legal (omega (arith, ap length issued-none))
+    along_legal config me (IssuesWithin config.roles.sizes me) (within_next config me) [] history legal
+    (omega (arith, ap length issued-none))
 
 -- What a node has sent about a place is before the end of its own window.
-
-one_of : (takes : List Take) → (takes ≡ [] → ⊥) → (t : Take) × IsIn takes t
-one_of [] some = absurd (some refl)
-one_of (t ∷ takes) some = (t, (0, refl))
 
 pub some_within : {A : Type 0} (xs : List A) (k : ℕ) → k < length xs → (x : A) × (slice_get xs k ≡ Some x)
 some_within [] k h = absurd (omega (arith, h))
@@ -187,11 +162,7 @@ module _ (config : ConfigValue) (liars : Nodes) (run : Run) (cluster : IsCluster
   pub taken_within : (node owner place : ℕ) → (taken_by run node owner place ≡ [] → ⊥) →
       place < reach_of config run node owner + window
   taken_within node owner place some =
-      let one = one_of (taken_by run node owner place) some in
-      let in_whole : IsIn (taken_by (take (length run) run) node owner place) one.0 =
-      subst (λ ts. IsIn ts one.0) (sym (taken_whole run node owner place)) one.1 in
-      let from : IsTakenIn run (length run) node owner place one.0 =
-      taken_in (length run) run node owner place one.0 in_whole in
+      let from = (some_taken run node owner place some).1 in
       let open' = taken_is_open config node (history_of node run) from.packet from.number (cluster.legal node)
       from.in_history in
       let P : ℕ → ℕ → Type 0 = λ o k. k < reach_of config run node o + window in
@@ -218,7 +189,7 @@ module _ (config : ConfigValue) (liars : Nodes) (run : Run) (cluster : IsCluster
       p.place < reach_of config run p.from p.owner + window
   pooled_within p pooled =
       let was = pooled_is_sent config liars run p cluster pooled in
-      sent_within p.from p.kind p.owner p.place p.command (pooled_is_own config liars run p cluster pooled)
+      sent_within p.from p.kind p.owner p.place p.command (pooled_is_sound config liars run cluster p pooled).0
       (has_sent_is s run p.from (message_of p) was.sent)
 
   pub owned : (p : PacketValue) → WasSent config liars run p → p.owner < s.nodes

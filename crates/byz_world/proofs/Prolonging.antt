@@ -8,7 +8,7 @@ use Rattle.std.proofs.lemmas.Bool.{cases_lt}
 use Rattle.std.proofs.lemmas.List.Elements.{Contains-append_cases}
 use Rattle.quorum_sizes.specs.Sizes.{Counts}
 use Rattle.quorum_sizes.specs.NodeSets.{Nodes}
-use Rattle.link_frames.specs.Packets.{PacketValue, SentByOwner, packet_of, message_of}
+use Rattle.link_frames.specs.Packets.{PacketValue, IsSound, packet_of, message_of}
 use Rattle.link_frames.specs.declared.kind.Kind.{Kind}
 use Rattle.link_frames.specs.declared.packet.Message.{Message}
 use Rattle.role_commands.specs.declared.command.Command.{Command}
@@ -36,7 +36,8 @@ use Rattle.byz_world.proofs.Histories.{taken_by, taken_front}
 use Rattle.byz_world.proofs.Pooled.{number_in, to_each, pooled_is_sent}
 use Rattle.byz_world.proofs.Progress.{taken_within, owned}
 use Rattle.byz_world.proofs.Pushing.{history_of-push, messages-push}
-use Rattle.byz_world.proofs.Telling.{pooled_is_own, nodes_are}
+use Rattle.byz_world.proofs.Sound.{pooled_is_sound}
+use Rattle.byz_world.proofs.Telling.{nodes_are}
 use Rattle.byz_world.proofs.Work.{few_at_place}
 
 -- Sums.
@@ -201,7 +202,7 @@ given_is_run config liars run p cluster givable =
     cluster_run_push config liars run p.to (event.Take p) cluster
     (record {
       correct = givable.to;
-      sends = λ q same. subst SentByOwner (same_take p q same) (pooled_is_own config liars run p cluster givable.sent);
+      sound = λ q same. subst IsSound (same_take p q same) (pooled_is_sound config liars run cluster p givable.sent);
       links = λ q same _. subst (λ (x : PacketValue). has_sent config.roles.sizes run x.from (message_of x) ≡ true)
           (same_take p q same) was.sent;
     })

@@ -16,7 +16,8 @@ use Rattle.byz_world.proofs.Elements.{number_of, contained, contains_flat, flat_
 use Rattle.byz_world.proofs.Pooled.{number_in, to_each, pooled_is_sent}
 use Rattle.byz_world.proofs.Idle.{taken_is_idle, idle_is_taken}
 use Rattle.byz_world.proofs.Recording.{correct_member}
-use Rattle.byz_world.proofs.Telling.{node_is, message_is_due, correct_is_node}
+use Rattle.byz_world.proofs.Sound.{message_is_due}
+use Rattle.byz_world.proofs.Telling.{node_is, correct_is_node}
 
 passes_at : {A : Type 0} (p : A → Bool) (xs : List A) (k : ℕ) (x : A) → list_all p xs ≡ true
     → slice_get xs k ≡ Some x → p x ≡ true
@@ -55,7 +56,8 @@ taken_rests config liars members order sent is all p c correct =
     ∙ numbered.1 in
     let place = number_of (messages config run) s found.1 in
     let own = passes_at (has_taken node) sent place.0 s taken (ap (λ ms. slice_get ms place.0) is.messages ∙ place.1) in
-    let due : packet_due s.0 p.to s.1 ≡ Some p = message_is_due config run s p.to found.1 ∙ ap Some same in
+    let due : packet_due s.0 p.to s.1 ≡ Some p =
+    message_is_due config liars run is.cluster s p.to found.1 ∙ ap Some same in
     idle_is_taken config liars run p is.cluster (pooled_is_sent config liars run p is.cluster c)
     (ap (has_taken_packet node) (sym due) ∙ own)
 
@@ -77,7 +79,7 @@ rested_member config liars members order sent is rest k (Some node) at =
     let pooled : Contains (pool config run) p =
     flat_contains (packets_of config.roles.sizes.nodes) (messages config run) s p message
     (to_each s.0 k config.roles.sizes.nodes s.1 (correct_is_node config.roles.sizes liars k here.correct)) in
-    ap (has_taken_packet (node_in w k)) (message_is_due config run s k message)
+    ap (has_taken_packet (node_in w k)) (message_is_due config liars run is.cluster s k message)
     ∙ taken_is_idle config k (history_of k run) p (is.cluster.legal k) (rest p pooled here.correct) in
     ap (λ n. list_all (has_taken n) sent) here.is ∙ all_pass (has_taken (node_in w k)) sent own
 

@@ -2,7 +2,7 @@
 use Rattle.std.proofs.Common.{◌≡◌, ℕ, suc, Bool, true, false, ◌&&◌, List, [], ◌∷◌, ◌++◌, length, Option}
 use Rattle.std.proofs.Common.{Some, None, Result, Ok, Err, refl, sym, ap, ◌∙◌, subst, append-nil}
 use Rattle.std.specs.Prelude.{if◌then◌else◌, not, nat_lt, IsTrue, IfOk, IfErr, OnOk, slice_get}
-use Rattle.link_frames.specs.Packets.{PacketValue, SentByOwner, message_of}
+use Rattle.link_frames.specs.Packets.{PacketValue, IsSound, message_of}
 use Rattle.link_frames.specs.declared.opening.LinkFault.{LinkFault}
 use Rattle.bracha_instance.specs.declared.instance.Effect.{Effect}
 use Rattle.bracha_instance.specs.declared.instance.Effect.TheVariants as effect
@@ -18,9 +18,8 @@ use Rattle.byz_world.specs.Pools.{pool, WasSent}
 use Rattle.byz_world.specs.Worlds.{WorldValue, node_in, is_correct_in}
 use Rattle.byz_world.specs.Steps.{Arrival, arrival, arrives, given, unless_forged, opened_at, of_opened}
 use Rattle.byz_world.specs.Steps.{is_pool_full, is_forged, of_reply, of_answer, answer_of, step_due}
-use Rattle.byz_world.specs.Steps.{recorded_pair, with_run, after_step, after_steps, adds, IsStepAnswer}
+use Rattle.byz_world.specs.Steps.{recorded_pair, with_run, after_step, after_steps, adds, IsStepAnswer, IsSoundStep}
 use Rattle.byz_world.specs.Inside.{MayHappen}
-use Rattle.byz_world.specs.Steps.{IsSound}
 use Rattle.byz_world.specs.Worlds.{IsClusterRunOf}
 use Rattle.byz_world.specs.declared.step.Step.{Step}
 use Rattle.byz_world.specs.declared.step.Step.TheVariants.{Issue, Give, Lie, Bytes, Client}
@@ -30,9 +29,9 @@ use Rattle.byz_world.specs.declared.faults.WorldFault.{WorldFault}
 use Rattle.byz_world.specs.declared.faults.WorldFault.TheVariants as fault
 use Rattle.byz_world.proofs.Elements.{contained}
 use Rattle.byz_world.proofs.Pooled.{pooled_is_sent}
-use Rattle.byz_world.proofs.Telling.{pooled_is_own}
+use Rattle.byz_world.proofs.Sound.{pooled_is_sound}
 use Rattle.byz_world.proofs.Growing.{cluster_run_push}
-use Rattle.byz_world.proofs.Opened.{opened_is_own}
+use Rattle.byz_world.proofs.Opened.{opened_is_sound}
 use Rattle.byz_world.proofs.Recording.{counted_recorded}
 
 -- A step that comes to an event.
@@ -259,17 +258,17 @@ MayBe w q = MayHappen w q.0 q.1
 same_take : (p q : PacketValue) → event.Take p ≡ event.Take q → p ≡ q
 same_take p q e = cc
 
--- a packet that comes from its owner, if it is a SEND, and was sent, if its sender is correct
-pub taken_may : (w : WorldValue) (p : PacketValue) (q : ℕ × Event) → SentByOwner p →
+-- a packet that is sound, and was sent, if its sender is correct
+pub taken_may : (w : WorldValue) (p : PacketValue) (q : ℕ × Event) → IsSound p →
     (is_correct_in w p.from ≡ true → IsTrue (has_sent w.config.roles.sizes w.run p.from (message_of p))) →
     arrives w p ≡ Ok (Some q) → MayBe w q
-taken_may w p q own sent e =
+taken_may w p q sound sent e =
     let is = arrives_is w (is_correct_in w p.to) (is_pool_full w) (p.to, event.Take p) q e in
     subst (MayBe w) is.2
     (record {
       follows = record {
         correct = is.0;
-        sends = λ x same. subst SentByOwner (same_take p x same) own;
+        sound = λ x same. subst IsSound (same_take p x same) sound;
         links = λ x same.
             let L : PacketValue → Type 0 = λ y. is_correct_in w y.from ≡ true
             → IsTrue (has_sent w.config.roles.sizes w.run y.from (message_of y)) in
@@ -283,18 +282,18 @@ unforged true true e h = refl
 unforged true false e h = absurd cc
 unforged false b e h = absurd cc
 
-unforged_may : (w : WorldValue) (p : PacketValue) (q : ℕ × Event) → SentByOwner p → unless_forged w p ≡ Ok (Some q) →
+unforged_may : (w : WorldValue) (p : PacketValue) (q : ℕ × Event) → IsSound p → unless_forged w p ≡ Ok (Some q) →
     MayBe w q
-unforged_may w p q own e =
+unforged_may w p q sound e =
     let is = unforged_is (is_forged w p) (arrives w p) q e in
-    taken_may w p q own (unforged (is_correct_in w p.from)
+    taken_may w p q sound (unforged (is_correct_in w p.from)
     (has_sent w.config.roles.sizes w.run p.from (message_of p)) is.0) is.1
 
 opened_may : (w : WorldValue) (o : Option (Result PacketValue LinkFault)) (q : ℕ × Event) →
-    ((p : PacketValue) → o ≡ Some (Ok p) → SentByOwner p) → of_opened w o ≡ Ok (Some q) → MayBe w q
-opened_may w None q own e = absurd cc
-opened_may w (Some (Err f)) q own e = absurd cc
-opened_may w (Some (Ok p)) q own e = unforged_may w p q (own p refl) e
+    ((p : PacketValue) → o ≡ Some (Ok p) → IsSound p) → of_opened w o ≡ Ok (Some q) → MayBe w q
+opened_may w None q sound e = absurd cc
+opened_may w (Some (Err f)) q sound e = absurd cc
+opened_may w (Some (Ok p)) q sound e = unforged_may w p q (sound p refl) e
 
 pub given_may : (w : WorldValue) (o : Option PacketValue) (k : ℕ) (q : ℕ × Event) → IsClusterRunOf w →
     slice_get (pool w.config w.run) k ≡ o → given w o ≡ Ok (Some q) → MayBe w q
@@ -302,16 +301,16 @@ given_may w None k q is at e = absurd cc
 given_may w (Some p) k q is at e =
     let pooled : WasSent w.config w.liars w.run p =
     pooled_is_sent w.config w.liars w.run p is (contained (pool w.config w.run) k p at) in
-    taken_may w p q (pooled_is_own w.config w.liars w.run p is (contained (pool w.config w.run) k p at))
+    taken_may w p q (pooled_is_sound w.config w.liars w.run is p (contained (pool w.config w.run) k p at))
     (λ correct. pooled.sent) e
 
-pub may_arrive : (w : WorldValue) (step : Step) (at : ℕ) (e : Event) → IsClusterRunOf w → IsSound step →
+pub may_arrive : (w : WorldValue) (step : Step) (at : ℕ) (e : Event) → IsClusterRunOf w → IsSoundStep step →
     arrival w step ≡ Ok (Some (at, e)) → MayHappen w at e
 may_arrive w (Issue node c) at e is sound h =
     let i = issue_is w (is_correct_in w node) (is_pool_full w) (node, event.Issue c) (at, e) h in
     subst (MayBe w) i.2
     (record {
-      follows = record { correct = i.0; sends = λ x same. absurd cc; links = λ x same. absurd cc };
+      follows = record { correct = i.0; sound = λ x same. absurd cc; links = λ x same. absurd cc };
       room = λ act. i.1;
     })
 may_arrive w (Give k) at e is sound h = given_may w (slice_get (pool w.config w.run) k) k (at, e) is refl h
@@ -320,12 +319,12 @@ may_arrive w (Lie p) at e is sound h =
     (lie_is (nat_lt p.from w.config.roles.sizes.nodes && nat_lt p.to w.config.roles.sizes.nodes)
     (unless_forged w p) (at, e) h)
 may_arrive w (Bytes to bytes) at e is sound h =
-    opened_may w (opened_at w to bytes) (at, e) (opened_is_own w to bytes) h
+    opened_may w (opened_at w to bytes) (at, e) (λ p. opened_is_sound w to bytes p sound) h
 may_arrive w (Client node act) at e is sound h =
     let i = client_is (is_correct_in w node) (node, event.Client act) (at, e) h in
     subst (MayBe w) i.1
     (record {
-      follows = record { correct = i.0; sends = λ x same. absurd cc; links = λ x same. absurd cc };
+      follows = record { correct = i.0; sound = λ x same. absurd cc; links = λ x same. absurd cc };
       room = λ none. absurd cc;
     })
 
@@ -342,7 +341,7 @@ unfolding after_steps
 after_steps-none w = refl
 
 -- the run of a world stays a cluster run
-pub after_step_runs : (w : WorldValue) (step : Step) → IsClusterRunOf w → IsSound step
+pub after_step_runs : (w : WorldValue) (step : Step) → IsClusterRunOf w → IsSoundStep step
     → IsClusterRunOf (after_step w step)
 after_step_runs w step is sound =
     subst IsClusterRunOf (sym (after_where w step (arrival w step) refl)) (grown (arrival w step) refl)
@@ -359,7 +358,7 @@ after_step_runs w step is sound =
     grown (Err f) e = subst (IsClusterRun w.config w.liars) (sym (append-nil w.run)) is
 
 pub after_steps_runs : (w : WorldValue) (steps : List Step) → IsClusterRunOf w →
-    ((k : ℕ) (step : Step) → slice_get steps k ≡ Some step → IsSound step) → IsClusterRunOf (after_steps w steps)
+    ((k : ℕ) (step : Step) → slice_get steps k ≡ Some step → IsSoundStep step) → IsClusterRunOf (after_steps w steps)
 unfolding after_steps
 after_steps_runs w [] is sound = is
 after_steps_runs w (step ∷ steps) is sound =

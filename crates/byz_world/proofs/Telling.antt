@@ -1,27 +1,22 @@
 -- What the fields of a world tell: its nodes, its packets, what was sent, and how far streams agree.
-use Rattle.std.proofs.Common.{◌≡◌, ℕ, ◌*◌, ◌<◌, ◌≤◌, Bool, true, false, ◌&&◌, ◌==◌, List, []}
+use Rattle.std.proofs.Common.{◌≡◌, ℕ, ◌*◌, ◌<◌, ◌≤◌, Bool, true, false, ◌&&◌, List, []}
 use Rattle.std.proofs.Common.{◌∷◌, length, min, Option, Some, None, refl, sym, ap, ◌∙◌, arith}
-use Rattle.std.specs.Prelude.{if◌then◌else◌, nat_lt, not, is_some, slice_get, option_map, Contains, ◌/◌, ◌%◌}
+use Rattle.std.specs.Prelude.{if◌then◌else◌, nat_lt, not, is_some, slice_get, option_map, ◌/◌, ◌%◌}
 use Rattle.std.proofs.lemmas.Bool.{and_parts}
 use Rattle.std.proofs.Math.Nat.{le-mul_of_pos_right}
 use Rattle.owner_streams.proofs.Exported.{echoed-none, readied-none}
 use Rattle.std.proofs.lemmas.Bool.Decides.{nat_tests}
-use Rattle.std.proofs.lemmas.Map.Views.{exact_unsigned_eq}
 use Rattle.quorum_sizes.specs.Sizes.{Counts}
 use Rattle.quorum_sizes.specs.NodeSets.{Nodes}
 use Rattle.role_commands.specs.declared.command.Command.{Command}
-use Rattle.link_frames.specs.Kinds.{same_kind}
 use Rattle.link_frames.specs.declared.kind.Kind.{Kind}
 use Rattle.link_frames.specs.declared.kind.Kind.TheVariants.{Send, Echo, Ready}
 use Rattle.link_frames.specs.declared.packet.Message.{Message}
-use Rattle.link_frames.specs.Packets.{PacketValue, SentByOwner, packet_of, packet_due, message_of}
-use Rattle.bracha_instance.proofs.Exported.{same_kind-true}
+use Rattle.link_frames.specs.Packets.{PacketValue, packet_of, packet_due, message_of}
 use Rattle.bracha_instance.specs.Broadcast.{Take, echoed, readied}
 use Rattle.role_node.specs.Configs.{ConfigValue}
 use Rattle.role_node.specs.Nodes.{NodeValue}
 use Rattle.role_node.specs.Access.{sent_at}
-use Rattle.role_node.specs.Histories.{issued}
-use Rattle.role_node.specs.declared.event.Event.{Event}
 use Rattle.role_node.specs.Access.{stream_at, reach_at, verdict_at}
 use Rattle.role_sessions.specs.declared.verdict.Verdict.{Verdict}
 use Rattle.bracha_instance.specs.Broadcast.{is_for}
@@ -36,8 +31,9 @@ use Rattle.byz_world.specs.Pools.{Sent, messages, pool}
 use Rattle.byz_world.specs.Worlds.{WorldValue, node_in, node_due, is_correct_in}
 use Rattle.byz_world.proofs.Elements.{contained}
 use Rattle.byz_world.proofs.Histories.{taken_by, taken_whole, IsTakenIn, taken_in, routed}
-use Rattle.byz_world.proofs.Pooled.{pooled_is_sent, has_sent_is, message_is_sent}
+use Rattle.byz_world.proofs.Pooled.{has_sent_is}
 use Rattle.byz_world.proofs.Numbering.{pool_at}
+use Rattle.byz_world.proofs.Sound.{send_is_own, message_is_due}
 
 -- Nodes.
 
@@ -66,55 +62,14 @@ some_is_correct w name = by (is_correct_in w name) (node_in w name)
 
 -- Packets.
 
-own_send : (s : Counts) (me : ℕ) (history : List Event) (owner place : ℕ) (c : Command) (b : Bool) → (owner == me) ≡ b →
-    ◌≡◌ {A = Option Command} (if b then slice_get (issued history) place else None) (Some c) → me ≡ owner
-own_send s me history owner place c true own e = sym (exact_unsigned_eq owner me own)
-own_send s me history owner place c false own e = absurd cc
-
--- a SEND was sent by its owner
-send_is_own : (s : Counts) (me : ℕ) (history : List Event) (kind : Kind) (owner place : ℕ) (c : Command) → kind ≡ Send →
-    of_kind kind (sent_at s me history owner place) ≡ Some c → me ≡ owner
-send_is_own s me history Send owner place c send e = own_send s me history owner place c _ refl e
-send_is_own s me history Echo owner place c send e = absurd cc
-send_is_own s me history Ready owner place c send e = absurd cc
-
-due_by : (send same : Bool) (p : PacketValue) → (send ≡ true → same ≡ true) →
-    ◌≡◌ {A = Option PacketValue} (if send && not same then None else Some p) (Some p)
-due_by true true p h = refl
-due_by true false p h = let clash = h refl in absurd cc
-due_by false same p h = refl
-
--- a message that was sent has a packet to each node
-pub message_is_due : (config : ConfigValue) (run : Run) (sent : Sent) (to : ℕ) → Contains (messages config run) sent →
-    packet_due sent.0 to sent.1 ≡ Some (packet_of sent.0 to sent.1)
-message_is_due config run sent to c =
-    let was = has_sent_is config.roles.sizes run sent.0 sent.1 (message_is_sent config run sent c) in
-    due_by (same_kind sent.1.kind Send) (sent.0 == sent.1.owner) (packet_of sent.0 to sent.1)
-    (λ send.
-    ap (λ n. n == sent.1.owner)
-    (send_is_own config.roles.sizes sent.0 (history_of sent.0 run)
-    sent.1.kind sent.1.owner sent.1.place sent.1.command (same_kind-true _ _ send) was)
-    ∙ own sent.1.owner)
-  where
-    own : (a : ℕ) → (a == a) ≡ true
-    own a = grind (arith, nat_tests)
-
--- a SEND of the pool is from its owner
-pub pooled_is_own : (config : ConfigValue) (liars : Nodes) (run : Run) (p : PacketValue)
-    → IsClusterRun config liars run →
-    Contains (pool config run) p → SentByOwner p
-pooled_is_own config liars run p is c send =
-    let pooled = pooled_is_sent config liars run p is c in
-    send_is_own config.roles.sizes p.from (history_of p.from run) p.kind p.owner p.place p.command send
-    (has_sent_is config.roles.sizes run p.from (message_of p) pooled.sent)
-
 -- packet k of the pool is due, of message k / n to node k mod n
-pub number_is_due : (config : ConfigValue) (run : Run) (k : ℕ) (sent : Sent) → 0 < config.roles.sizes.nodes →
+pub number_is_due : (config : ConfigValue) (liars : Nodes) (run : Run) (k : ℕ) (sent : Sent) →
+    IsClusterRun config liars run → 0 < config.roles.sizes.nodes →
     slice_get (messages config run) (k / config.roles.sizes.nodes) ≡ Some sent →
     packet_due sent.0 (k % config.roles.sizes.nodes) sent.1 ≡ slice_get (pool config run) k
-number_is_due config run k sent nodes at =
+number_is_due config liars run k sent is nodes at =
     let n : ℕ = config.roles.sizes.nodes in
-    message_is_due config run sent (k % n) (contained (messages config run) (k / n) sent at)
+    message_is_due config liars run is sent (k % n) (contained (messages config run) (k / n) sent at)
     ∙ sym (pool_at config run k nodes ∙ ap (option_map (λ (s : Sent). packet_of s.0 (k % n) s.1)) at)
 
 pub no_number : (config : ConfigValue) (run : Run) (k : ℕ) → 0 < config.roles.sizes.nodes →
@@ -256,7 +211,7 @@ number_in_world w sent k nodes to s is messages_are sizes number at =
     (λ i. slice_get (sym messages_are i) (k / sym sizes i)) ∙ at in
     let name : to ≡ k % w.config.roles.sizes.nodes = number ∙ ap (λ n. k % n) sizes in
     ap (λ n. packet_due s.0 n s.1) name
-    ∙ number_is_due w.config w.run k s (nodes_are w.config w.liars w.run is) here
+    ∙ number_is_due w.config w.liars w.run k s is (nodes_are w.config w.liars w.run is) here
 
 pub no_number_in_world : (w : WorldValue) (sent : List Sent) (k nodes : ℕ) → IsClusterRunOf w
     → sent ≡ messages w.config w.run →

@@ -139,7 +139,7 @@ echo_was_issued config liars run node owner place c cluster correct e =
     ) in
     let sender : t.from ≡ owner =
     sym (ap (λ x. x.from) from.message_is)
-    ∙ cluster.sends from.at node from.packet from.in_run (ap (λ x. x.kind) from.message_is ∙ found.2)
+    ∙ (cluster.sound from.at node from.packet from.in_run).0 (ap (λ x. x.kind) from.message_is ∙ found.2)
     ∙ from.owner_is in
     let sent : said_by s (take from.at run) owner Send owner place ≡ Some c =
     sym (λ i. said_by s (take from.at run) (sender i) (found.2 i) owner place)

@@ -20,7 +20,7 @@ use Rattle.bracha_instance.specs.declared.instance.Effect.{Effect}
 use Rattle.bracha_instance.specs.declared.instance.Effect.TheVariants as effect
 use Rattle.owner_streams.proofs.Exported.{takes_at-own, takes_at-other}
 use Rattle.owner_streams.specs.Places.{take_of, takes_at}
-use Rattle.role_node.proofs.Exported.{packets-none, packets-Issue, packets-Take, packets-Client}
+use Rattle.role_node.proofs.Exported.{recorded_next, packets-none, packets-Issue, packets-Take, packets-Client}
 use Rattle.role_node.specs.Answers.{take_outlook, reply_to, answer_due, is_recorded, IsLegal}
 use Rattle.role_node.specs.Configs.{ConfigValue}
 use Rattle.role_node.specs.Histories.{packets}
@@ -32,7 +32,6 @@ use Rattle.byz_world.specs.Runs.{Run, history_of, IsClusterRun}
 use Rattle.byz_world.proofs.Elements.{at_seam}
 use Rattle.byz_world.proofs.Histories.{taken_by, pair_in}
 use Rattle.byz_world.proofs.Idle.{counted_early, was_open, open_outlook}
-use Rattle.byz_world.proofs.Progress.{recorded_next}
 use Rattle.byz_world.proofs.Sending.{own_instance}
 
 -- Counts.
@@ -259,7 +258,7 @@ sends_owned config liars run node cluster k p at =
       ap (λ r. slice_get (history_of node r) k) whole
           ∙ at,
     ) in
-    cluster.sends from.0 node p from.2
+    (cluster.sound from.0 node p from.2).0
 
 pub few_at_place : (config : ConfigValue) (liars : Nodes) (run : Run) (node owner place : ℕ) →
     IsClusterRun config liars run → length (taken_by run node owner place) ≤ most_at_place config.roles.sizes

@@ -14,10 +14,9 @@ use Rattle.role_node.specs.Access.{relations_at, session_at}
 use Rattle.role_node.specs.Configs.{ConfigValue}
 use Rattle.role_node.specs.Histories.{issued}
 use Rattle.byz_world.specs.Checks.{decision_due}
-use Rattle.byz_world.specs.Steps.{IsSound}
 use Rattle.byz_world.specs.Laws.{stream_of, reach_of}
 use Rattle.byz_world.specs.Runs.{Run, history_of, is_correct, IsClusterRun}
-use Rattle.byz_world.specs.Steps.{after_steps}
+use Rattle.byz_world.specs.Steps.{after_steps, IsSoundStep}
 use Rattle.byz_world.specs.Worlds.{new_world, too_many_lie}
 use Rattle.byz_world.specs.declared.step.Step.{Step}
 
@@ -64,9 +63,9 @@ pub record KeepsThePromise (config : ConfigValue) (liars : Nodes) (run : Run) : 
 
 -- For every configuration and set of liars, of whom no more are nodes than may lie, and for every list of steps:
 -- deliveries, losses, repeats, forgeries, any bytes and client calls. A packet that a step brings is one (a SEND comes
--- from its owner); of bytes nothing is asked.
+-- from its owner, and the place is one of a stream); of bytes nothing is asked but that they are bytes.
 abbrev pub Headline : Type 0
 Headline =
     (config : ConfigValue) (liars : Nodes) (steps : List Step) → AreSizes config.roles.sizes →
-    too_many_lie config.roles.sizes liars ≡ false → All IsSound steps →
+    too_many_lie config.roles.sizes liars ≡ false → All IsSoundStep steps →
     KeepsThePromise config liars (after_steps (new_world config liars) steps).run

@@ -7,7 +7,7 @@ use Rattle.role_node.specs.Configs.{ConfigValue, most_events}
 use Rattle.role_node.specs.Nodes.{NodeValue}
 use Rattle.role_node.specs.declared.event.Event.{Event}
 use Rattle.role_node.specs.declared.event.Event.TheVariants.{Issue, Take, Client}
-use Rattle.link_frames.specs.Packets.{PacketValue, SentByOwner, message_of, packet_due}
+use Rattle.link_frames.specs.Packets.{PacketValue, IsSound, message_of, packet_due}
 use Rattle.bracha_instance.specs.declared.instance.Effect.{Effect}
 use Rattle.bracha_instance.specs.declared.instance.Effect.TheVariants.{Idle, Counted}
 use Rattle.role_node.specs.Answers.{outlook}
@@ -69,7 +69,7 @@ pub record IsWorldIn (config : ConfigValue) (liars : Nodes) (members : Members) 
 -- what an event needs of a run to be its next
 pub record MayFollow (config : ConfigValue) (liars : Nodes) (run : Run) (at : ℕ) (e : Event) : Type 0 where
   pub correct : IsTrue (is_correct config.roles.sizes liars at)
-  pub sends : (p : PacketValue) → e ≡ Take p → SentByOwner p
+  pub sound : (p : PacketValue) → e ≡ Take p → IsSound p
   pub links : (p : PacketValue) → e ≡ Take p → IsTrue (is_correct config.roles.sizes liars p.from) →
       IsTrue (has_sent config.roles.sizes run p.from (message_of p))
 

@@ -7,7 +7,7 @@ use Rattle.role_commands.specs.declared.command.Command.{Command}
 use Rattle.bracha_instance.specs.Broadcast.{echoed, readied}
 use Rattle.owner_streams.specs.Laws.{IsPrefixOf}
 use Rattle.owner_streams.specs.Places.{takes_at, delivered_at}
-use Rattle.link_frames.specs.Packets.{PacketValue}
+use Rattle.link_frames.specs.Packets.{PacketValue, IsSound}
 use Rattle.role_node.specs.Configs.{ConfigValue}
 use Rattle.role_node.specs.Histories.{issued, packets}
 use Rattle.role_node.specs.Access.{stream_at, reach_at, relations_at}
@@ -40,6 +40,12 @@ abbrev pub PoolIsWhatWasSent : Type 0
 PoolIsWhatWasSent =
     (config : ConfigValue) (liars : Nodes) (run : Run) (p : PacketValue) → IsClusterRun config liars run →
     Contains (pool config run) p ↔ WasSent config liars run p
+
+-- Each packet of the pool of a cluster run is sound: what correct nodes send is about places of a stream.
+abbrev pub PoolIsSound : Type 0
+PoolIsSound =
+    (config : ConfigValue) (liars : Nodes) (run : Run) (p : PacketValue) → IsClusterRun config liars run →
+    Contains (pool config run) p → IsSound p
 
 -- Two correct nodes are ready for one command at a place; what they deliver there is one command; and their streams of
 -- an owner agree as far as both reach.

@@ -6,7 +6,7 @@ use Rattle.quorum_sizes.specs.NodeSets.{Nodes, nodes_among}
 use Rattle.role_node.specs.Configs.{ConfigValue}
 use Rattle.role_node.specs.Answers.{IsLegal}
 use Rattle.role_node.specs.declared.event.Event.{Event}
-use Rattle.byz_world.specs.Runs.{Run, history_of, is_correct, SendsAreByOwners, LinksAreTrue, IsClusterRun}
+use Rattle.byz_world.specs.Runs.{Run, history_of, is_correct, PacketsAreSound, LinksAreTrue, IsClusterRun}
 
 -- the configuration with another limit
 abbrev pub with_limit : ConfigValue → ℕ → ConfigValue
@@ -19,7 +19,7 @@ pub record IsRunUnderLimits (config : ConfigValue) (limits : ℕ → ℕ) (liars
   pub correct : (t node : ℕ) (event : Event) → slice_get run t ≡ Some (node, event) →
       IsTrue (is_correct config.roles.sizes liars node)
   pub legal : (node : ℕ) → IsLegal (with_limit config (limits node)) node (history_of node run)
-  pub sends : SendsAreByOwners run
+  pub sound : PacketsAreSound run
   pub links : LinksAreTrue config.roles.sizes liars run
 
 -- Under any limit that none of theirs is above, it is a cluster run, of which all laws speak.

@@ -10,7 +10,7 @@ use Rattle.role_commands.specs.declared.command.Command.{Command}
 use Rattle.link_frames.specs.declared.kind.Kind.{Kind}
 use Rattle.link_frames.specs.declared.kind.Kind.TheVariants.{Send, Echo, Ready}
 use Rattle.link_frames.specs.declared.packet.Message.{Message}
-use Rattle.link_frames.specs.Packets.{PacketValue, SentByOwner, message_of}
+use Rattle.link_frames.specs.Packets.{PacketValue, IsSound, message_of}
 use Rattle.bracha_instance.specs.Broadcast.{is_for}
 use Rattle.role_node.specs.Configs.{ConfigValue}
 use Rattle.role_node.specs.Access.{sent_at}
@@ -51,9 +51,10 @@ LinksAreTrue s liars run =
     (t node : ℕ) (p : PacketValue) → slice_get run t ≡ Some (node, Take p) → IsTrue (is_correct s liars p.from) →
     IsTrue (has_sent s (take t run) p.from (message_of p))
 
--- nobody, a liar neither, sends a SEND in another's stream: there is no such packet
-abbrev pub SendsAreByOwners : Run → Type 0
-SendsAreByOwners run = (t node : ℕ) (p : PacketValue) → slice_get run t ≡ Some (node, Take p) → SentByOwner p
+-- nobody, a liar neither, sends a SEND in another's stream or speaks of a place that no stream has: there is no such
+-- packet
+abbrev pub PacketsAreSound : Run → Type 0
+PacketsAreSound run = (t node : ℕ) (p : PacketValue) → slice_get run t ≡ Some (node, Take p) → IsSound p
 
 -- A run of a cluster in which at most f nodes lie, fewer than a third, and each correct node has this configuration and
 -- answers each event as it is due to its history.
@@ -63,5 +64,5 @@ pub record IsClusterRun (config : ConfigValue) (liars : Nodes) (run : Run) : Typ
   pub correct : (t node : ℕ) (event : Event) → slice_get run t ≡ Some (node, event) →
       IsTrue (is_correct config.roles.sizes liars node)
   pub legal : (node : ℕ) → IsLegal config node (history_of node run)
-  pub sends : SendsAreByOwners run
+  pub sound : PacketsAreSound run
   pub links : LinksAreTrue config.roles.sizes liars run

@@ -1,8 +1,9 @@
 -- What a step of the world does: the node and the event that it comes to, its answer, and the run after it.
 use Rattle.std.specs.Prelude.{◌≡◌, ⊤, ℕ, ◌+◌, Bool, not, ◌&&◌, nat_lt, if◌then◌else◌, IsTrue, List, []}
 use Rattle.std.specs.Prelude.{◌∷◌, ◌++◌, length, slice_get, is_some, Option, Some, None, Result, Ok, Err}
+use Rattle.role_commands.specs.Bytes.{IsBytes}
 use Rattle.link_frames.specs.Opening.{open_due}
-use Rattle.link_frames.specs.Packets.{PacketValue, SentByOwner, message_of}
+use Rattle.link_frames.specs.Packets.{PacketValue, IsSound, message_of}
 use Rattle.link_frames.specs.declared.opening.LinkFault.{LinkFault}
 use Rattle.role_node.specs.Nodes.{due_at}
 use Rattle.role_node.specs.Answers.{is_recorded}
@@ -122,10 +123,11 @@ IsStepAnswer w step (Err (fault.Node f)) = step_due w step ≡ Err (fault.Node f
 IsStepAnswer w step (Err fault.NoSession) = step_due w step ≡ Err fault.NoSession
 IsStepAnswer w step (Err fault.Memory) = IsTrue (adds w step)
 
--- a packet that a step brings is one: a SEND comes from its owner. What bytes open to is one whatever they are
-abbrev pub IsSound : Step → Type 0
-IsSound (Issue node command) = ⊤
-IsSound (Give packet) = ⊤
-IsSound (Lie p) = SentByOwner p
-IsSound (Bytes to bytes) = ⊤
-IsSound (Client node act) = ⊤
+-- a packet that a step brings is one: a SEND comes from its owner, and its place is one of a stream. So is what bytes
+-- open to, whichever they are, as long as they are bytes
+abbrev pub IsSoundStep : Step → Type 0
+IsSoundStep (Issue node command) = ⊤
+IsSoundStep (Give packet) = ⊤
+IsSoundStep (Lie p) = IsSound p
+IsSoundStep (Bytes to bytes) = IsBytes bytes
+IsSoundStep (Client node act) = ⊤

@@ -3,7 +3,7 @@
 //! Each function's contract is its law, and its body is empty. `specs/Laws.antt` spells the laws out.
 ghost use Rattle.byz_world.specs.Example.{AnExample};
 ghost use Rattle.byz_world.specs.Headline.{Headline};
-ghost use Rattle.byz_world.specs.Laws.{PoolIsWhatWasSent, Consistency, Integrity, SamePolicy, ReadyByAll};
+ghost use Rattle.byz_world.specs.Laws.{PoolIsWhatWasSent, PoolIsSound, Consistency, Integrity, SamePolicy, ReadyByAll};
 ghost use Rattle.byz_world.specs.Laws.{DeliveredByAll, IssuedReachesAll, AtRest};
 ghost use Rattle.byz_world.specs.Limits.{LimitsMayDiffer};
 ghost use Rattle.byz_world.specs.Progress.{NothingIsStuck, WorkIsBounded, FairSchedulesSettle};
@@ -17,6 +17,11 @@ pub fn limits_may_differ()
 /// The packets that stand in the pool are those of the messages that correct nodes have sent, one to each node.
 pub fn pool_is_what_was_sent()
     ensures { PoolIsWhatWasSent }
+{}
+
+/// Each packet of the pool is sound: a SEND is its owner's, and the place is one of a stream.
+pub fn pool_is_sound()
+    ensures { PoolIsSound }
 {}
 
 /// Correct nodes are ready for one command at a place of an owner's stream and deliver one there, and their streams

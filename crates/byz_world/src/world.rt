@@ -21,7 +21,6 @@ ghost use Rattle.byz_world.specs.Resting.{IsAtRest};
 ghost use Rattle.byz_world.specs.Asking.{IsMade, IsQuestionAnswer};
 ghost use Rattle.byz_world.specs.Checks.{decision_due};
 ghost use Rattle.byz_world.specs.Inside.{MayHappen, MayArrive, told_of};
-ghost use Rattle.byz_world.specs.Steps.{IsSound};
 ghost use Rattle.byz_world.specs.Worlds.{IsClusterRunOf};
 ghost use Rattle.byz_world.specs.declared.step.Step.{Step};
 ghost use Rattle.byz_world.specs.declared.step.Step.TheVariants.{Issue, Give, Lie, Bytes, Client};

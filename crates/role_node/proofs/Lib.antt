@@ -6,6 +6,7 @@ pub mod Entries
 pub mod Relations
 pub mod Refused
 pub mod Recording
+pub mod Legal
 pub mod Ascending
 pub mod Pairs
 pub mod ListedLemmas

@@ -72,7 +72,7 @@ counts_inside a v event e counts =
     let P : NodeValue → Type 0 = λ n. outlook n.config n.me n.history event ≡ Ok effect.Counted in
     subst P (sym e) counts
 
-second_test : (a b c : Bool) →
+pub second_test : (a b c : Bool) →
     or_counted (if a then Some fault.NotMine
     else (if b then Some fault.StreamFull else (if c then Some fault.Busy else None))) ≡ Ok effect.Counted
     → b ≡ false

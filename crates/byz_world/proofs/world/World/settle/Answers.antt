@@ -1,6 +1,4 @@
-use Rattle.std.proofs.Common.{◌≡◌, ◌≤◌, length, ap, sym, ◌∙◌, arith}
-use Rattle.byz_world.specs.Settled.{settled}
-use Rattle.byz_world.specs.Worlds.{WorldValue}
+use Rattle.std.proofs.Common.{sym, ◌∙◌, arith}
 use Rattle.byz_world.proofs.Passes.{passes_first, passes_next, passes_ended, passes_all, prolonged_more}
 use Rattle.byz_world.proofs.Passes.{ended_settled, ended_prolongs, ended_no_shorter}
 use Rattle.byz_world.proofs.world.World.settle.Goals as goal
