@@ -59,7 +59,13 @@ pub(crate) const FOUR: Row = (
     "sizes 3 2 3\nok\nissued 0 sent 0-3\nrest no\nflushed 36\nreach 1\nreach 1\nrest yes\nlist 7\n",
 );
 
-static SCRIPTS: [Row; 5] = [("", ""), SILENT, VOTES, BYTES, FOUR];
+/// As many nodes as there may be, all correct, deliver what one of them publishes.
+const MOST: Row = (
+    "cluster 128 42\nrole 2 0\nissue 0 assign 7 2\nflush\nrest\nagree 0 127 0\n",
+    "sizes 86 43 85\nok\nissued 0 sent 0-127\nflushed 32896\nrest yes\nagree 1\n",
+);
+
+static SCRIPTS: [Row; 6] = [("", ""), SILENT, VOTES, BYTES, FOUR, MOST];
 
 #[test]
 fn scripts(rt: HostRuntime) {
@@ -106,8 +112,9 @@ fn a_clear_names_one_role(rt: HostRuntime) {
 }
 
 /// A script, the number of its first bad line, and what is written before.
-static BAD_SCRIPTS: [(&str, u64, &str); 7] = [
+static BAD_SCRIPTS: [(&str, u64, &str); 8] = [
     ("cluster 3 1\n", 1, ""),
+    ("cluster 129 42\n", 1, ""),
     ("\n", 1, ""),
     ("role 2\n", 1, ""),
     (
