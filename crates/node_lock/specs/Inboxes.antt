@@ -15,7 +15,7 @@ abbrev pub inbox_capacity : ℕ
 inbox_capacity = 1024
 
 abbrev pub most_passes : ℕ
-most_passes = 96
+most_passes = 160
 
 -- the parts of an inbox, which its passes hold
 abbrev pub inbox_parts : ℕ

@@ -22,7 +22,7 @@ use std::sync::Wait;
 pub const INBOX_CAPACITY: usize = 1_024;
 
 /// The most passes of an inbox.
-pub const MOST_PASSES: u8 = 96;
+pub const MOST_PASSES: u8 = 160;
 
 /// The parts of an inbox. One pass has those that no other has.
 const INBOX_PARTS: u16 = 256;
