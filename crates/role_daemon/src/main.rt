@@ -20,7 +20,7 @@ pub mod words;
 
 use cluster::Setup;
 use cluster_file::read_setup;
-use fault::{FileFault, PipeFault, WordsFault};
+use fault::{FileFault, PipeFault, ServeFault, WordsFault};
 use link_frames::Watched;
 use pipe::run_pipe;
 use serve::serve;
@@ -38,10 +38,7 @@ fn main(rt: HostRuntime) -> ExitCode {
     match outcome {
         Ok(Words::Pipe) => run(&rt),
         Ok(Words::Serve { file }) => match setup_of(&rt, &file) {
-            Ok(setup) => match serve(&rt, rt.alloc(), setup) {
-                Ok(()) => ExitCode::SUCCESS,
-                Err(fault) => ExitCode::from(fault.status()),
-            },
+            Ok(setup) => status_of(&serve(&rt, rt.alloc(), setup)),
             Err(fault) => refuse_file(&rt, &fault),
         },
         Err(fault) => refuse(&rt, &fault),
@@ -82,6 +79,14 @@ fn run(rt: &HostRuntime) -> ExitCode {
             }
             ExitCode::from(fault.status())
         }
+    }
+}
+
+/// The status with which a node ends that was served.
+fn status_of(outcome: &Result<(), ServeFault>) -> ExitCode {
+    match outcome {
+        Ok(()) => ExitCode::SUCCESS,
+        Err(fault) => ExitCode::from(fault.status()),
     }
 }
 

@@ -1,8 +1,8 @@
 //! The node over TCP: frames of its peers, and lines of its clients.
 //!
-//! Each connection is served by a thread of its own, which puts jobs into one inbox; four workers make their calls
-//! under the node's lock. A worker has no thread: whoever put jobs does them with an idle worker, and what is left is
-//! done by threads that wait for it. A thread that waits sleeps.
+//! Each connection is served by a thread of its own, which is started when the connection comes and puts jobs into one
+//! inbox; four workers make their calls under the node's lock. A worker has no thread: whoever put jobs does them with
+//! an idle worker, and what is left is done by threads that wait for it. A thread that waits sleeps.
 
 ghost use Rattle.std.specs.Prelude.{◌≡◌, length, IfOk};
 ghost use Rattle.role_daemon.specs.Linked.{ring_of};
@@ -33,7 +33,7 @@ use connection::connections;
 use crew::Crew;
 use job_queue::{JobQueue, job_queues};
 use links::Links;
-use node_lock::{Inbox, SharedNode};
+use node_lock::{Inbox, Seat, SharedNode};
 use outbox::Outbox;
 use role_node::Node;
 use shared::{Life, Shared, local};
@@ -117,12 +117,26 @@ where
     let (inbox, passes) = Inbox::new(alloc, PASSES)?;
     let queues = job_queues(alloc, &inbox, passes)?;
     let shared = shared_of::<L>(alloc, blank, setup, idle, queues)?;
-    let tasks = tasks(alloc, &shared, &listeners)?;
-    run(rt, alloc, &shared, tasks)?;
+    serve_shared(rt, alloc, &shared, &listeners)
+}
+
+/// The same with what its threads share.
+fn serve_shared<L: Ledger + Send + Sync, R>(
+    rt: &R,
+    alloc: Global,
+    shared: &Shared<'_, L>,
+    listeners: &Listeners,
+) -> Result<(), ServeFault>
+where
+    R: Net<Listener = TcpListener, Stream = TcpStream> + Threads + Wait + Clock + Sync,
+{
+    let tasks = tasks(alloc, shared, listeners)?;
+    run(rt, alloc, shared, tasks)?;
     if shared.life.lock(rt).value.failed {
-        return Err(ServeFault::Device);
+        Err(ServeFault::Device)
+    } else {
+        Ok(())
     }
-    Ok(())
 }
 
 impl Listeners {
@@ -191,15 +205,12 @@ fn shared_of<'a, L: Ledger>(
     };
     let clients = connections(alloc, &mut queues, MOST_CLIENTS)?;
     let peers = connections(alloc, &mut queues, MOST_PEERS)?;
-    let mut workers = Vec::new(alloc);
-    for (seat, queue) in seats.into_iter().zip(queues) {
-        workers.push(Worker::new(alloc, queue, seat)?)?;
-    }
+    let crew = crew_of(alloc, seats, queues)?;
     Ok(Shared {
         node,
         view_seat: Mutex::new(view_seat),
         links,
-        crew: Waiting::new(Crew::new(workers)),
+        crew: Waiting::new(crew),
         outboxes,
         clients,
         peers,
@@ -207,6 +218,19 @@ fn shared_of<'a, L: Ledger>(
         life: Waiting::new(Life { failed: false }),
         idle,
     })
+}
+
+/// A worker for each seat, with a queue of its own.
+fn crew_of<'a, L: Ledger>(
+    alloc: Global,
+    seats: Vec<Seat<L>>,
+    queues: Vec<JobQueue<'a>>,
+) -> Result<Crew<'a, L>, AllocError> {
+    let mut workers = Vec::new(alloc);
+    for (seat, queue) in seats.into_iter().zip(queues) {
+        workers.push(Worker::new(alloc, queue, seat)?)?;
+    }
+    Ok(Crew::new(workers))
 }
 
 /// An empty outbox for each other node.

@@ -155,8 +155,28 @@ fn talk_to_four(alloc: Global, streams: &[TcpStream]) -> Result<bool, Fail> {
     Ok(right)
 }
 
-/// Whether what one of four nodes issues is delivered at another.
-fn four_nodes<R>(rt: &R, alloc: Global) -> Result<bool, Fail>
+/// So many connections to each of these ports, on which nothing is said.
+fn silent_connections<R>(
+    rt: &R,
+    alloc: Global,
+    ports: &[u16],
+    count: u32,
+) -> Result<Vec<TcpStream>, Fail>
+where
+    R: Net<Listener = TcpListener, Stream = TcpStream> + Clock,
+{
+    let mut made = Vec::new(alloc);
+    for port in ports {
+        for _ in 0..count {
+            made.push(connected(rt, *port)?)?;
+        }
+    }
+    Ok(made)
+}
+
+/// Whether what one of four nodes issues is delivered at another, where each has so many connections besides on which
+/// nothing is said.
+fn four_nodes<R>(rt: &R, alloc: Global, silent: u32) -> Result<bool, Fail>
 where
     R: Net<Listener = TcpListener, Stream = TcpStream> + Threads + Wait + Clock + Sync,
 {
@@ -176,12 +196,21 @@ where
         for client in &clients {
             streams.push(connected(rt, *client)?)?;
         }
-        talk_to_four(alloc, &streams)
+        let held = silent_connections(rt, alloc, &peers, silent)?;
+        let right = talk_to_four(alloc, &streams)?;
+        drop(held);
+        Ok(right)
     })
 }
 
 #[test]
 fn four_nodes_deliver(rt: HostRuntime) -> Result<(), Fail> {
-    assert!(rt; four_nodes(&rt, rt.alloc())?);
+    assert!(rt; four_nodes(&rt, rt.alloc(), 0)?);
+    Ok(())
+}
+
+#[test]
+fn four_nodes_of_a_hundred_connections_deliver(rt: HostRuntime) -> Result<(), Fail> {
+    assert!(rt; four_nodes(&rt, rt.alloc(), 100)?);
     Ok(())
 }

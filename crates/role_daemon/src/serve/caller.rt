@@ -7,7 +7,7 @@ pub const MOST_LINES: u32 = 32;
 pub const MOST_CLIENTS: u32 = 16;
 
 /// The most connections of peers at once.
-pub const MOST_PEERS: u32 = 64;
+pub const MOST_PEERS: u32 = 128;
 
 /// The number of the first job of a peer.
 const FIRST_PEER: u32 = MOST_CLIENTS * MOST_LINES;

@@ -20,10 +20,10 @@ use std::time::{Clock, Instant};
 const BLOCK_FRAMES: usize = 160;
 
 /// How many jobs of a connection are in flight at most at first.
-const FIRST_IN_FLIGHT: u64 = 2;
+const FIRST_IN_FLIGHT: u64 = 1;
 
 /// How many jobs of all peers together are in flight at most, each by a connection that has lived a while. With the
-/// first ones of 64 connections these are 608, so that there is room in the inbox for the node itself and for clients.
+/// first ones of 128 connections these are 608, so that there is room in the inbox for the node itself and for clients.
 const MOST_IN_FLIGHT: u64 = 480;
 
 /// The milliseconds after which a connection that was not replaced by another of its node has its part of these.

@@ -1,6 +1,7 @@
 //! Connections that say nothing, and clients that hear nothing.
 
 use crate::cluster::{Mode, read_cluster};
+use crate::serve::caller::MOST_PEERS;
 use crate::serve::serve_until_idle;
 use std::alloc::Global;
 use std::io::{BufRead, BufReader, ErrorKind, Read, Write};
@@ -161,20 +162,21 @@ fn echoes<R: Clock>(rt: &R, alloc: Global, stream: &TcpStream) -> bool {
     false
 }
 
-/// Whether a frame is taken though silent peers have all 64 places, and its connection is kept as more of them come.
+/// Whether a frame is taken though silent peers have all places, and its connection is kept as more of them come than
+/// there are places.
 fn silent_peers<R>(rt: &R, alloc: Global, ports: Ports) -> Result<bool, Fail>
 where
     R: Net<Listener = TcpListener, Stream = TcpStream> + Clock,
 {
     let client = connected(rt, ports.client)?;
     let mut silent = Vec::new(alloc);
-    for _ in 0..64 {
+    for _ in 0..MOST_PEERS {
         silent.push(connected(rt, ports.peers)?)?;
     }
     let mut peer = connected(rt, ports.peers)?;
     peer.write_all(&FRAME)?;
     let taken = echoes(rt, alloc, &client);
-    for _ in 0..80 {
+    for _ in 0..MOST_PEERS + 16 {
         silent.push(connected(rt, ports.peers)?)?;
     }
     let gone = silent.iter().all(is_closed);
