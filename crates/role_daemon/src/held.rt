@@ -1,12 +1,14 @@
 //! Lines that are due and not yet written.
 
-ghost use Rattle.std.specs.Prelude.{◌≡◌, ◌++◌, [], IfErr, OnOk, OnErr};
+ghost use Rattle.std.specs.Prelude.{◌≡◌, ◌++◌, [], IfSome, IfOk, OnOk, OnErr};
 ghost use Rattle.link_frames.specs.Watching.{watched_inner, watched_tally};
 ghost use Rattle.link_frames.specs.Devices.{WentOn, CallFailed, AppendsFront};
 ghost use Rattle.link_frames.specs.Lines.{ended};
 ghost use Rattle.link_frames.specs.LinePrograms.{Moved};
 ghost use Rattle.link_frames.specs.Aheads.{front_of};
-ghost use Rattle.link_frames.specs.Holding.{IsNotDue};
+ghost use Rattle.link_frames.specs.Nexts.{Begins};
+ghost use Rattle.link_frames.specs.declared.next.Next.TheVariants.{Line};
+ghost use Rattle.role_daemon.specs.Holding.{IsNotDue};
 ghost use Rattle.client_lines.specs.Requests.{most_line_bytes};
 ghost use Rattle.std.specs.Io.KnownBytes.{Appends};
 ghost use Rattle.client_lines.specs.AnswerTexts.{IsWritten, answer_text};
@@ -65,13 +67,13 @@ impl Held {
     ) -> Result<(), DeviceFault>
         ensures ok { OnOk result (Moved (W.contents (watched_inner writer.old)) (W.contents (watched_inner writer.new))
             self.old.bytes.items self.new.bytes.items) }
-        ensures due { OnOk result (IsNotDue most_line_bytes self.new.bytes.items (front_of ahead.now)) }
+        ensures due { OnOk result (IsNotDue self.new.bytes.items (front_of ahead.now)) }
         ensures err { OnErr result (AppendsFront (W.contents (watched_inner writer.old))
             (W.contents (watched_inner writer.new)) self.old.bytes.items) }
         ensures quiet { OnOk result (WentOn (watched_tally writer.old) (watched_tally writer.new)) }
         ensures device { OnErr result (CallFailed (watched_tally writer.old) (watched_tally writer.new)) }
     {
-        if self.bytes.len() >= MOST_HELD_BYTES || !has_line(ahead) {
+        if self.bytes.len() >= MOST_HELD_BYTES || line_ahead(ahead).is_none() {
             self.write_all(writer)?;
         }
         Ok(())
@@ -88,7 +90,8 @@ impl Held {
         ahead: &mut Ahead,
         reader: &mut Watched<R>,
     ) -> Result<Next, AheadFault>
-        requires { IsNotDue most_line_bytes self.now.bytes.items (front_of ahead.old) }
+        requires { IsNotDue self.now.bytes.items (front_of ahead.old) }
+        ensures { IfOk result (λ next. Begins most_line_bytes (front_of ahead.new) next) }
     {
         ahead.peek(reader, MOST_LINE_BYTES)
     }
@@ -113,7 +116,12 @@ impl Held {
     }
 }
 
-/// Whether a whole line is ahead.
-fn has_line(ahead: &Ahead) -> bool {
-    matches!(ahead.begins(MOST_LINE_BYTES), Some(Next::Line(_)))
+/// The bytes of the line that is ahead, where it is whole.
+fn line_ahead(ahead: &Ahead) -> Option<usize>
+    ensures { IfSome result (λ count. Begins most_line_bytes (front_of ahead.now) (Line count)) }
+{
+    match ahead.begins(MOST_LINE_BYTES) {
+        Some(Next::Line(count)) => Some(count),
+        _ => None,
+    }
 }

@@ -5,8 +5,7 @@ ghost use Rattle.link_frames.specs.Watching.{watched_inner, watched_tally};
 ghost use Rattle.link_frames.specs.Devices.{WentOn, CallFailed, ReaderFailed};
 ghost use Rattle.link_frames.specs.Lines.{ended};
 ghost use Rattle.link_frames.specs.Aheads.{front_of, pending};
-ghost use Rattle.link_frames.specs.Holding.{IsNotDue};
-ghost use Rattle.client_lines.specs.Requests.{most_line_bytes};
+ghost use Rattle.role_daemon.specs.Holding.{IsNotDue};
 ghost use Rattle.role_daemon.specs.Pipes.{stops, line_text, after_line};
 ghost use Rattle.role_daemon.specs.Runs.{PipeRan, IsEndless};
 ghost use Rattle.role_daemon.specs.Steps.{IsNodeOf, RefusesNode, Opened, Answered, LinesRan, LinesEndless, Finished};
@@ -132,7 +131,7 @@ fn answer_next<R: Read>(
     held: &mut Held,
     reader: &mut Watched<R>,
 ) -> Result<bool, PipeFault>
-    requires due { IsNotDue most_line_bytes held.old.bytes.items (front_of ahead.old) }
+    requires due { IsNotDue held.old.bytes.items (front_of ahead.old) }
     ensures answered { IfOk result (Answered (pending (R.remaining (watched_inner reader.old)) ahead.old)
         (pending (R.remaining (watched_inner reader.new)) ahead.new) (R.remaining (watched_inner reader.new))
         node.old node.new held.old.bytes.items held.new.bytes.items) }
