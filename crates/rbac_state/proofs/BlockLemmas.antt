@@ -1,5 +1,6 @@
 -- Lists in blocks: where an item is looked for, and what is left where one block is changed.
-use Rattle.std.proofs.Common.{◌≡◌, ℕ, zero, suc, ◌+◌, ◌-◌, ◌<◌, ◌≤◌, Bool, true, false, ◌⊎◌, inl, inr, List, [], ◌∷◌, ◌++◌}
+use Rattle.std.proofs.Common.{◌≡◌, ℕ, zero, suc, ◌+◌, ◌-◌, ◌<◌, ◌≤◌, Bool}
+use Rattle.std.proofs.Common.{true, false, ◌⊎◌, inl, inr, List, [], ◌∷◌, ◌++◌}
 use Rattle.std.proofs.Common.{min, length, get_or, set, take, drop, refl, sym, ap, ◌∙◌, subst, arith}
 use Rattle.std.specs.declared.cmp.Ordering.{Ordering}
 use Rattle.std.specs.declared.cmp.Ordering.TheVariants.{Less, Equal, Greater}
@@ -102,14 +103,16 @@ module _ {X K : Type 0} (f : X → List K) where
         each_map (λ y. R x y ≡ Less) Q (λ y h. step x y h e) (xs ++ zs) (after_head R x (xs ++ zs) up),
       )
 
-      pub from_place : (xs : List X) → AllByRecursion (λ b. 0 < length (f b)) xs → IsStrictlySortedBy R (flat_map f xs) →
+      pub from_place : (xs : List X) → AllByRecursion (λ b. 0 < length (f b)) xs → IsStrictlySortedBy R (flat_map f
+          xs) →
           ((d : X) → 0 < length xs → begins p (f (get_or xs 0 d)) ≡ false) → AllByRecursion Q (flat_map f xs)
       from_place [] filled up fails = tt
       from_place (b ∷ bs) filled up fails = from_first (f b) (flat_map f bs) filled.0 (fails b (omega arith)) up
 
     -- such blocks are after all that begin with one that passes
     module _ (p : K → Bool) (step : (x y : K) → R x y ≡ Less → p x ≡ false → p y ≡ false) where
-      pub begins_parted : (xs : List X) → AllByRecursion (λ b. 0 < length (f b)) xs → IsStrictlySortedBy R (flat_map f xs)
+      pub begins_parted : (xs : List X) → AllByRecursion (λ b. 0 < length (f b)) xs → IsStrictlySortedBy R (flat_map
+          f xs)
           → IsPartitionedBy (λ b. begins p (f b)) xs
       begins_parted xs filled up i j d le within e =
           elim (begins p (f (get_or xs i d))) as (λ b. begins p (f (get_or xs i d)) ≡ b → b ≡ true) [

@@ -156,7 +156,8 @@ module _ {K : Type 0} {R : K → K → Ordering} (o : IsTotalOrder R) where
       (below : AllByRecursion (λ x. R x item ≡ Less) before) (above : AllByRecursion (λ y. R item y ≡ Less) after) where
     not_before : is_among R before item ≡ false
     not_before = list_any_none (eq_by_cmp R item) before (All-from_recursion (λ x. eq_by_cmp R item x ≡ false) before
-        (each_map (λ x. R x item ≡ Less) (λ x. eq_by_cmp R item x ≡ false) (λ x h. above_not_tied x item h) before below))
+        (each_map (λ x. R x item ≡ Less) (λ x. eq_by_cmp R item x ≡ false) (λ x h. above_not_tied x item h) before
+        below))
 
     not_after : is_among R after item ≡ false
     not_after = list_any_none (eq_by_cmp R item) after (All-from_recursion (λ y. eq_by_cmp R item y ≡ false) after
@@ -214,10 +215,13 @@ module _ {K : Type 0} {R : K → K → Ordering} (o : IsTotalOrder R) where
           ascends_joined R before (new ++ after) (ascends_first R before (here ++ after) up)
           (ascends_joined R new after rises (ascends_second R here after rest)
           (each_new (λ x. AllByRecursion (λ y. R x y ≡ Less) after)
-          (λ y z tied each. each_map (λ x. R z x ≡ Less) (λ x. R y x ≡ Less) (λ x h. tied_first y z x tied h) after each)
+          (λ y z tied each. each_map (λ x. R z x ≡ Less) (λ x. R y x ≡ Less) (λ x h. tied_first y z x tied h) after
+          each)
           above (below_from R here after rest)))
           (below_both R before new after
           (below_new before below (each_map (λ x. AllByRecursion (λ y. R x y ≡ Less) (here ++ after))
-          (λ x. AllByRecursion (λ y. R x y ≡ Less) here) (λ x h. each_first (λ y. R x y ≡ Less) here after h) before across))
+          (λ x. AllByRecursion (λ y. R x y ≡ Less) here) (λ x h. each_first (λ y. R x y ≡ Less) here after h) before
+          across))
           (each_map (λ x. AllByRecursion (λ y. R x y ≡ Less) (here ++ after))
-          (λ x. AllByRecursion (λ y. R x y ≡ Less) after) (λ x h. each_second (λ y. R x y ≡ Less) here after h) before across))
+          (λ x. AllByRecursion (λ y. R x y ≡ Less) after) (λ x h. each_second (λ y. R x y ≡ Less) here after h)
+          before across))

@@ -1,5 +1,6 @@
 -- A list in blocks, as what does not pass is taken from one block after another.
-use Rattle.std.proofs.Common.{◌≡◌, ℕ, zero, suc, ◌+◌, ◌-◌, ◌<◌, ◌≤◌, Bool, true, false, cond, List, [], ◌∷◌, ◌++◌, length}
+use Rattle.std.proofs.Common.{◌≡◌, ℕ, zero, suc, ◌+◌, ◌-◌, ◌<◌, ◌≤◌}
+use Rattle.std.proofs.Common.{Bool, true, false, cond, List, [], ◌∷◌, ◌++◌, length}
 use Rattle.std.proofs.Common.{get_or, set, take, drop, filter, refl, sym, ap, ◌∙◌, subst, arith}
 use Rattle.std.specs.Prelude.{vec_len, vec_capacity}
 use Rattle.std.specs.declared.vec.Vec.{Vec}
@@ -44,7 +45,13 @@ module _ {X Z : Type 0} (p : X → Bool) where
   kept_without [] zero y here each = tt
   kept_without [] (suc i) y here each = tt
   kept_without (b ∷ bs) zero y here each =
-      elim (has_none y.items) as (λ t. AllByRecursion Passes (cond t bs (y ∷ bs))) [ true ↦ each | false ↦ (here, each) ]
+      elim (has_none y.items) as (λ t. AllByRecursion Passes (cond t bs (y ∷ bs))) [
+        | true ↦ each
+        | false ↦ (
+          here,
+          each,
+        )
+      ]
   kept_without (b ∷ bs) (suc i) y here each = kept_without bs i y here each
 
   kept_tidied : (bs : List (Vec X Z)) (i : ℕ) (y : Vec X Z) → Passes y → AllByRecursion Passes (drop (suc i) bs) →

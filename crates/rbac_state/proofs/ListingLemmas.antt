@@ -77,7 +77,8 @@ module _ (value : PolicyValue) (users : Relation ℕ ℕ)
     ascending = seconds_ascend nat_cmp nat_cmp_total user (items_in users.by_first.items) kept.by_first;
     exact = λ role.
         iff_trans
-        (seconds_members nat_cmp_total nat_cmp_total exact_unsigned exact_unsigned (items_in users.by_first.items) user role)
+        (seconds_members nat_cmp_total nat_cmp_total exact_unsigned exact_unsigned (items_in users.by_first.items)
+        user role)
         (iff_same _ _ (assigned_is user role));
   }
 
@@ -87,7 +88,8 @@ module _ (value : PolicyValue) (users : Relation ℕ ℕ)
     ascending = seconds_ascend nat_cmp nat_cmp_total role (items_in users.by_second.items) kept.by_second;
     exact = λ user.
         iff_trans
-        (seconds_members nat_cmp_total nat_cmp_total exact_unsigned exact_unsigned (items_in users.by_second.items) role user)
+        (seconds_members nat_cmp_total nat_cmp_total exact_unsigned exact_unsigned (items_in users.by_second.items)
+        role user)
         (iff_same _ _ (kept.same user role ∙ assigned_is user role));
   }
 
@@ -101,7 +103,8 @@ module _ (value : PolicyValue) (grants : Relation (ℕ × ℕ) ℕ)
       ∙ ap (λ g. set.contains g (p, role)) is
 
   pub granted_is : (p : ℕ × ℕ) (role : ℕ) →
-      is_among (pair_cmp nat_cmp permission_cmp) (items_in grants.by_second.items) (role, p) ≡ granted_in value p.0 p.1 role
+      is_among (pair_cmp nat_cmp permission_cmp) (items_in grants.by_second.items) (role, p) ≡ granted_in value p.0
+      p.1 role
   granted_is p role = kept.same p role ∙ may_is p role
 
   abbrev of_role : ℕ → List (ℕ × (ℕ × ℕ))
@@ -111,7 +114,8 @@ module _ (value : PolicyValue) (grants : Relation (ℕ × ℕ) ℕ)
       Contains (map (λ g. g.1) (of_role role)) p ↔ IsTrue (granted_in value p.0 p.1 role)
   role_may role p =
       iff_trans
-      (seconds_members nat_cmp_total permissions_total exact_unsigned permissions_exact (items_in grants.by_second.items) role p)
+      (seconds_members nat_cmp_total permissions_total exact_unsigned permissions_exact (items_in
+      grants.by_second.items) role p)
       (iff_same _ _ (granted_is p role))
 
   pub permissions_listing : (role : ℕ) → IsListing permission_cmp (λ p. IsTrue (granted_in value p.0 p.1 role))

@@ -1,5 +1,6 @@
 -- What a list in blocks has, with an item put into its block or taken from it.
-use Rattle.std.proofs.Common.{◌≡◌, ℕ, zero, suc, ◌+◌, ◌-◌, ◌<◌, ◌≤◌, Bool, true, false, not, ◌&&◌, ◌||◌, ◌⊎◌, inl, inr, cond, ◌==◌}
+use Rattle.std.proofs.Common.{◌≡◌, ℕ, zero, suc, ◌+◌, ◌-◌, ◌<◌, ◌≤◌, Bool}
+use Rattle.std.proofs.Common.{true, false, not, ◌&&◌, ◌||◌, ◌⊎◌, inl, inr, cond, ◌==◌}
 use Rattle.std.proofs.Common.{eq-eqb}
 use Rattle.std.proofs.lemmas.Bool.{eqb-true}
 use Rattle.std.proofs.Common.{List, [], ◌∷◌, ◌++◌, length, get_or, set, take, drop, refl, sym, ap, ◌∙◌, subst, arith}
@@ -229,7 +230,8 @@ module _ {X Z : Type 0} where
               omega (arith, b.ok.0, y.ok.0));
         }
 
-    pub are_blocks_taken : vec_len y ≤ vec_len b → (room : ℕ) → AreBlocks room bs → AreBlocks room (tidied i (set bs i y))
+    pub are_blocks_taken : vec_len y ≤ vec_len b → (room : ℕ) → AreBlocks room bs → AreBlocks room (tidied i (set bs
+        i y))
     are_blocks_taken shrinks room are =
         let was : IsRoomy room b = here_roomy room are in
         let long : length (set bs i y) ≡ length bs = length_same bs i y in

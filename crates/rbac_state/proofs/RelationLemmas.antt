@@ -95,12 +95,14 @@ module _ {A B : Type 0} (R : A → A → Ordering) {S : B → B → Ordering} (o
 
   -- a relation without the pairs of a second
   module _ (old new : Relation A B) (second : B)
-      (by_first : (items_in new.by_first.items) ≡ filter (λ p. not (eq_by_cmp S p.1 second)) (items_in old.by_first.items)) where
+      (by_first : (items_in new.by_first.items) ≡ filter (λ p. not (eq_by_cmp S p.1 second)) (items_in
+      old.by_first.items)) where
     pub relates_others : (a : A) (b : B) → relates R S new a b ≡ (not (eq_by_cmp S b second) && relates R S old a b)
     relates_others a b =
         ap (λ l. is_among (pair_cmp R S) l (a, b)) by_first ∙ among_others second (items_in old.by_first.items) a b
 
-    pub kept_without : (items_in new.by_second.items) ≡ filter (λ p. not (eq_by_cmp S p.0 second)) (items_in old.by_second.items)
+    pub kept_without : (items_in new.by_second.items) ≡ filter (λ p. not (eq_by_cmp S p.0 second)) (items_in
+        old.by_second.items)
         → IsKeptBothWays R S old → AreBlocks new.room new.by_first.items → AreBlocks new.room new.by_second.items
         → IsKeptBothWays R S new
     kept_without by_second kept first_blocks second_blocks = record {
@@ -111,7 +113,8 @@ module _ {A B : Type 0} (R : A → A → Ordering) {S : B → B → Ordering} (o
       by_second = subst (IsStrictlySortedBy (pair_cmp S R)) (sym by_second)
           (IsStrictlySortedBy-filter (pair_cmp S R) _ _ kept.by_second);
       same = λ a b.
-          ap (λ l. is_among (pair_cmp S R) l (b, a)) by_second ∙ among_turned_others second (items_in old.by_second.items) a b
+          ap (λ l. is_among (pair_cmp S R) l (b, a)) by_second ∙ among_turned_others second (items_in
+          old.by_second.items) a b
           ∙ ap (λ x. not (eq_by_cmp S b second) && x) (kept.same a b) ∙ sym (relates_others a b);
     }
 

@@ -1,5 +1,6 @@
 -- A list in blocks, as one block after another is split.
-use Rattle.std.proofs.Common.{◌≡◌, ℕ, zero, suc, ◌+◌, ◌-◌, ◌<◌, ◌≤◌, List, [], ◌∷◌, ◌++◌, length, get_or, take, drop, refl}
+use Rattle.std.proofs.Common.{◌≡◌, ℕ, zero, suc, ◌+◌, ◌-◌, ◌<◌, ◌≤◌}
+use Rattle.std.proofs.Common.{List, [], ◌∷◌, ◌++◌, length, get_or, take, drop, refl}
 use Rattle.std.proofs.Common.{set, sym, ap, ◌∙◌, subst, arith, append_assoc, ◌/◌}
 use Rattle.std.specs.Prelude.{vec_len, vec_capacity}
 use Rattle.std.specs.declared.vec.Vec.{Vec}
@@ -28,7 +29,14 @@ each_later : {X : Type 0} (P : X → Type 0) (xs : List X) (a b : X) (i : ℕ) �
 each_later P [] a b i within each pa pb = absurd (omega arith)
 each_later P (x ∷ xs) a b zero within each pa pb = (pb, each)
 each_later P (x ∷ xs) a b (suc i) within each pa pb =
-    each_append P (take i xs) (a ∷ (b ∷ drop (suc i) xs)) (each_take P i xs each) (pa, (pb, each_drop P (suc i) xs each))
+    each_append P (take i xs) (a ∷ (b ∷ drop (suc i) xs)) (each_take P i xs each) (
+      pa,
+      (
+        pb,
+        each_drop P (suc i) xs
+            each,
+      ),
+    )
 
 pub nothing_left : {Y : Type 0} (P : Y → Type 0) (ys : List Y) → AllByRecursion P (drop (length ys) ys)
 nothing_left P [] = tt
@@ -128,7 +136,8 @@ module _ {X Z : Type 0} where
         ∙ ap (λ (c : Vec X Z). items_in (take i bs) ++ (c.items ++ items_in (drop (i + 1) bs))) at
         ∙ sym (around (λ (c : Vec X Z). c.items) bs i b within)
 
-    pub roomy_split : (new : List (Vec X Z)) (b : Vec X Z) → b ≡ get_or bs (place - 1) b → block_size - least < vec_len b →
+    pub roomy_split : (new : List (Vec X Z)) (b : Vec X Z) → b ≡ get_or bs (place - 1) b → block_size - least <
+        vec_len b →
         IsSplit (place - 1) bs new → IsRoomyFrom least (place - 1) old new
     roomy_split new b at long split =
         let i : ℕ = place - 1 in
@@ -140,7 +149,14 @@ module _ {X Z : Type 0} where
         let here : vec_len b ≤ block_size = omega (arith, was.len) in
         let halves : vec_len split.lower + vec_len split.upper ≡ vec_len b = split.len ∙ sym lens in
         let low : IsRoomy least split.lower =
-        record { len = omega (arith, split.even, split.odd); capacity = omega (arith, split.lower_capacity, was.capacity) } in
+        record {
+          len = omega (arith, split.even, split.odd);
+          capacity = omega (
+            arith,
+            split.lower_capacity,
+            was.capacity,
+          );
+        } in
         let high : IsRoomy least split.upper =
         record { len = omega (arith, split.even, split.odd); capacity = split.upper_capacity } in
         let e : suc i ≡ place = omega arith in

@@ -30,4 +30,5 @@ pub returns-clause-room : goal.returns-clause-room
 returns-clause-room g c =
     are_blocks_put c.args.blocks.now.items c.place_of-place.result c.index_mut.result.now c.put.new.items
     c.index_mut.ensures.value (rw (c.deref.ensures.value) at (c.place_of-place.ensures.within
-    (rw (c.deref.ensures.value) (c.requires.room.some (omega arith))))) c.put.ensures.capacity c.put.ensures.grows c.put.ensures.by_one
+    (rw (c.deref.ensures.value) (c.requires.room.some (omega arith))))) c.put.ensures.capacity c.put.ensures.grows
+    c.put.ensures.by_one

@@ -12,7 +12,8 @@ take_away-requires g c =
 
 pub returns-then-place-len-clause-ascending : goal.returns-then-place-len-clause-ascending
 returns-then-place-len-clause-ascending g c =
-    subst (IsStrictlySortedBy g.T.Ord.cmp) (sym (ap items_in c.drop_if_empty.ensures ∙ same_tidied c.place_of-place.result _))
+    subst (IsStrictlySortedBy g.T.Ord.cmp) (sym (ap items_in c.drop_if_empty.ensures ∙ same_tidied
+    c.place_of-place.result _))
     (ascends_taken (λ b. b.items) c.args.blocks.now.items c.place_of-place.result c.index_mut.result.now
     c.index_mut.ensures.value (omega (arith, c.args.blocks.now.ok.0, c.len.ensures)) g.met.T.Ord.total c.args.item.now
     (rw (c.deref.ensures.value) at c.place_of-place.ensures.below)
@@ -32,4 +33,5 @@ pub returns-then-place-len-clause-room : goal.returns-then-place-len-clause-room
 returns-then-place-len-clause-room g c room are =
     subst (AreBlocks room) (sym c.drop_if_empty.ensures)
     (are_blocks_taken c.args.blocks.now.items c.place_of-place.result c.index_mut.result.now c.take_away.new.items
-    c.index_mut.ensures.value (omega (arith, c.args.blocks.now.ok.0, c.len.ensures)) c.take_away.ensures.capacity c.take_away.ensures.shrinks room are)
+    c.index_mut.ensures.value (omega (arith, c.args.blocks.now.ok.0, c.len.ensures)) c.take_away.ensures.capacity
+    c.take_away.ensures.shrinks room are)

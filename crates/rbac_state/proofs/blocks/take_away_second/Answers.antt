@@ -6,8 +6,10 @@ use Rattle.rbac_state.proofs.blocks.take_away_second.Goals as goal
 pub loop-place-preserved : goal.loop-place-preserved
 loop-place-preserved g c =
     kept_more (λ p. not (eq_by_cmp g.B.Ord.cmp p.1 c.args.second)) c.args.blocks.now.items c.loop-place.blocks.items _
-    c.loop-place.place (c.loop-place.place - 1) c.index_mut.result.now c.take_away_second.new.pairs c.loop-place.invariant
-    c.loop-place-test.true refl c.index_mut.ensures.value c.take_away_second.ensures.items c.take_away_second.ensures.shrinks
+    c.loop-place.place (c.loop-place.place - 1) c.index_mut.result.now c.take_away_second.new.pairs
+    c.loop-place.invariant
+    c.loop-place-test.true refl c.index_mut.ensures.value c.take_away_second.ensures.items
+    c.take_away_second.ensures.shrinks
     c.take_away_second.ensures.capacity c.drop_if_empty.ensures
 
 pub returns-clause-items : goal.returns-clause-items

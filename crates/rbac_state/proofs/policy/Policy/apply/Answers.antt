@@ -25,7 +25,8 @@ returns-in-Deassign-clause-applied c =
     ∙ sym c.is_owned_by.ensures.value ∙ c.if-not-is_owned_by.false in
     rw (c.in-Deassign.is, ← c.self.view_is)
     (applied-Deassign c.args.owner c.in-Deassign.user c.in-Deassign.role _ _ owned refl refl
-    (λ user role. assigned-take_away (items_in c.self.inside.assigned.by_first.items) _ c.in-Deassign.user c.in-Deassign.role
+    (λ user role. assigned-take_away (items_in c.self.inside.assigned.by_first.items) _ c.in-Deassign.user
+    c.in-Deassign.role
     user role (c.take_away.ensures.members user role)))
 
 pub returns-in-Grant-clause-applied : goal.returns-in-Grant-clause-applied
@@ -58,5 +59,6 @@ returns-in-Clear-clause-applied c =
     (applied-Clear c.args.owner c.in-Clear.role _ _ owned refl
     (λ user role. assigned-clear (items_in c.self.inside.assigned.by_first.items) _ c.in-Clear.role user role
     (c.take_away_second.ensures.members user role))
-    (λ operation object role. granted-clear (items_in c.self.inside.granted.by_first.items) _ c.in-Clear.role operation object role
+    (λ operation object role. granted-clear (items_in c.self.inside.granted.by_first.items) _ c.in-Clear.role
+    operation object role
     (c.take_away_second-in-Clear.ensures.members (operation, object) role)))

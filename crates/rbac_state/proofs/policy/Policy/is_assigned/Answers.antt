@@ -8,5 +8,8 @@ use Rattle.rbac_state.proofs.policy.Policy.is_assigned.Goals as goal
 pub returns : goal.returns
 returns c =
     c.has.ensures
-    ∙ sym (set.contains-from_list assignments_total (items_in c.self.inside.assigned.by_first.items) (c.args.user, c.args.role))
+    ∙ sym (set.contains-from_list assignments_total (items_in c.self.inside.assigned.by_first.items) (
+      c.args.user,
+      c.args.role,
+    ))
     ∙ ap (λ p. assigned_in p c.args.user c.args.role) c.self.view_is
