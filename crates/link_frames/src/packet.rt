@@ -44,15 +44,30 @@ impl Model for Packet {
     ghost Value = { PacketValue };
 
     ghost view = { λ a. record {
-      from = a.from; to = a.to; kind = a.kind; owner = a.owner; place = a.place; command = a.command;
+      from = a.from;
+      to = a.to;
+      kind = a.kind;
+      owner = a.owner;
+      place = a.place;
+      command = a.command;
     } };
 
     ghost invariant = { λ a. IsPacket (record {
-      from = a.from; to = a.to; kind = a.kind; owner = a.owner; place = a.place; command = a.command;
+      from = a.from;
+      to = a.to;
+      kind = a.kind;
+      owner = a.owner;
+      place = a.place;
+      command = a.command;
     }) };
 
     ghost inverse = { λ p. record {
-      from = p.from; to = p.to; kind = p.kind; owner = p.owner; place = p.place; command = p.command;
+      from = p.from;
+      to = p.to;
+      kind = p.kind;
+      owner = p.owner;
+      place = p.place;
+      command = p.command;
     } };
 }
 
