@@ -3,6 +3,11 @@ pub mod OneListing
 pub mod PairLemmas
 pub mod SortedLemmas
 pub mod RangeLemmas
+pub mod EachLemmas
+pub mod BlockLemmas
+pub mod PlaceLemmas
+pub mod SplitLemmas
+pub mod KeepLemmas
 pub mod RelationLemmas
 pub mod FirstLemmas
 pub mod StreamLemmas

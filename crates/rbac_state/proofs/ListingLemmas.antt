@@ -12,6 +12,7 @@ use Rattle.std.proofs.lemmas.List.{take_more, flat_map_more}
 use Rattle.std.proofs.lemmas.List.Elements.{Contains-append_left, Contains-append_right, Contains-append_cases}
 use Rattle.std.proofs.lemmas.Map.Lookups.{exact_unsigned}
 use Rattle.std.proofs.lemmas.Map.Views.{exact_unsigned_eq}
+use Rattle.rbac_state.specs.Blocks.{items_in}
 use Rattle.rbac_state.specs.declared.relation.Relation.{Relation}
 use Rattle.rbac_state.specs.Listings.{IsListing}
 use Rattle.rbac_state.specs.Policies.{PolicyValue, assignment_cmp, permission_cmp}
@@ -62,61 +63,65 @@ joined_more f xs i d old new within was is =
     ∙ ap (flat_map f) (sym (take_more xs i d within))
 
 module _ (value : PolicyValue) (users : Relation ℕ ℕ)
-    (is : set.from_list {R = assignment_cmp} users.by_first.items ≡ value.assignments)
+    (is : set.from_list {R = assignment_cmp} (items_in users.by_first.items) ≡ value.assignments)
     (kept : IsKeptBothWays nat_cmp nat_cmp users) where
   pub assigned_is : (user role : ℕ) →
-      is_among assignment_cmp users.by_first.items (user, role) ≡ assigned_in value user role
+      is_among assignment_cmp (items_in users.by_first.items) (user, role) ≡ assigned_in value user role
   assigned_is user role =
-      sym (set.contains-from_list assignments_total users.by_first.items (user, role))
+      sym (set.contains-from_list assignments_total (items_in users.by_first.items) (user, role))
       ∙ ap (λ a. set.contains a (user, role)) is
 
   pub roles_listing : (user : ℕ) → IsListing nat_cmp (λ role. IsTrue (assigned_in value user role))
-      (map (λ p. p.1) (filter (λ p. eq_by_cmp nat_cmp user p.0) users.by_first.items))
+      (map (λ p. p.1) (filter (λ p. eq_by_cmp nat_cmp user p.0) (items_in users.by_first.items)))
   roles_listing user = record {
-    ascending = seconds_ascend nat_cmp nat_cmp_total user users.by_first.items kept.by_first;
+    ascending = seconds_ascend nat_cmp nat_cmp_total user (items_in users.by_first.items) kept.by_first;
     exact = λ role.
         iff_trans
-        (seconds_members nat_cmp_total nat_cmp_total exact_unsigned exact_unsigned users.by_first.items user role)
+        (seconds_members nat_cmp_total nat_cmp_total exact_unsigned exact_unsigned (items_in users.by_first.items)
+        user role)
         (iff_same _ _ (assigned_is user role));
   }
 
   pub users_listing : (role : ℕ) → IsListing nat_cmp (λ user. IsTrue (assigned_in value user role))
-      (map (λ p. p.1) (filter (λ p. eq_by_cmp nat_cmp role p.0) users.by_second.items))
+      (map (λ p. p.1) (filter (λ p. eq_by_cmp nat_cmp role p.0) (items_in users.by_second.items)))
   users_listing role = record {
-    ascending = seconds_ascend nat_cmp nat_cmp_total role users.by_second.items kept.by_second;
+    ascending = seconds_ascend nat_cmp nat_cmp_total role (items_in users.by_second.items) kept.by_second;
     exact = λ user.
         iff_trans
-        (seconds_members nat_cmp_total nat_cmp_total exact_unsigned exact_unsigned users.by_second.items role user)
+        (seconds_members nat_cmp_total nat_cmp_total exact_unsigned exact_unsigned (items_in users.by_second.items)
+        role user)
         (iff_same _ _ (kept.same user role ∙ assigned_is user role));
   }
 
 module _ (value : PolicyValue) (grants : Relation (ℕ × ℕ) ℕ)
-    (is : set.from_list {R = grant_cmp} grants.by_first.items ≡ value.grants)
+    (is : set.from_list {R = grant_cmp} (items_in grants.by_first.items) ≡ value.grants)
     (kept : IsKeptBothWays permission_cmp nat_cmp grants) where
   pub may_is : (p : ℕ × ℕ) (role : ℕ) →
-      is_among grant_cmp grants.by_first.items (p, role) ≡ granted_in value p.0 p.1 role
+      is_among grant_cmp (items_in grants.by_first.items) (p, role) ≡ granted_in value p.0 p.1 role
   may_is p role =
-      sym (set.contains-from_list grants_total grants.by_first.items (p, role))
+      sym (set.contains-from_list grants_total (items_in grants.by_first.items) (p, role))
       ∙ ap (λ g. set.contains g (p, role)) is
 
   pub granted_is : (p : ℕ × ℕ) (role : ℕ) →
-      is_among (pair_cmp nat_cmp permission_cmp) grants.by_second.items (role, p) ≡ granted_in value p.0 p.1 role
+      is_among (pair_cmp nat_cmp permission_cmp) (items_in grants.by_second.items) (role, p) ≡ granted_in value p.0
+      p.1 role
   granted_is p role = kept.same p role ∙ may_is p role
 
   abbrev of_role : ℕ → List (ℕ × (ℕ × ℕ))
-  of_role role = filter (λ g. eq_by_cmp nat_cmp role g.0) grants.by_second.items
+  of_role role = filter (λ g. eq_by_cmp nat_cmp role g.0) (items_in grants.by_second.items)
 
   role_may : (role : ℕ) (p : ℕ × ℕ) →
       Contains (map (λ g. g.1) (of_role role)) p ↔ IsTrue (granted_in value p.0 p.1 role)
   role_may role p =
       iff_trans
-      (seconds_members nat_cmp_total permissions_total exact_unsigned permissions_exact grants.by_second.items role p)
+      (seconds_members nat_cmp_total permissions_total exact_unsigned permissions_exact (items_in
+      grants.by_second.items) role p)
       (iff_same _ _ (granted_is p role))
 
   pub permissions_listing : (role : ℕ) → IsListing permission_cmp (λ p. IsTrue (granted_in value p.0 p.1 role))
       (map (λ g. g.1) (of_role role))
   permissions_listing role = record {
-    ascending = seconds_ascend permission_cmp nat_cmp_total role grants.by_second.items kept.by_second;
+    ascending = seconds_ascend permission_cmp nat_cmp_total role (items_in grants.by_second.items) kept.by_second;
     exact = role_may role;
   }
 

@@ -12,6 +12,7 @@ use Rattle.std.proofs.lemmas.Cmp.{eq_by_cmp_equiv, then_total, on_total}
 use Rattle.std.proofs.lemmas.List.Kept.{IsStrictlySortedBy-filter}
 use Rattle.std.proofs.lemmas.Map.Lookups.{CmpEqualImpliesEq, exact_pairs}
 use Rattle.std.proofs.lemmas.Map.Views.{any-filter_same, Contains-from_any, list_any-from_Contains, tells_apart}
+use Rattle.rbac_state.specs.Blocks.{AreBlocks, items_in}
 use Rattle.rbac_state.specs.Relations.{pair_cmp, is_among, relates, IsKeptBothWays}
 use Rattle.rbac_state.specs.declared.relation.Relation.{Relation}
 use Rattle.rbac_state.proofs.Members.{picked_from, picked_into}
@@ -94,20 +95,26 @@ module _ {A B : Type 0} (R : A → A → Ordering) {S : B → B → Ordering} (o
 
   -- a relation without the pairs of a second
   module _ (old new : Relation A B) (second : B)
-      (by_first : new.by_first.items ≡ filter (λ p. not (eq_by_cmp S p.1 second)) old.by_first.items) where
+      (by_first : (items_in new.by_first.items) ≡ filter (λ p. not (eq_by_cmp S p.1 second)) (items_in
+      old.by_first.items)) where
     pub relates_others : (a : A) (b : B) → relates R S new a b ≡ (not (eq_by_cmp S b second) && relates R S old a b)
     relates_others a b =
-        ap (λ l. is_among (pair_cmp R S) l (a, b)) by_first ∙ among_others second old.by_first.items a b
+        ap (λ l. is_among (pair_cmp R S) l (a, b)) by_first ∙ among_others second (items_in old.by_first.items) a b
 
-    pub kept_without : new.by_second.items ≡ filter (λ p. not (eq_by_cmp S p.0 second)) old.by_second.items
-        → IsKeptBothWays R S old → IsKeptBothWays R S new
-    kept_without by_second kept = record {
+    pub kept_without : (items_in new.by_second.items) ≡ filter (λ p. not (eq_by_cmp S p.0 second)) (items_in
+        old.by_second.items)
+        → IsKeptBothWays R S old → AreBlocks new.room new.by_first.items → AreBlocks new.room new.by_second.items
+        → IsKeptBothWays R S new
+    kept_without by_second kept first_blocks second_blocks = record {
+      first_blocks = first_blocks;
+      second_blocks = second_blocks;
       by_first = subst (IsStrictlySortedBy (pair_cmp R S)) (sym by_first)
           (IsStrictlySortedBy-filter (pair_cmp R S) _ _ kept.by_first);
       by_second = subst (IsStrictlySortedBy (pair_cmp S R)) (sym by_second)
           (IsStrictlySortedBy-filter (pair_cmp S R) _ _ kept.by_second);
       same = λ a b.
-          ap (λ l. is_among (pair_cmp S R) l (b, a)) by_second ∙ among_turned_others second old.by_second.items a b
+          ap (λ l. is_among (pair_cmp S R) l (b, a)) by_second ∙ among_turned_others second (items_in
+          old.by_second.items) a b
           ∙ ap (λ x. not (eq_by_cmp S b second) && x) (kept.same a b) ∙ sym (relates_others a b);
     }
 

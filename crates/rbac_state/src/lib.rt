@@ -2,6 +2,7 @@
 //! the relations of Core RBAC (ANSI INCITS 359-2004) with its review functions.
 #![tactic(auto)]
 
+mod blocks;
 pub mod laws;
 mod listing;
 mod policy;

@@ -38,12 +38,13 @@ impl Model for Policy {
 
     ghost coded = { policy_code };
 
+    ghost use Rattle.rbac_state.specs.Blocks.{items_in};
     ghost use Rattle.rbac_state.specs.Relations.{AreKept, room_of};
 
     ghost view = { λ a. record {
       table = a.roles;
-      assignments = set.from_list a.assigned.by_first.items;
-      grants = set.from_list a.granted.by_first.items;
+      assignments = set.from_list (items_in a.assigned.by_first.items);
+      grants = set.from_list (items_in a.granted.by_first.items);
       room = min (room_of a.assigned) (room_of a.granted);
     } };
 
@@ -168,7 +169,7 @@ impl Policy {
         ensures { IfOk result (λ users.
             IsListing nat_cmp (λ user. HasRole self.now user role) users.items) }
     {
-        select::seconds(self.alloc(), self.assigned.with_second(role))
+        select::seconds(self.alloc(), self.assigned.with_second(), role)
     }
 
     /// The roles that the user has, in ascending order.
@@ -180,7 +181,7 @@ impl Policy {
         ensures { IfOk result (λ roles.
             IsListing nat_cmp (λ role. HasRole self.now user role) roles.items) }
     {
-        select::seconds(self.alloc(), self.assigned.with_first(user))
+        select::seconds(self.alloc(), self.assigned.with_first(), user)
     }
 
     /// What the role may do, in ascending order of the operation and then of the object.
@@ -192,7 +193,7 @@ impl Policy {
         ensures { IfOk result (λ permissions.
             IsListing permission_cmp (λ p. RoleMay self.now role p.0 p.1) permissions.items) }
     {
-        select::seconds(self.alloc(), self.granted.with_second(role))
+        select::seconds(self.alloc(), self.granted.with_second(), role)
     }
 
     /// What some role of the user may do, in ascending order of the operation and then of the object.

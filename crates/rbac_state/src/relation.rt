@@ -1,46 +1,70 @@
 ghost use Rattle.std.specs.Prelude.{◌≡◌, ◌<◌, ◌≤◌, ◌+◌, ◌||◌, ◌&&◌, not, [], filter, OnOk, OnErr};
 ghost use Rattle.std.specs.Ordering.{eq_by_cmp};
+ghost use Rattle.rbac_state.specs.Blocks.{items_in};
 ghost use Rattle.rbac_state.specs.Relations.{IsKeptBothWays, SamePairs, relates, room_of};
 
-use crate::room::spare;
-use crate::sorted;
+use crate::blocks;
 use std::alloc::{AllocError, Global};
 use std::cmp::Ord;
 
 /// A finite relation. Its pairs are kept twice, in ascending order by either side, so that a look-up
-/// from either side is a binary search.
+/// from either side is a binary search, and in blocks, so that a change moves few of them.
 #[derive(Drop, Debug)]
 pub struct Relation<A, B> {
-    by_first: Vec<(A, B)>,
-    by_second: Vec<(B, A)>,
+    by_first: Vec<Vec<(A, B)>>,
+    by_second: Vec<Vec<(B, A)>>,
+    /// So many places, or more, are free in each block.
+    room: usize,
 }
 
 impl<A: Ord + Copy + Drop, B: Ord + Copy + Drop> Relation<A, B> {
     /// The relation of no pairs. It takes no memory.
     pub fn new(alloc: Global) -> Self
         ensures kept { IsKeptBothWays A.cmp B.cmp result }
-        ensures blank { result.by_first.items ≡ [] }
+        ensures blank { items_in result.by_first.items ≡ [] }
     {
         Relation {
             by_first: Vec::new(alloc),
             by_second: Vec::new(alloc),
+            room: 0,
         }
     }
 
-    /// Makes room for so many pairs, or more.
+    /// Makes room for so many pairs, or more. Where there is less, room is made for twice as many, so
+    /// that the blocks are gone over once in so many pairs.
     ///
     /// # Errors
     ///
     /// Only for want of memory, where there is less room than that. The pairs stay as they were.
     #[inline(always)]
     pub fn make_room(&mut self, least: usize) -> Result<(), AllocError>
+        requires few { least ≤ 128 }
+        requires kept { IsKeptBothWays A.cmp B.cmp self.old }
+        ensures kept { IsKeptBothWays A.cmp B.cmp self.new }
         ensures ok { OnOk result (least ≤ room_of self.new) }
         ensures full { OnErr result (room_of self.old < least) }
         ensures more { room_of self.old ≤ room_of self.new }
         ensures same { SamePairs self.old self.new }
     {
-        self.by_first.try_reserve(least)?;
-        self.by_second.try_reserve(least)?;
+        if self.room < least {
+            self.free(2 * least)?;
+        }
+        Ok(())
+    }
+
+    /// Makes room for so many pairs, which are more than there is room for.
+    fn free(&mut self, room: usize) -> Result<(), AllocError>
+        requires few { room ≤ 256 }
+        requires more { room_of self.old ≤ room }
+        requires kept { IsKeptBothWays A.cmp B.cmp self.old }
+        ensures kept { IsKeptBothWays A.cmp B.cmp self.new }
+        ensures ok { OnOk result (room_of self.new ≡ room) }
+        ensures err { OnErr result (room_of self.new ≡ room_of self.old) }
+        ensures same { SamePairs self.old self.new }
+    {
+        blocks::make_room(&mut self.by_first, room)?;
+        blocks::make_room(&mut self.by_second, room)?;
+        self.room = room;
         Ok(())
     }
 
@@ -48,7 +72,7 @@ impl<A: Ord + Copy + Drop, B: Ord + Copy + Drop> Relation<A, B> {
     pub fn room(&self) -> usize
         ensures { result ≡ room_of self.now }
     {
-        spare(&self.by_first).min(spare(&self.by_second))
+        self.room
     }
 
     /// Puts the pair, unless it is there. It takes no memory.
@@ -60,8 +84,9 @@ impl<A: Ord + Copy + Drop, B: Ord + Copy + Drop> Relation<A, B> {
             ≡ ((eq_by_cmp A.cmp a first && eq_by_cmp B.cmp b second) || relates A.cmp B.cmp self.old a b) }
         ensures room { room_of self.old ≤ room_of self.new + 1 }
     {
-        sorted::put(&mut self.by_first, (first, second));
-        sorted::put(&mut self.by_second, (second, first));
+        blocks::put(&mut self.by_first, (first, second));
+        blocks::put(&mut self.by_second, (second, first));
+        self.room -= 1;
     }
 
     /// Takes the pair away, if it is there.
@@ -72,8 +97,8 @@ impl<A: Ord + Copy + Drop, B: Ord + Copy + Drop> Relation<A, B> {
             ≡ (not (eq_by_cmp A.cmp a first && eq_by_cmp B.cmp b second) && relates A.cmp B.cmp self.old a b) }
         ensures room { room_of self.old ≤ room_of self.new }
     {
-        sorted::take_away(&mut self.by_first, &(first, second));
-        sorted::take_away(&mut self.by_second, &(second, first));
+        blocks::take_away(&mut self.by_first, &(first, second));
+        blocks::take_away(&mut self.by_second, &(second, first));
     }
 
     /// Takes away all pairs of this second. It takes no memory.
@@ -84,16 +109,8 @@ impl<A: Ord + Copy + Drop, B: Ord + Copy + Drop> Relation<A, B> {
             ≡ (not (eq_by_cmp B.cmp b second) && relates A.cmp B.cmp self.old a b) }
         ensures room { room_of self.old ≤ room_of self.new }
     {
-        self.by_first.retain(
-            |pair: &(A, B)| -> bool
-                ensures { result ≡ not (eq_by_cmp B.cmp pair.now.1 second) }
-            { pair.1.cmp(&second).is_ne() },
-        );
-        self.by_second.retain(
-            |pair: &(B, A)| -> bool
-                ensures { result ≡ not (eq_by_cmp B.cmp pair.now.0 second) }
-            { pair.0.cmp(&second).is_ne() },
-        );
+        blocks::take_away_second(&mut self.by_first, second);
+        blocks::take_away_first(&mut self.by_second, second);
     }
 
     /// Whether the pair is in the relation.
@@ -101,23 +118,23 @@ impl<A: Ord + Copy + Drop, B: Ord + Copy + Drop> Relation<A, B> {
         requires { IsKeptBothWays A.cmp B.cmp self.now }
         ensures { result ≡ relates A.cmp B.cmp self.now first second }
     {
-        sorted::has(&self.by_first, &(first, second))
+        blocks::has(&self.by_first, &(first, second))
     }
 
-    /// The pairs of this first, in ascending order of the second.
-    pub fn with_first(&self, first: A) -> &[(A, B)]
+    /// The blocks of the pairs, in ascending order, in which those of this first lie.
+    pub fn with_first(&self) -> &[Vec<(A, B)>]
         requires { IsKeptBothWays A.cmp B.cmp self.now }
-        ensures { result.now ≡ filter (λ p. eq_by_cmp A.cmp first p.0) self.now.by_first.items }
+        ensures { result.now ≡ self.now.by_first.items }
     {
-        sorted::beginning_with(&self.by_first, &first)
+        &self.by_first
     }
 
-    /// The pairs of this second, turned, in ascending order of the first.
-    pub fn with_second(&self, second: B) -> &[(B, A)]
+    /// The blocks of the pairs turned, in ascending order, in which those of this second lie.
+    pub fn with_second(&self) -> &[Vec<(B, A)>]
         requires { IsKeptBothWays A.cmp B.cmp self.now }
-        ensures { result.now ≡ filter (λ p. eq_by_cmp B.cmp second p.0) self.now.by_second.items }
+        ensures { result.now ≡ self.now.by_second.items }
     {
-        sorted::beginning_with(&self.by_second, &second)
+        &self.by_second
     }
 
     /// Where the lists have their memory from.

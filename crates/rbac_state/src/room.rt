@@ -1,13 +1,6 @@
-//! The room of a `Vec`: what it can take without memory.
+//! What a `Vec` takes without memory, where it has room.
 
-ghost use Rattle.std.specs.Prelude.{◌≡◌, ◌<◌, ◌≤◌, ◌+◌, ◌-◌, ◌++◌, ◌∷◌, [], insert, vec_len, vec_capacity};
-
-/// How many more items the `Vec` can take without memory.
-pub fn spare<T>(items: &Vec<T>) -> usize
-    ensures { result ≡ vec_capacity items.now - vec_len items.now }
-{
-    items.capacity() - items.len()
-}
+ghost use Rattle.std.specs.Prelude.{◌≡◌, ◌<◌, ◌≤◌, ◌+◌, ◌++◌, ◌∷◌, [], insert, vec_len, vec_capacity};
 
 /// Puts the item at the end, where there must be room for it. It takes no memory.
 #[inline(always)]

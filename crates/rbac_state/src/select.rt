@@ -3,19 +3,58 @@
 ghost use Rattle.std.specs.Prelude.{◌≡◌, ◌==◌, ◌&&◌, ◌++◌, map, filter, find, IfOk, OnOk};
 ghost use Rattle.std.specs.Ordering.{eq_by_cmp, nat_cmp};
 ghost use Rattle.std.specs.List.{flat_map};
+ghost use Rattle.std.specs.List.Sorted.{IsStrictlySortedBy};
 ghost use Rattle.rbac_state.specs.Policies.{permission_cmp};
-ghost use Rattle.rbac_state.specs.Relations.{IsKeptBothWays, relates};
+ghost use Rattle.rbac_state.specs.Blocks.{items_in};
+ghost use Rattle.rbac_state.specs.Relations.{IsKeptBothWays, pair_cmp, relates};
 
 use crate::policy::Permission;
 use crate::relation::Relation;
 use crate::sorted;
 use std::alloc::{AllocError, Global};
+use std::cmp::Ord;
 
-/// The second of each pair.
-pub fn seconds<A, B: Copy + Drop>(alloc: Global, pairs: &[(A, B)]) -> Result<Vec<B>, AllocError>
-    ensures { IfOk result (λ seconds. seconds.items ≡ map (λ p. p.1) pairs.now) }
+/// The second of each pair of this first.
+pub fn seconds<A: Ord + Copy + Drop, B: Ord + Copy + Drop>(
+    alloc: Global,
+    blocks: &[Vec<(A, B)>],
+    first: A,
+) -> Result<Vec<B>, AllocError>
+    requires { IsStrictlySortedBy (pair_cmp A.cmp B.cmp) (items_in blocks.now) }
+    ensures { IfOk result (λ seconds. seconds.items
+        ≡ map (λ p. p.1) (filter (λ p. eq_by_cmp A.cmp first p.0) (items_in blocks.now))) }
 {
-    pairs.iter().map(|p| p.1).collect(alloc)
+    let mut seconds = Vec::new(alloc);
+    add_seconds(&mut seconds, blocks, first)?;
+    Ok(seconds)
+}
+
+/// Adds the second of each pair of this first.
+fn add_seconds<A: Ord + Copy + Drop, B: Ord + Copy + Drop>(
+    seconds: &mut Vec<B>,
+    blocks: &[Vec<(A, B)>],
+    first: A,
+) -> Result<(), AllocError>
+    requires { IsStrictlySortedBy (pair_cmp A.cmp B.cmp) (items_in blocks.now) }
+    ensures { OnOk result (seconds.new.items ≡ seconds.old.items
+        ++ map (λ p. p.1) (filter (λ p. eq_by_cmp A.cmp first p.0) (items_in blocks.now))) }
+{
+    for block in blocks {
+        add_each_second(seconds, sorted::beginning_with(block, &first))?;
+    }
+    Ok(())
+}
+
+fn add_each_second<A, B: Copy + Drop>(
+    seconds: &mut Vec<B>,
+    pairs: &[(A, B)],
+) -> Result<(), AllocError>
+    ensures { OnOk result (seconds.new.items ≡ seconds.old.items ++ map (λ p. p.1) pairs.now) }
+{
+    for pair in pairs {
+        seconds.push(pair.1)?;
+    }
+    Ok(())
 }
 
 /// The permissions of each of these roles.
@@ -26,11 +65,12 @@ pub fn permissions(
 ) -> Result<Vec<Permission>, AllocError>
     requires { IsKeptBothWays permission_cmp nat_cmp granted.now }
     ensures { IfOk result (λ permissions. permissions.items ≡ flat_map
-        (λ role. map (λ g. g.1) (filter (λ g. eq_by_cmp nat_cmp role g.0) granted.now.by_second.items)) roles.now) }
+        (λ role. map (λ g. g.1) (filter (λ g. eq_by_cmp nat_cmp role g.0) (items_in granted.now.by_second.items)))
+        roles.now) }
 {
     let mut permissions = Vec::new(alloc);
     for role in roles {
-        add_permissions(&mut permissions, granted.with_second(*role))?;
+        add_seconds(&mut permissions, granted.with_second(), *role)?;
     }
     Ok(permissions)
 }
@@ -45,28 +85,33 @@ pub fn operations(
     requires { IsKeptBothWays permission_cmp nat_cmp granted.now }
     ensures { IfOk result (λ operations. operations.items ≡ flat_map
         (λ role. map (λ g. g.1.0) (filter (λ g. g.1.1 == object)
-        (filter (λ g. eq_by_cmp nat_cmp role g.0) granted.now.by_second.items))) roles.now) }
+        (filter (λ g. eq_by_cmp nat_cmp role g.0) (items_in granted.now.by_second.items)))) roles.now) }
 {
     let mut operations = Vec::new(alloc);
     for role in roles {
-        add_operations(&mut operations, granted.with_second(*role), object)?;
+        add_operations(&mut operations, granted.with_second(), *role, object)?;
     }
     Ok(operations)
 }
 
-fn add_permissions(
-    permissions: &mut Vec<Permission>,
-    grants: &[(u16, Permission)],
+/// Adds the operations on the object that this role may do.
+fn add_operations(
+    operations: &mut Vec<u16>,
+    blocks: &[Vec<(u16, Permission)>],
+    role: u16,
+    object: u32,
 ) -> Result<(), AllocError>
-    ensures { OnOk result (permissions.new.items ≡ permissions.old.items ++ map (λ g. g.1) grants.now) }
+    requires { IsStrictlySortedBy (pair_cmp nat_cmp permission_cmp) (items_in blocks.now) }
+    ensures { OnOk result (operations.new.items ≡ operations.old.items ++ map (λ g. g.1.0)
+        (filter (λ g. g.1.1 == object) (filter (λ g. eq_by_cmp nat_cmp role g.0) (items_in blocks.now)))) }
 {
-    for grant in grants {
-        permissions.push(grant.1)?;
+    for block in blocks {
+        add_each_operation(operations, sorted::beginning_with(block, &role), object)?;
     }
     Ok(())
 }
 
-fn add_operations(
+fn add_each_operation(
     operations: &mut Vec<u16>,
     grants: &[(u16, Permission)],
     object: u32,
@@ -82,8 +127,7 @@ fn add_operations(
     Ok(())
 }
 
-/// The first of these roles that the user has and that has the permission. The grants of the
-/// permission are one short part of the list, found by one search.
+/// The first of these roles that the user has and that has the permission.
 pub fn first_granting(
     assigned: &Relation<u32, u16>,
     granted: &Relation<Permission, u16>,
@@ -96,9 +140,8 @@ pub fn first_granting(
     ensures { result ≡ find (λ role. relates nat_cmp nat_cmp assigned.now user role
         && relates permission_cmp nat_cmp granted.now permission role) roles.now }
 {
-    let granting = granted.with_first(permission);
     for role in roles {
-        if sorted::has(granting, &(permission, *role)) && assigned.has(user, *role) {
+        if granted.has(permission, *role) && assigned.has(user, *role) {
             return Some(*role);
         }
     }

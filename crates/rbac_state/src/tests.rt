@@ -1,7 +1,7 @@
 use super::*;
 use quorum_sizes::Sizes;
 use role_commands::{Command, RoleTable};
-use std::alloc::Global;
+use std::alloc::{AllocError, Global};
 use std::fmt;
 use std::process::Abort;
 use std::test::Fail;
@@ -251,4 +251,62 @@ fn room_lasts(rt: HostRuntime) -> Result<(), Fail> {
     let left = room_left(&mut policy_after(rt.alloc(), &[])?)?;
     assert!(rt; left >= 60);
     Ok(())
+}
+
+/// Numbers below 65,536 in no order, all different for as many `k`.
+fn scattered(k: u32) -> u32 {
+    k.wrapping_mul(40_503) % 65_536
+}
+
+/// Gives role 2 to the scattered users of even `k`, and role 3 to those of odd `k`.
+fn assign_scattered(policy: &mut Policy) -> Result<(), Fail> {
+    let node = policy.roles().sizes().name(0).ok_or("no name")?;
+    for k in 0..2000 {
+        policy.make_room()?;
+        policy.apply(node, assign(scattered(k), if k % 2 == 0 { 2 } else { 3 }));
+    }
+    Ok(())
+}
+
+/// Takes role 3 from each second of those who have it.
+fn deassign_scattered(policy: &mut Policy) -> Result<(), Fail> {
+    let node = policy.roles().sizes().name(0).ok_or("no name")?;
+    for k in 0..2000 {
+        if k % 4 == 1 {
+            let user = scattered(k);
+            policy.make_room()?;
+            policy.apply(node, Command::Deassign { user, role: 3 });
+        }
+    }
+    Ok(())
+}
+
+/// The scattered users whose `k` leaves one of these when divided by four, in order.
+fn due(alloc: Global, left: &[u32]) -> Result<Vec<u32>, AllocError> {
+    let mut users = Vec::new(alloc);
+    for k in 0..2000 {
+        if left.contains(&(k % 4)) {
+            users.push(scattered(k))?;
+        }
+    }
+    users.sort_unstable();
+    Ok(users)
+}
+
+fn check_users(rt: &impl Abort, policy: &Policy, role: u16, due: &[u32]) -> Result<(), Fail> {
+    check_row(rt, 0, policy.assigned_users(role)?.as_slice(), due);
+    Ok(())
+}
+
+/// So many that they lie in several blocks.
+#[test]
+fn many_users_in_order(rt: HostRuntime) -> Result<(), Fail> {
+    let mut policy = Policy::new(rt.alloc(), roles(rt.alloc())?);
+    assign_scattered(&mut policy)?;
+    check_users(&rt, &policy, 2, &due(rt.alloc(), &[0, 2])?)?;
+    check_users(&rt, &policy, 3, &due(rt.alloc(), &[1, 3])?)?;
+    deassign_scattered(&mut policy)?;
+    apply_all(&mut policy, &[(0, Command::Clear { role: 2 })])?;
+    check_users(&rt, &policy, 2, &[])?;
+    check_users(&rt, &policy, 3, &due(rt.alloc(), &[3])?)
 }

@@ -1,8 +1,11 @@
-use Rattle.std.proofs.Common.{◌≡◌, ℕ, ◌==◌, ◌++◌, map, filter, take}
+use Rattle.std.proofs.Common.{◌≡◌, ◌==◌, ◌++◌, map, filter, take}
+use Rattle.std.specs.Ordering.{eq_by_cmp, nat_cmp}
+use Rattle.rbac_state.specs.Blocks.{items_in}
 use Rattle.rbac_state.proofs.select.add_operations.Given as goal
 
-abbrev pub invariant-loop-grant : goal.invariant-loop-grant
-invariant-loop-grant l =
+abbrev pub invariant-loop-block : goal.invariant-loop-block
+invariant-loop-block l =
     l.operations.items
     ≡ l.initial.operations.items
-    ++ map (λ (g : ℕ × (ℕ × ℕ)). g.1.0) (filter (λ g. g.1.1 == l.object) (take l.grant-index l.grants))
+    ++ map (λ g. g.1.0) (filter (λ g. g.1.1 == l.object)
+    (filter (λ g. eq_by_cmp nat_cmp l.role g.0) (items_in (take l.block-index l.blocks))))

@@ -1,5 +1,6 @@
 use Rattle.std.proofs.Common.{◌≡◌, true, refl, sym, ap, ◌∙◌}
 use Rattle.role_commands.specs.Rules.{role_of}
+use Rattle.rbac_state.specs.Blocks.{items_in}
 use Rattle.rbac_state.specs.Assignments.{owns}
 use Rattle.rbac_state.proofs.PairLemmas.{assigned-put, assigned-take_away, assigned-clear}
 use Rattle.rbac_state.proofs.PairLemmas.{granted-put, granted-take_away, granted-clear}
@@ -14,7 +15,7 @@ returns-in-Assign-clause-applied c =
     ∙ sym c.is_owned_by.ensures.value ∙ c.if-not-is_owned_by.false in
     rw (c.in-Assign.is, ← c.self.view_is)
     (applied-Assign c.args.owner c.in-Assign.user c.in-Assign.role _ _ owned refl refl
-    (λ user role. assigned-put c.self.inside.assigned.by_first.items _ c.in-Assign.user c.in-Assign.role
+    (λ user role. assigned-put (items_in c.self.inside.assigned.by_first.items) _ c.in-Assign.user c.in-Assign.role
     user role (c.put.ensures.members user role)))
 
 pub returns-in-Deassign-clause-applied : goal.returns-in-Deassign-clause-applied
@@ -24,7 +25,8 @@ returns-in-Deassign-clause-applied c =
     ∙ sym c.is_owned_by.ensures.value ∙ c.if-not-is_owned_by.false in
     rw (c.in-Deassign.is, ← c.self.view_is)
     (applied-Deassign c.args.owner c.in-Deassign.user c.in-Deassign.role _ _ owned refl refl
-    (λ user role. assigned-take_away c.self.inside.assigned.by_first.items _ c.in-Deassign.user c.in-Deassign.role
+    (λ user role. assigned-take_away (items_in c.self.inside.assigned.by_first.items) _ c.in-Deassign.user
+    c.in-Deassign.role
     user role (c.take_away.ensures.members user role)))
 
 pub returns-in-Grant-clause-applied : goal.returns-in-Grant-clause-applied
@@ -34,7 +36,7 @@ returns-in-Grant-clause-applied c =
     ∙ sym c.is_owned_by.ensures.value ∙ c.if-not-is_owned_by.false in
     rw (c.in-Grant.is, ← c.self.view_is)
     (applied-Grant c.args.owner c.in-Grant.role c.in-Grant.operation c.in-Grant.object _ _ owned refl refl
-    (λ operation object role. granted-put c.self.inside.granted.by_first.items _ c.in-Grant.operation
+    (λ operation object role. granted-put (items_in c.self.inside.granted.by_first.items) _ c.in-Grant.operation
     c.in-Grant.object c.in-Grant.role operation object role (c.put-in-Grant.ensures.members (operation, object) role)))
 
 pub returns-in-Revoke-clause-applied : goal.returns-in-Revoke-clause-applied
@@ -44,7 +46,7 @@ returns-in-Revoke-clause-applied c =
     ∙ sym c.is_owned_by.ensures.value ∙ c.if-not-is_owned_by.false in
     rw (c.in-Revoke.is, ← c.self.view_is)
     (applied-Revoke c.args.owner c.in-Revoke.role c.in-Revoke.operation c.in-Revoke.object _ _ owned refl refl
-    (λ operation object role. granted-take_away c.self.inside.granted.by_first.items _ c.in-Revoke.operation
+    (λ operation object role. granted-take_away (items_in c.self.inside.granted.by_first.items) _ c.in-Revoke.operation
     c.in-Revoke.object c.in-Revoke.role operation object role
     (c.take_away-in-Revoke.ensures.members (operation, object) role)))
 
@@ -55,7 +57,8 @@ returns-in-Clear-clause-applied c =
     ∙ sym c.is_owned_by.ensures.value ∙ c.if-not-is_owned_by.false in
     rw (c.in-Clear.is, ← c.self.view_is)
     (applied-Clear c.args.owner c.in-Clear.role _ _ owned refl
-    (λ user role. assigned-clear c.self.inside.assigned.by_first.items _ c.in-Clear.role user role
+    (λ user role. assigned-clear (items_in c.self.inside.assigned.by_first.items) _ c.in-Clear.role user role
     (c.take_away_second.ensures.members user role))
-    (λ operation object role. granted-clear c.self.inside.granted.by_first.items _ c.in-Clear.role operation object role
+    (λ operation object role. granted-clear (items_in c.self.inside.granted.by_first.items) _ c.in-Clear.role
+    operation object role
     (c.take_away_second-in-Clear.ensures.members (operation, object) role)))

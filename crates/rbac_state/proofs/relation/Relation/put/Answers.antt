@@ -12,6 +12,8 @@ returns-clause-kept g c = record {
       ∙ (λ i. turned (g.B.Ord.cmp second c.args.second) (g.A.Ord.cmp first c.args.first) i
       || c.requires.kept.same first second i)
       ∙ sym (c.put.ensures.members (first, second));
+  first_blocks = c.put.ensures.room c.args.self.now.room c.requires.room c.requires.kept.first_blocks;
+  second_blocks = c.put-2.ensures.room c.args.self.now.room c.requires.room c.requires.kept.second_blocks;
 }
 
 pub returns-clause-members : goal.returns-clause-members

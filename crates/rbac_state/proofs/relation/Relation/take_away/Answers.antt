@@ -12,6 +12,8 @@ returns-clause-kept g c = record {
       ∙ (λ i. not (turned (g.B.Ord.cmp second c.args.second) (g.A.Ord.cmp first c.args.first) i)
       && c.requires.same first second i)
       ∙ sym (c.take_away.ensures.members (first, second));
+  first_blocks = c.take_away.ensures.room c.args.self.now.room c.requires.first_blocks;
+  second_blocks = c.take_away-2.ensures.room c.args.self.now.room c.requires.second_blocks;
 }
 
 pub returns-clause-members : goal.returns-clause-members

@@ -1,0 +1,13 @@
+use Rattle.std.proofs.Common.{sym, subst}
+use Rattle.std.specs.List.Sorted.{IsStrictlySortedBy}
+use Rattle.std.specs.Ordering.{nat_cmp}
+use Rattle.rbac_state.specs.Policies.{permission_cmp}
+use Rattle.rbac_state.specs.Relations.{pair_cmp}
+use Rattle.rbac_state.proofs.PlaceLemmas.{block_ascends}
+use Rattle.rbac_state.proofs.select.add_operations.Goals as goal
+
+pub beginning_with-requires : goal.beginning_with-requires
+beginning_with-requires c =
+    subst (IsStrictlySortedBy (pair_cmp nat_cmp permission_cmp)) (sym c.deref.ensures.value)
+    (block_ascends (λ b. b.items) c.args.blocks.now c.loop-block.block-index c.block-item.result c.block-item.is
+    c.loop-block-test.true (pair_cmp nat_cmp permission_cmp) c.requires)

@@ -1,0 +1,10 @@
+use Rattle.std.proofs.Common.{◌≡◌, ◌++◌, map, filter, take}
+use Rattle.std.specs.Ordering.{eq_by_cmp}
+use Rattle.rbac_state.specs.Blocks.{items_in}
+use Rattle.rbac_state.proofs.select.add_seconds.Given as goal
+
+abbrev pub invariant-loop-block : goal.invariant-loop-block
+invariant-loop-block g l =
+    l.seconds.items
+    ≡ l.initial.seconds.items
+    ++ map (λ p. p.1) (filter (λ p. eq_by_cmp g.A.Ord.cmp l.first p.0) (items_in (take l.block-index l.blocks)))
