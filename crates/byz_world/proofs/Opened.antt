@@ -3,10 +3,9 @@ use Rattle.std.proofs.Common.{◌≡◌, ℕ, Bool, true, false, List, Option, S
 use Rattle.std.specs.Prelude.{if◌then◌else◌}
 use Rattle.link_frames.specs.KeyRings.{KeyRing}
 use Rattle.link_frames.specs.Opening.{open_due}
-use Rattle.role_commands.specs.Bytes.{IsBytes}
 use Rattle.link_frames.specs.Packets.{PacketValue, IsSound}
 use Rattle.link_frames.specs.declared.opening.LinkFault.{LinkFault}
-use Rattle.link_frames.proofs.Exported.{open_takes}
+use Rattle.link_frames.proofs.Exported.{opened_is_sound}
 use Rattle.byz_world.specs.LabKeys.{lab_ring}
 use Rattle.byz_world.specs.Steps.{opened_at}
 use Rattle.byz_world.specs.Worlds.{WorldValue, is_correct_in}
@@ -19,10 +18,9 @@ is_opened : (b : Bool) (r : Opened) (p : PacketValue) →
 is_opened true r p e = cc
 is_opened false r p e = absurd cc
 
-pub opened_is_sound : (w : WorldValue) (to : ℕ) (bytes : List ℕ) (p : PacketValue) → IsBytes bytes →
+pub opened_at_is_sound : (w : WorldValue) (to : ℕ) (bytes : List ℕ) (p : PacketValue) →
     opened_at w to bytes ≡ Some (Ok p) → IsSound p
-opened_is_sound w to bytes p fits e =
+opened_at_is_sound w to bytes p e =
     let ring : KeyRing = lab_ring w.config.roles.sizes to in
-    let is = open_takes ring w.config.cluster bytes p fits
-    (is_opened (is_correct_in w to) (open_due ring w.config.cluster bytes) p e) in
-    (is.packet.0, is.packet.1)
+    opened_is_sound ring w.config.cluster bytes p
+    (is_opened (is_correct_in w to) (open_due ring w.config.cluster bytes) p e)

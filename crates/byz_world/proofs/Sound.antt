@@ -80,7 +80,7 @@ module _ (config : ConfigValue) (liars : Nodes) (run : Run) (cluster : IsCluster
   -- so it has a packet to each node
   pub message_is_due : (sent : Sent) (to : ℕ) → Contains (messages config run) sent →
       packet_due sent.0 to sent.1 ≡ Some (packet_of sent.0 to sent.1)
-  message_is_due sent to there = due_again (packet_of sent.0 to sent.1) (message_is_sound sent to there).0
+  message_is_due sent to there = due_again (packet_of sent.0 to sent.1) (message_is_sound sent to there)
 
   -- a packet of the pool is sound
   pub pooled_is_sound : (p : PacketValue) → Contains (pool config run) p → IsSound p

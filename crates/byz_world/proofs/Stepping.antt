@@ -31,7 +31,7 @@ use Rattle.byz_world.proofs.Elements.{contained}
 use Rattle.byz_world.proofs.Pooled.{pooled_is_sent}
 use Rattle.byz_world.proofs.Sound.{pooled_is_sound}
 use Rattle.byz_world.proofs.Growing.{cluster_run_push}
-use Rattle.byz_world.proofs.Opened.{opened_is_sound}
+use Rattle.byz_world.proofs.Opened.{opened_at_is_sound}
 use Rattle.byz_world.proofs.Recording.{counted_recorded}
 
 -- A step that comes to an event.
@@ -319,7 +319,7 @@ may_arrive w (Lie p) at e is sound h =
     (lie_is (nat_lt p.from w.config.roles.sizes.nodes && nat_lt p.to w.config.roles.sizes.nodes)
     (unless_forged w p) (at, e) h)
 may_arrive w (Bytes to bytes) at e is sound h =
-    opened_may w (opened_at w to bytes) (at, e) (λ p. opened_is_sound w to bytes p sound) h
+    opened_may w (opened_at w to bytes) (at, e) (opened_at_is_sound w to bytes) h
 may_arrive w (Client node act) at e is sound h =
     let i = client_is (is_correct_in w node) (node, event.Client act) (at, e) h in
     subst (MayBe w) i.1

@@ -63,7 +63,7 @@ pub record KeepsThePromise (config : ConfigValue) (liars : Nodes) (run : Run) : 
 
 -- For every configuration and set of liars, of whom no more are nodes than may lie, and for every list of steps:
 -- deliveries, losses, repeats, forgeries, any bytes and client calls. A packet that a step brings is one (a SEND comes
--- from its owner, and the place is one of a stream); of bytes nothing is asked but that they are bytes.
+-- from its owner, and the place is one of a stream); of bytes nothing is asked.
 abbrev pub Headline : Type 0
 Headline =
     (config : ConfigValue) (liars : Nodes) (steps : List Step) → AreSizes config.roles.sizes →

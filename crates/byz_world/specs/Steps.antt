@@ -1,7 +1,6 @@
 -- What a step of the world does: the node and the event that it comes to, its answer, and the run after it.
 use Rattle.std.specs.Prelude.{◌≡◌, ⊤, ℕ, ◌+◌, Bool, not, ◌&&◌, nat_lt, if◌then◌else◌, IsTrue, List, []}
 use Rattle.std.specs.Prelude.{◌∷◌, ◌++◌, length, slice_get, is_some, Option, Some, None, Result, Ok, Err}
-use Rattle.role_commands.specs.Bytes.{IsBytes}
 use Rattle.link_frames.specs.Opening.{open_due}
 use Rattle.link_frames.specs.Packets.{PacketValue, IsSound, message_of}
 use Rattle.link_frames.specs.declared.opening.LinkFault.{LinkFault}
@@ -123,11 +122,11 @@ IsStepAnswer w step (Err (fault.Node f)) = step_due w step ≡ Err (fault.Node f
 IsStepAnswer w step (Err fault.NoSession) = step_due w step ≡ Err fault.NoSession
 IsStepAnswer w step (Err fault.Memory) = IsTrue (adds w step)
 
--- a packet that a step brings is one: a SEND comes from its owner, and its place is one of a stream. So is what bytes
--- open to, whichever they are, as long as they are bytes
+-- a packet that a step brings is one: a SEND comes from its owner, and its place is one of a stream. What bytes open
+-- to is one whichever they are
 abbrev pub IsSoundStep : Step → Type 0
 IsSoundStep (Issue node command) = ⊤
 IsSoundStep (Give packet) = ⊤
 IsSoundStep (Lie p) = IsSound p
-IsSoundStep (Bytes to bytes) = IsBytes bytes
+IsSoundStep (Bytes to bytes) = ⊤
 IsSoundStep (Client node act) = ⊤

@@ -8,6 +8,7 @@ use Rattle.quorum_sizes.specs.Sizes.{Counts}
 use Rattle.role_commands.specs.declared.command.Command.TheVariants as command
 use Rattle.role_sessions.specs.declared.event.ClientEvent.TheVariants as act
 use Rattle.role_node.specs.declared.question.Question.TheVariants as question
+use Rattle.link_frames.specs.Packets.{place_count}
 use Rattle.client_lines.specs.Results.{◌>>=◌}
 use Rattle.client_lines.specs.Members.{member_of, member_number}
 use Rattle.client_lines.specs.Json.{json_of}
@@ -45,15 +46,16 @@ user_of = number_of User (2 ^ 32 - 1)
 abbrev pub object_of : Data → Result ℕ LineFault
 object_of = number_of Object (2 ^ 32 - 1)
 
--- roles, operations and places have 16
+-- roles and operations have 16
 abbrev pub role_of : Data → Result ℕ LineFault
 role_of = number_of Role (2 ^ 16 - 1)
 
 abbrev pub operation_of : Data → Result ℕ LineFault
 operation_of = number_of Operation (2 ^ 16 - 1)
 
+-- places are those of a stream
 abbrev pub place_of : Data → Result ℕ LineFault
-place_of = number_of Place (2 ^ 16 - 1)
+place_of = number_of Place (place_count - 1)
 
 -- sessions have 64
 abbrev pub session_of : Data → Result ℕ LineFault

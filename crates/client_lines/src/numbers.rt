@@ -6,7 +6,7 @@ ghost use Rattle.client_lines.specs.Requests as lines;
 
 use crate::fault::LineFault;
 use crate::member::{Member, MemberFault, member_number};
-use link_frames::Place;
+use link_frames::{PLACES, Place};
 use quorum_sizes::{NodeName, Sizes};
 use serde_json::Value;
 
@@ -37,7 +37,7 @@ pub fn operation_of(line: &Value) -> Result<u16, LineFault>
 pub fn place_of(line: &Value) -> Result<Place, LineFault>
     ensures { result ≡ lines.place_of (view line.now) }
 {
-    narrow_number(line, Member::Place)
+    Ok(number(line, Member::Place, u64::from(PLACES - 1))? as Place)
 }
 
 pub fn session_of(line: &Value) -> Result<u64, LineFault>

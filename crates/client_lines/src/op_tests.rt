@@ -289,8 +289,8 @@ static EDGES: [(&str, Option<Member>); 23] = [
     (r#""op":"reach","owner":255"#, Some(Owner)),
     (r#""op":"reach","owner":256"#, Some(Owner)),
     (r#""op":"again","owner":0,"place":0"#, None),
-    (r#""op":"again","owner":0,"place":65535"#, None),
-    (r#""op":"again","owner":0,"place":65536"#, Some(Place)),
+    (r#""op":"again","owner":0,"place":1048575"#, None),
+    (r#""op":"again","owner":0,"place":1048576"#, Some(Place)),
 ];
 
 /// The members of lines up to the number of the last of them.

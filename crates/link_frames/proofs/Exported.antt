@@ -7,8 +7,8 @@
 --     text_by-.., bad_by-..      a line program, line by line
 --     Ran, Ran-..      a line program that was run so far; Ended, Whole: how it ends
 --     sealed_is_opened, one_frame, length-frame, frames_differ      the laws of frames
---     due_takes, due_again      the packet of a message is due exactly where it is its owner's
---     length-hmac, open_takes, open_again, opened_by_owner      what is opened is the packet's frame
+--     due_takes, due_again      the packet of a message is due exactly where it is sound
+--     length-hmac, open_takes, open_again, opened_is_sound      what is opened is the packet's frame
 pub use Rattle.link_frames.proofs.Waiting.{WentOn-nothing, WentOn-trans, CallFailed-later, ReaderFailed-later}
 pub use Rattle.link_frames.proofs.Writing.{AppendsFront-nothing, AppendsFront-whole}
 pub use Rattle.link_frames.proofs.Fronts.{EndsAt-position, NoLineEnd-EndsAt}
@@ -24,4 +24,4 @@ pub use Rattle.link_frames.proofs.Ending.{Ran-passed_last, Ran-end, Ran-last, Ra
 pub use Rattle.link_frames.proofs.Ending.{Ran-too_long, WroteFront-nothing, HasBytes-done, some_tail}
 pub use Rattle.link_frames.proofs.FrameLaws.{sealed_is_opened, one_frame, length-frame, frames_differ}
 pub use Rattle.link_frames.proofs.PacketReading.{due_takes, due_again}
-pub use Rattle.link_frames.proofs.OpeningLemmas.{length-hmac, open_takes, open_again, opened_by_owner}
+pub use Rattle.link_frames.proofs.OpeningLemmas.{length-hmac, open_takes, open_again, opened_is_sound}

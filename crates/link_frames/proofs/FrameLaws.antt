@@ -1,7 +1,7 @@
 -- A packet has one frame, and a frame one packet.
 use Rattle.std.proofs.Common.{◌≡◌, ℕ, List, ◌<◌, get_or, Some, sym, ap, subst, ◌∙◌, arith, length-append, take_at}
-use Rattle.std.proofs.lemmas.Nat.{from_be_bytes-to_be_bytes_2, from_be_bytes-to_be_bytes_4}
-use Rattle.std.specs.Int.{w16, w32, from_be_bytes}
+use Rattle.std.proofs.lemmas.Nat.{from_be_bytes-to_be_bytes_4}
+use Rattle.std.specs.Int.{w32, from_be_bytes}
 use Rattle.role_commands.specs.Bytes.{bytes_of, part}
 use Rattle.role_commands.specs.declared.command.Command.{Command}
 use Rattle.role_commands.proofs.Exported.{bytes_of_injective, length-bytes_of}
@@ -57,12 +57,13 @@ frames_differ k l c d p q in_c in_d packet other e =
     sym (kind_again p.kind) ∙ ap (λ bs. kind_in (get_or bs 7 0)) e ∙ kind_again q.kind in
     let kind : p.kind ≡ q.kind = cc in
     let command_part : (key : List ℕ) (cluster : ℕ) (r : PacketValue)
-    → part 11 9 (frame key cluster r) ≡ bytes_of r.command =
+    → part 13 9 (frame key cluster r) ≡ bytes_of r.command =
     λ key cluster r. take_at (bytes_of r.command) _ 9 (length-bytes_of r.command) in
     let command = bytes_of_injective p.command q.command packet.2 other.2
-    (sym (command_part k c p) ∙ ap (part 11 9) e ∙ command_part l d q) in
-    let place = sym (from_be_bytes-to_be_bytes_2 p.place packet.1) ∙ ap (λ bs. from_be_bytes w16 (part 9 2 bs)) e
-    ∙ from_be_bytes-to_be_bytes_2 q.place other.1 in
+    (sym (command_part k c p) ∙ ap (part 13 9) e ∙ command_part l d q) in
+    let place = sym (from_be_bytes-to_be_bytes_4 p.place (omega (arith, packet.1)))
+    ∙ ap (λ bs. from_be_bytes w32 (part 9 4 bs)) e
+    ∙ from_be_bytes-to_be_bytes_4 q.place (omega (arith, other.1)) in
     let cluster = sym (from_be_bytes-to_be_bytes_4 c in_c) ∙ ap (λ bs. from_be_bytes w32 (part 1 4 bs)) e
     ∙ from_be_bytes-to_be_bytes_4 d in_d in (
       cluster,

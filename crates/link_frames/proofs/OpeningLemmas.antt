@@ -5,9 +5,9 @@ use Rattle.std.proofs.Common.{length-append, length-take, length-drop, take_at, 
 use Rattle.std.proofs.Math.Seq.{take-add, drop-cons}
 use Rattle.std.proofs.lemmas.List.{drop-drop}
 use Rattle.std.proofs.lemmas.Bool.{ltb-true, lt-ltb, eqb-true, eq-eqb}
-use Rattle.std.proofs.lemmas.Nat.{be_bytes_2, be_bytes_4, from_be_bytes-to_be_bytes_2, from_be_bytes-to_be_bytes_4}
+use Rattle.std.proofs.lemmas.Nat.{be_bytes_4, from_be_bytes-to_be_bytes_4}
 use Rattle.std.proofs.lemmas.Slice.Eq.{bytes_eq-Decides}
-use Rattle.std.specs.Int.{w16, w32, to_be_bytes, from_be_bytes}
+use Rattle.std.specs.Int.{w32, to_be_bytes, from_be_bytes}
 use Rattle.sha2.proofs.Facts256.{length-sha256}
 use Rattle.role_commands.specs.Bytes.{bytes_of, part, IsBytes, command_in, command_length}
 use Rattle.link_frames.specs.Frames.{kind_byte, header, fields_of, frame, IsFrameFor}
@@ -15,7 +15,7 @@ use Rattle.link_frames.specs.Hmac.{hmac}
 use Rattle.link_frames.specs.KeyRings.{KeyRing, key_with}
 use Rattle.link_frames.specs.Layout.{frame_len, tag_at, tag_len}
 use Rattle.link_frames.specs.Opening.{open_due}
-use Rattle.link_frames.specs.Packets.{PacketValue, SentByOwner}
+use Rattle.link_frames.specs.Packets.{PacketValue, IsSound}
 use Rattle.role_commands.proofs.Exported.{length-bytes_of, IsBytes-part, command_again, command_takes}
 use Rattle.link_frames.proofs.PacketReading.{demand_ok, demand_again, HasFields, packet_takes, packet_again}
 
@@ -43,7 +43,7 @@ both p q = cc
 -- bytes with a packet's fields begin with them
 fields_are : (cluster nodes sender receiver : ℕ) (bytes : List ℕ) (p : PacketValue) → IsBytes bytes
     → length bytes ≡ frame_len
-    → get_or bytes 0 0 ≡ 1 → from_be_bytes w32 (part 1 4 bytes) ≡ cluster
+    → get_or bytes 0 0 ≡ 2 → from_be_bytes w32 (part 1 4 bytes) ≡ cluster
     → get_or bytes 5 0 ≡ sender → get_or bytes 6 0 ≡ receiver → HasFields nodes sender receiver bytes p
     → part 0 tag_at bytes ≡ fields_of cluster p
 unfolding fields_of
@@ -51,32 +51,32 @@ fields_are cluster nodes sender receiver bytes p fits len version cluster_is fro
     let four : to_be_bytes w32 cluster ≡ part 1 4 bytes =
     be_bytes_4 (part 1 4 bytes) cluster (length-part 1 4 bytes (omega arith)) (IsBytes-part 1 4 bytes fits)
     (sym cluster_is) in
-    let two : to_be_bytes w16 p.place ≡ part 9 2 bytes =
-    be_bytes_2 (part 9 2 bytes) p.place (length-part 9 2 bytes (omega arith)) (IsBytes-part 9 2 bytes fits)
+    let place : to_be_bytes w32 p.place ≡ part 9 4 bytes =
+    be_bytes_4 (part 9 4 bytes) p.place (length-part 9 4 bytes (omega arith)) (IsBytes-part 9 4 bytes fits)
     (sym h.place) in
-    let command = (command_takes (part 11 9 bytes) p.command (IsBytes-part 11 9 bytes fits) h.command).0 in
+    let command = (command_takes (part 13 9 bytes) p.command (IsBytes-part 13 9 bytes fits) h.command).0 in
     let one : (at n : ℕ) → at < frame_len → get_or bytes at 0 ≡ n → part at 1 bytes ≡ n ∷ [] =
     λ at n lt e. part-one at bytes (omega arith) ∙ ap (λ b. b ∷ []) e in
-    part-add 0 1 19 bytes ∙ both (one 0 1 (omega arith) version)
-    (part-add 1 4 15 bytes ∙ both (sym four)
-    (part-add 5 1 14 bytes ∙ both (one 5 p.from (omega arith) (from ∙ sym h.from))
-    (part-add 6 1 13 bytes ∙ both (one 6 p.to (omega arith) (to ∙ sym h.to))
-    (part-add 7 1 12 bytes ∙ both (one 7 (kind_byte p.kind) (omega arith) h.kind)
-    (part-add 8 1 11 bytes ∙ both (one 8 p.owner (omega arith) h.owner)
-    (part-add 9 2 9 bytes ∙ both (sym two) command))))))
+    part-add 0 1 21 bytes ∙ both (one 0 2 (omega arith) version)
+    (part-add 1 4 17 bytes ∙ both (sym four)
+    (part-add 5 1 16 bytes ∙ both (one 5 p.from (omega arith) (from ∙ sym h.from))
+    (part-add 6 1 15 bytes ∙ both (one 6 p.to (omega arith) (to ∙ sym h.to))
+    (part-add 7 1 14 bytes ∙ both (one 7 (kind_byte p.kind) (omega arith) h.kind)
+    (part-add 8 1 13 bytes ∙ both (one 8 p.owner (omega arith) h.owner)
+    (part-add 9 4 9 bytes ∙ both (sym place) command))))))
 
--- bytes open to no other's SEND, whatever the bytes
-pub opened_by_owner : (ring : KeyRing) (cluster : ℕ) (bytes : List ℕ) (p : PacketValue)
-    → open_due ring cluster bytes ≡ Ok p → SentByOwner p
+-- what bytes open to is sound, whatever the bytes
+pub opened_is_sound : (ring : KeyRing) (cluster : ℕ) (bytes : List ℕ) (p : PacketValue)
+    → open_due ring cluster bytes ≡ Ok p → IsSound p
 unfolding open_due
-opened_by_owner ring cluster bytes p e =
+opened_is_sound ring cluster bytes p e =
     let a = demand_ok _ _ _ _ e in
     let b = demand_ok _ _ _ _ a.1 in
     let c = demand_ok _ _ _ _ b.1 in
     let d = demand_ok _ _ _ _ c.1 in
     let f = demand_ok _ _ _ _ d.1 in
     let g = demand_ok _ _ _ _ f.1 in
-    (packet_takes _ _ _ _ p g.1).by_owner
+    (packet_takes _ _ _ _ p g.1).sound
 
 -- ---- both directions
 
@@ -102,10 +102,9 @@ open_takes ring cluster bytes p fits e =
     ∙ ap (hmac (key_with ring p.from)) fields in
     let whole : bytes ≡ part 0 tag_at bytes ++ part tag_at tag_len bytes =
     sym (take_all frame_len bytes (omega arith)) ∙ part-add 0 tag_at tag_len bytes in
-    let place = IsBytes-part 9 2 bytes fits in
-    let command = command_takes (part 11 9 bytes) p.command (IsBytes-part 11 9 bytes fits) read.command in
+    let command = command_takes (part 13 9 bytes) p.command (IsBytes-part 13 9 bytes fits) read.command in
     record {
-      packet = (read.by_owner, omega (arith, place 0, place 1, read.place), command.1);
+      packet = (read.sound.0, read.sound.1, command.1);
       frame = whole ∙ both fields tag_is;
       to = read.to;
       from = subst (λ n. n < ring.sizes.nodes) (sym read.from) (ltb-true _ _ f.0);
@@ -116,15 +115,14 @@ open_takes ring cluster bytes p fits e =
 opens : (ring : KeyRing) (cluster : ℕ) (p : PacketValue) (command tag : List ℕ) → length command ≡ command_length
     → length tag ≡ tag_len
     → command_in command ≡ Some p.command
-    → tag ≡ hmac (key_with ring p.from) (header cluster p ++ command) → cluster < 2 ^ 32 → p.place < 2 ^ 16
-    → SentByOwner p
+    → tag ≡ hmac (key_with ring p.from) (header cluster p ++ command) → cluster < 2 ^ 32 → IsSound p
     → p.to ≡ ring.me → p.from < ring.sizes.nodes → p.owner < ring.sizes.nodes
     → open_due ring cluster (header cluster p ++ (command ++ tag)) ≡ Ok p
 unfolding open_due
-opens ring cluster p command tag nine long is_command is_tag in_cluster in_place by_owner to from owner =
+opens ring cluster p command tag nine long is_command is_tag in_cluster sound to from owner =
     let bytes = header cluster p ++ (command ++ tag) in
     let len : length bytes ≡ frame_len = omega (arith, length-append command tag) in
-    let command_part : part 11 9 bytes ≡ command = take_at command tag 9 nine in
+    let command_part : part 13 9 bytes ≡ command = take_at command tag 9 nine in
     let tag_part : part tag_at tag_len bytes ≡ tag =
     ap (take tag_len) (drop_at command tag 9 nine) ∙ take_all tag_len tag (omega arith) in
     let fields_part : part 0 tag_at bytes ≡ header cluster p ++ command =
@@ -137,9 +135,9 @@ opens ring cluster p command tag nine long is_command is_tag in_cluster in_place
       kind = refl;
       owner = refl;
       is_node = owner;
-      place = from_be_bytes-to_be_bytes_2 p.place in_place;
+      place = from_be_bytes-to_be_bytes_4 p.place (omega (arith, sound.1));
       command = ap command_in command_part ∙ is_command;
-      by_owner = by_owner;
+      sound = sound;
     } in
     demand_again _ _ _ _ (eq-eqb _ _ len)
     (demand_again _ _ _ _ refl
@@ -157,4 +155,4 @@ open_again ring cluster bytes p in_cluster h =
     let tag = hmac (key_with ring p.from) (header cluster p ++ command) in
     ap (open_due ring cluster) (h.frame ∙ append_assoc (header cluster p) command tag)
     ∙ opens ring cluster p command tag (length-bytes_of p.command) (length-hmac _ _)
-    (command_again p.command h.packet.2) refl in_cluster h.packet.1 h.packet.0 h.to h.from h.owner
+    (command_again p.command h.packet.2) refl in_cluster (h.packet.0, h.packet.1) h.to h.from h.owner

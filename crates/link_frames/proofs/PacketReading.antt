@@ -1,13 +1,15 @@
 -- What is read of a packet's fields is the packet that has them.
 use Rattle.role_commands.specs.Bytes.{part, command_in}
-use Rattle.std.proofs.Common.{◌≡◌, ℕ, ◌<◌, ◌⊎◌, Bool, true, false, cond, not, eqb, ◌&&◌, List, get_or}
+use Rattle.std.proofs.Common.{◌≡◌, ℕ, ◌<◌, ◌⊎◌, Bool, true, false, cond, not, eqb, List, get_or}
 use Rattle.std.proofs.Common.{Option, Some, None, Result, Ok, refl, sym, ap, subst, ◌∙◌, inl, inr, arith}
-use Rattle.std.specs.Int.{w16, from_be_bytes}
-use Rattle.std.proofs.lemmas.Bool.{ltb-true, lt-ltb, eqb-true, eq-eqb}
+use Rattle.std.specs.Prelude.{nat_le, ◌&&◌, ◌||◌}
+use Rattle.std.specs.Int.{w32, from_be_bytes}
+use Rattle.std.proofs.lemmas.Bool.{ltb-true, lt-ltb, leb-false, lt-leb, eqb-true, eq-eqb, or_parts, or_from}
 use Rattle.link_frames.specs.Frames.{kind_byte}
 use Rattle.link_frames.specs.Kinds.{same_kind}
 use Rattle.link_frames.specs.Opening.{need, given, kind_in, packet_in}
-use Rattle.link_frames.specs.Packets.{PacketValue, SentByOwner, packet_of, message_of, packet_due}
+use Rattle.link_frames.specs.Packets.{PacketValue, SentByOwner, IsSound, place_count}
+use Rattle.link_frames.specs.Packets.{packet_of, message_of, is_relayed, packet_due}
 use Rattle.link_frames.specs.declared.kind.Kind.{Kind}
 use Rattle.link_frames.specs.declared.kind.Kind.TheVariants.{Send, Echo, Ready}
 use Rattle.link_frames.specs.declared.opening.LinkFault.{LinkFault}
@@ -84,27 +86,33 @@ own Echo b h = refl
 own Ready b h = refl
 
 pub due_takes : (from to : ℕ) (m : Message) (p : PacketValue) → packet_due from to m ≡ Some p
-    → (packet_of from to m ≡ p) × SentByOwner p
+    → (packet_of from to m ≡ p) × IsSound p
 unfolding relayed
-due_takes from to m p e = go (relayed m.kind (eqb from m.owner)) refl e
+due_takes from to m p e = go (relayed m.kind (eqb from m.owner) || nat_le place_count m.place) refl e
   where
-    go : (b : Bool) → relayed m.kind (eqb from m.owner) ≡ b → cond b None (Some (packet_of from to m)) ≡ Some p
-        → (packet_of from to m ≡ p) × SentByOwner p
+    go : (b : Bool) → (relayed m.kind (eqb from m.owner) || nat_le place_count m.place) ≡ b
+        → cond b None (Some (packet_of from to m)) ≡ Some p → (packet_of from to m ≡ p) × IsSound p
     go true t e = absurd cc
     go false t e =
         let is : packet_of from to m ≡ p = cc in
-        let by_owner : SentByOwner (packet_of from to m) = λ s. eqb-true _ _ (sent m.kind (eqb from m.owner) t s) in
-        (is, subst SentByOwner is by_owner)
+        let free = or_parts (relayed m.kind (eqb from m.owner)) (nat_le place_count m.place) t in
+        let by_owner : SentByOwner (packet_of from to m) =
+        λ s. eqb-true _ _ (sent m.kind (eqb from m.owner) free.0 s) in
+        (is, subst IsSound is (by_owner, leb-false place_count m.place free.1))
 
 eqb_same : (n : ℕ) → eqb n n ≡ true
 eqb_same n = eq-eqb n n refl
 
-pub due_again : (p : PacketValue) → SentByOwner p → packet_due p.from p.to (message_of p) ≡ Some p
+-- a sound packet's message is no other's SEND
+free_again : (p : PacketValue) → SentByOwner p → is_relayed p.from (message_of p) ≡ false
 unfolding relayed
+free_again p h = own p.kind (eqb p.from p.owner) (λ s. ap (λ n. eqb p.from n) (sym (h s)) ∙ eqb_same p.from)
+
+pub due_again : (p : PacketValue) → IsSound p → packet_due p.from p.to (message_of p) ≡ Some p
 due_again p h =
-    let free : relayed p.kind (eqb p.from p.owner) ≡ false =
-    own p.kind (eqb p.from p.owner) (λ s. ap (λ n. eqb p.from n) (sym (h s)) ∙ eqb_same p.from) in
-    rw free refl
+    let due = or_from (is_relayed p.from (message_of p)) (nat_le place_count p.place)
+    (free_again p h.0) (lt-leb place_count p.place h.1) in
+    rw due refl
 
 -- what the fields of a packet are read from
 pub record HasFields (nodes sender receiver : ℕ) (bytes : List ℕ) (p : PacketValue) : Type 0 where
@@ -113,9 +121,9 @@ pub record HasFields (nodes sender receiver : ℕ) (bytes : List ℕ) (p : Packe
   pub kind : get_or bytes 7 0 ≡ kind_byte p.kind
   pub owner : get_or bytes 8 0 ≡ p.owner
   pub is_node : p.owner < nodes
-  pub place : from_be_bytes w16 (part 9 2 bytes) ≡ p.place
-  pub command : command_in (part 11 9 bytes) ≡ Some p.command
-  pub by_owner : SentByOwner p
+  pub place : from_be_bytes w32 (part 9 4 bytes) ≡ p.place
+  pub command : command_in (part 13 9 bytes) ≡ Some p.command
+  pub sound : IsSound p
 
 pub packet_takes : (nodes from to : ℕ) (bytes : List ℕ) (p : PacketValue) → packet_in nodes from to bytes ≡ Ok p
     → HasFields nodes from to bytes p
@@ -124,7 +132,8 @@ packet_takes nodes from to bytes p e =
     let kind = some_ok _ _ _ _ e in
     let owner = demand_ok _ _ _ _ kind.2 in
     let command = some_ok _ _ _ _ owner.1 in
-    let packet = some_ok _ _ _ _ command.2 in
+    let by_owner = demand_ok _ _ _ _ command.2 in
+    let packet = some_ok _ _ _ _ by_owner.1 in
     let same : packet.0 ≡ p = cc in
     let is = due_takes _ _ _ _ (packet.1 ∙ ap Some same) in
     record {
@@ -135,7 +144,7 @@ packet_takes nodes from to bytes p e =
       is_node = subst (λ n. n < nodes) (ap (λ (q : PacketValue). q.owner) is.0) (ltb-true _ _ owner.0);
       place = ap (λ (q : PacketValue). q.place) is.0;
       command = command.1 ∙ ap (λ (q : PacketValue). Some q.command) is.0;
-      by_owner = is.1;
+      sound = is.1;
     }
 
 pub packet_again : (nodes from to : ℕ) (bytes : List ℕ) (p : PacketValue) → HasFields nodes from to bytes p
@@ -143,9 +152,11 @@ pub packet_again : (nodes from to : ℕ) (bytes : List ℕ) (p : PacketValue) �
 unfolding packet_in
 packet_again nodes from to bytes p h =
     let message : Message = record
-    { kind = p.kind; owner = get_or bytes 8 0; place = from_be_bytes w16 (part 9 2 bytes); command = p.command } in
-    let due : packet_due from to message ≡ Some p = rw (h.owner, h.place, ← h.from, ← h.to) (due_again p h.by_owner) in
+    { kind = p.kind; owner = get_or bytes 8 0; place = from_be_bytes w32 (part 9 4 bytes); command = p.command } in
+    let due : packet_due from to message ≡ Some p = rw (h.owner, h.place, ← h.from, ← h.to) (due_again p h.sound) in
+    let free : is_relayed from message ≡ false = rw (h.owner, ← h.from) (free_again p h.sound.0) in
     some_again _ _ _ p.kind _ (ap kind_in h.kind ∙ kind_again p.kind)
     (demand_again _ _ _ _ (lt-ltb _ _ (omega (arith, h.owner, h.is_node)))
     (some_again _ _ _ p.command _ h.command
-    (some_again _ _ _ p _ due refl)))
+    (demand_again _ _ _ _ (ap not free)
+    (some_again _ _ _ p _ due refl))))

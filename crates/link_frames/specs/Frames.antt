@@ -1,7 +1,7 @@
 -- The frame of a packet: its fields, each number with its highest byte first, and behind them the HMAC of
 -- the fields under the key that the two nodes share.
 use Rattle.std.specs.Prelude.{◌≡◌, ℕ, ◌<◌, List, ◌∷◌, ◌++◌}
-use Rattle.std.specs.Int.{w16, w32, to_be_bytes}
+use Rattle.std.specs.Int.{w32, to_be_bytes}
 use Rattle.role_commands.specs.Bytes.{bytes_of}
 use Rattle.link_frames.specs.Hmac.{hmac}
 use Rattle.link_frames.specs.KeyRings.{KeyRing, key_with}
@@ -18,7 +18,7 @@ kind_byte Ready = 3
 -- the fields in front of the command
 abbrev pub header : ℕ → PacketValue → List ℕ
 header cluster p =
-    version ∷ to_be_bytes w32 cluster ++ p.from ∷ p.to ∷ kind_byte p.kind ∷ p.owner ∷ to_be_bytes w16 p.place
+    version ∷ to_be_bytes w32 cluster ++ p.from ∷ p.to ∷ kind_byte p.kind ∷ p.owner ∷ to_be_bytes w32 p.place
 
 -- all fields
 unfoldable pub fields_of : ℕ → PacketValue → List ℕ

@@ -1,12 +1,12 @@
--- Where the fields of a frame of version 1 stand, and how many bytes they have.
+-- Where the fields of a frame of version 2 stand, and how many bytes they have.
 use Rattle.std.specs.Prelude.{ℕ}
 
 abbrev pub version : ℕ
-version = 1
+version = 2
 
 -- the bytes of a frame
 abbrev pub frame_len : ℕ
-frame_len = 52
+frame_len = 54
 
 abbrev pub version_at : ℕ
 version_at = 0
@@ -30,11 +30,11 @@ abbrev pub place_at : ℕ
 place_at = 9
 
 abbrev pub command_at : ℕ
-command_at = 11
+command_at = 13
 
 -- the tag comes behind all fields
 abbrev pub tag_at : ℕ
-tag_at = 20
+tag_at = 22
 
 abbrev pub tag_len : ℕ
 tag_len = 32

@@ -1,14 +1,14 @@
 -- What comes of opening bytes as a frame: the packet, or the first fault that holds.
-use Rattle.std.specs.Prelude.{ℕ, Bool, ◌==◌, nat_lt, if◌then◌else◌, List, length}
+use Rattle.std.specs.Prelude.{ℕ, Bool, not, ◌==◌, nat_lt, if◌then◌else◌, List, length}
 use Rattle.std.specs.Prelude.{slice_index, Option, Some, None, Result, Ok, Err}
-use Rattle.std.specs.Int.{w16, w32, from_be_bytes}
+use Rattle.std.specs.Int.{w32, from_be_bytes}
 use Rattle.std.specs.Str.{bytes_eq}
 use Rattle.role_commands.specs.Bytes.{part, command_in, command_length}
 use Rattle.link_frames.specs.Hmac.{hmac}
 use Rattle.link_frames.specs.KeyRings.{KeyRing, key_with}
 use Rattle.link_frames.specs.Layout.{version, frame_len, version_at, cluster_at, from_at, to_at}
 use Rattle.link_frames.specs.Layout.{kind_at, owner_at, place_at, command_at, tag_at, tag_len}
-use Rattle.link_frames.specs.Packets.{PacketValue, packet_due}
+use Rattle.link_frames.specs.Packets.{PacketValue, is_relayed, packet_due}
 use Rattle.link_frames.specs.declared.packet.Message.{Message}
 use Rattle.link_frames.specs.declared.kind.Kind.{Kind}
 use Rattle.link_frames.specs.declared.kind.Kind.TheVariants.{Send, Echo, Ready}
@@ -33,10 +33,11 @@ packet_in nodes from to bytes =
     given (kind_in (slice_index bytes kind_at)) faults.BadKind (λ kind.
     need (nat_lt (slice_index bytes owner_at) nodes) faults.BadOwner (
     given (command_in (part command_at command_length bytes)) faults.BadCommand (λ command.
-    let place = from_be_bytes w16 (part place_at 2 bytes) in
+    let place = from_be_bytes w32 (part place_at 4 bytes) in
     let owner = slice_index bytes owner_at in
     let message : Message = record { kind = kind; owner = owner; place = place; command = command } in
-    given (packet_due from to message) faults.SendNotByOwner Ok)))
+    need (not (is_relayed from message)) faults.SendNotByOwner (
+    given (packet_due from to message) faults.BadPlace Ok))))
 
 -- the first fault of these bytes at the ring's node, or the packet whose frame they are
 unfoldable pub open_due : KeyRing → ℕ → List ℕ → Result PacketValue LinkFault

@@ -1,5 +1,5 @@
 -- Packets: a message of the broadcast from one node to another.
-use Rattle.std.specs.Prelude.{◌≡◌, ℕ, ◌<◌, ◌==◌, not, ◌&&◌, if◌then◌else◌, Option, Some, None}
+use Rattle.std.specs.Prelude.{◌≡◌, ℕ, Bool, ◌<◌, ◌==◌, not, ◌&&◌, ◌||◌, nat_le, if◌then◌else◌, Option, Some, None}
 use Rattle.role_commands.specs.Words.{IsCommand}
 use Rattle.role_commands.specs.declared.command.Command.{Command}
 use Rattle.link_frames.specs.Kinds.{same_kind}
@@ -18,7 +18,7 @@ pub record PacketValue : Type 0 where
 
 -- the places of a stream are the numbers below this one
 abbrev pub place_count : ℕ
-place_count = 65536
+place_count = 1048576
 
 -- a SEND comes from its owner
 abbrev pub SentByOwner : PacketValue → Type 0
@@ -45,6 +45,10 @@ packet_of from to m = record {
 abbrev pub message_of : PacketValue → Message
 message_of p = record { kind = p.kind; owner = p.owner; place = p.place; command = p.command }
 
--- the packet of a message, if it isn't another's SEND
+-- it is a SEND that comes from another than its owner
+abbrev pub is_relayed : ℕ → Message → Bool
+is_relayed from m = same_kind m.kind Send && not (from == m.owner)
+
+-- the packet of a message, if it isn't another's SEND and its place is one of a stream
 abbrev pub packet_due : ℕ → ℕ → Message → Option PacketValue
-packet_due from to m = if same_kind m.kind Send && not (from == m.owner) then None else Some (packet_of from to m)
+packet_due from to m = if is_relayed from m || nat_le place_count m.place then None else Some (packet_of from to m)

@@ -1,9 +1,9 @@
-//! Where the fields of a frame of version 1 stand, and how many bytes they have.
+//! Where the fields of a frame of version 2 stand, and how many bytes they have.
 
-pub(crate) const VERSION: u8 = 1;
+pub(crate) const VERSION: u8 = 2;
 
 /// How many bytes a frame has.
-pub const FRAME_LEN: usize = 52;
+pub const FRAME_LEN: usize = 54;
 
 /// The bytes of a frame.
 pub type Frame = [u8; FRAME_LEN];
@@ -22,10 +22,10 @@ pub(crate) const OWNER_AT: usize = 8;
 
 pub(crate) const PLACE_AT: usize = 9;
 
-pub(crate) const COMMAND_AT: usize = 11;
+pub(crate) const COMMAND_AT: usize = 13;
 
 /// The tag comes behind all fields.
-pub(crate) const TAG_AT: usize = 20;
+pub(crate) const TAG_AT: usize = 22;
 
 /// The bytes of a tag.
 pub(crate) const TAG_LEN: usize = 32;

@@ -12,7 +12,7 @@ use crate::layout::{
     CLUSTER_AT, COMMAND_AT, FRAME_LEN, FROM_AT, KIND_AT, OWNER_AT, PLACE_AT, TAG_AT, TAG_LEN,
     TO_AT, VERSION, VERSION_AT,
 };
-use crate::packet::{Message, Packet};
+use crate::packet::{Message, Packet, is_relayed};
 use quorum_sizes::{NodeName, Sizes};
 use role_commands::decode;
 use std::error::Error;
@@ -21,9 +21,9 @@ use std::fmt;
 /// Why bytes are no frame that this node opens. Written as its code and its name.
 #[derive(Clone, Copy, Debug, PartialEq, Eq)]
 pub enum LinkFault {
-    /// There are not 52 bytes.
+    /// There are not 54 bytes.
     Length,
-    /// The version is not 1.
+    /// The version is not 2.
     Version,
     /// The cluster is another than the reader's.
     Cluster,
@@ -41,6 +41,8 @@ pub enum LinkFault {
     BadCommand,
     /// It is a SEND that comes from another than its owner.
     SendNotByOwner,
+    /// The place is not below [`PLACES`](crate::PLACES).
+    BadPlace,
 }
 
 impl fmt::Display for LinkFault {
@@ -61,6 +63,7 @@ impl fmt::Display for LinkFault {
             LinkFault::BadOwner => "L8 BadOwner",
             LinkFault::BadCommand => "L9 BadCommand",
             LinkFault::SendNotByOwner => "L10 SendNotByOwner",
+            LinkFault::BadPlace => "L11 BadPlace",
         })
     }
 }
@@ -148,7 +151,7 @@ fn read_packet(
 {
     let kind = read_kind(bytes[KIND_AT]).ok_or(LinkFault::BadKind)?;
     let owner = sizes.name(bytes[OWNER_AT]).ok_or(LinkFault::BadOwner)?;
-    let place = u16::from_be_bytes(part_of(bytes, PLACE_AT));
+    let place = u32::from_be_bytes(part_of(bytes, PLACE_AT));
     let command = decode(&part_of(bytes, COMMAND_AT)).ok_or(LinkFault::BadCommand)?;
     let message = Message {
         kind,
@@ -156,7 +159,10 @@ fn read_packet(
         place,
         command,
     };
-    Packet::new(from, to, message).ok_or(LinkFault::SendNotByOwner)
+    if is_relayed(from, &message) {
+        return Err(LinkFault::SendNotByOwner);
+    }
+    Packet::new(from, to, message).ok_or(LinkFault::BadPlace)
 }
 
 fn read_kind(byte: u8) -> Option<Kind>

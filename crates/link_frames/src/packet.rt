@@ -1,5 +1,5 @@
-ghost use Rattle.std.specs.Prelude.{◌≡◌, ◌≢◌, IfSome, IfNone};
-ghost use Rattle.link_frames.specs.Packets.{IsPacket, packet_of, message_of, packet_due};
+ghost use Rattle.std.specs.Prelude.{◌≡◌, ◌≢◌, ◌<◌, ◌≤◌, ◌⊎◌, IfSome, IfNone};
+ghost use Rattle.link_frames.specs.Packets.{IsPacket, place_count, packet_of, message_of, is_relayed, packet_due};
 
 use crate::kind::Kind;
 use quorum_sizes::NodeName;
@@ -7,12 +7,10 @@ use role_commands::Command;
 use std::marker::Model;
 
 /// A place in an owner's stream of commands.
-pub type Place = u16;
+pub type Place = u32;
 
 /// The number of places of a stream: its places are the numbers below.
-pub const PLACES: u32 = 65_536;
-
-const _: () = prove!(PLACES == Place::MAX as u32 + 1);
+pub const PLACES: u32 = 1_048_576;
 
 /// A message of the broadcast: a command at a place of its owner's stream.
 #[derive(Clone, Copy, Debug, PartialEq, Eq, Hash)]
@@ -27,7 +25,7 @@ pub struct Message {
     pub command: Command,
 }
 
-/// A message from one node to another. A SEND comes from its owner.
+/// A message from one node to another. A SEND comes from its owner, and the place is below [`PLACES`].
 #[derive(Clone, Copy, Debug, PartialEq, Eq, Hash)]
 pub struct Packet {
     from: NodeName,
@@ -72,14 +70,16 @@ impl Model for Packet {
 }
 
 impl Packet {
-    /// The packet of a message, or `None` where the message is a SEND of which `from` is not the owner.
+    /// The packet of a message, or `None` where the message is a SEND of which `from` is not the owner, or
+    /// its place is not below [`PLACES`].
     #[inline(always)]
     pub fn new(from: NodeName, to: NodeName, message: Message) -> Option<Packet>
         ensures value { result ≡ packet_due from to message }
         ensures found { IfSome result (λ p. (p ≡ packet_of from to message) × IsPacket p) }
-        ensures none { IfNone result ((message.kind ≡ Kind.Send) × (from ≢ message.owner)) }
+        ensures none { IfNone result
+            (((message.kind ≡ Kind.Send) × (from ≢ message.owner)) ⊎ (place_count ≤ message.place)) }
     {
-        if matches!(message.kind, Kind::Send) && from.index() != message.owner.index() {
+        if is_relayed(from, &message) || message.place >= PLACES {
             return None;
         }
         let Message {
@@ -126,9 +126,10 @@ impl Packet {
         self.owner
     }
 
-    /// The place of its message.
+    /// The place of its message, one of a stream.
     pub fn place(&self) -> Place
-        ensures { result ≡ self.now.place }
+        ensures value { result ≡ self.now.place }
+        ensures kept { self.now.place < place_count }
     {
         self.place
     }
@@ -140,8 +141,8 @@ impl Packet {
         self.command
     }
 
-    /// Its message. What the packet keeps is known of it: a SEND comes from its owner, and the numbers
-    /// are within their widths.
+    /// Its message. What the packet keeps is known of it: a SEND comes from its owner, the place is one of a
+    /// stream, and the command's numbers are within their widths.
     #[inline(always)]
     pub fn message(&self) -> Message
         ensures value { result ≡ message_of self.now }
@@ -154,4 +155,12 @@ impl Packet {
             command: self.command,
         }
     }
+}
+
+/// Whether a message is a SEND that comes from another than its owner.
+#[inline(always)]
+pub(crate) fn is_relayed(from: NodeName, message: &Message) -> bool
+    ensures { result ≡ is_relayed from message.now }
+{
+    matches!(message.kind, Kind::Send) && from.index() != message.owner.index()
 }

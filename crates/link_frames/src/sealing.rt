@@ -44,7 +44,7 @@ fn header_bytes(cluster: u32, packet: &Packet) -> [u8; COMMAND_AT]
     ensures { result ≡ header cluster packet.now }
 {
     let [c0, c1, c2, c3] = cluster.to_be_bytes();
-    let [p0, p1] = packet.place().to_be_bytes();
+    let [p0, p1, p2, p3] = packet.place().to_be_bytes();
     let kind = match packet.kind() {
         Kind::Send => 1,
         Kind::Echo => 2,
@@ -62,5 +62,7 @@ fn header_bytes(cluster: u32, packet: &Packet) -> [u8; COMMAND_AT]
         packet.owner().index(),
         p0,
         p1,
+        p2,
+        p3,
     ]
 }

@@ -81,23 +81,23 @@ fn three_keys_for_four_nodes(rt: HostRuntime) -> Result<(), Fail> {
     Ok(())
 }
 
-/// The first twenty bytes of the SEND from 0 to 1, in cluster 1, of `assign 7 2` at place 0.
-const FIELDS: [u8; 20] = [
-    0x01, 0x00, 0x00, 0x00, 0x01, 0x00, 0x01, 0x01, 0x00, 0x00, 0x00, 0x01, 0x00, 0x02, 0x00, 0x00,
-    0x00, 0x07, 0x00, 0x00,
+/// The first 22 bytes of the SEND from 0 to 1, in cluster 1, of `assign 7 2` at place 0.
+const FIELDS: [u8; 22] = [
+    0x02, 0x00, 0x00, 0x00, 0x01, 0x00, 0x01, 0x01, 0x00, 0x00, 0x00, 0x00, 0x00, 0x01, 0x00, 0x02,
+    0x00, 0x00, 0x00, 0x07, 0x00, 0x00,
 ];
 
 /// The frame of these fields under the laboratory key of two nodes.
-fn tagged(a: u8, b: u8, fields: &[u8; 20]) -> Frame {
+fn tagged(a: u8, b: u8, fields: &[u8; 22]) -> Frame {
     let mut frame = [0; FRAME_LEN];
-    frame[..20].copy_from_slice(fields);
-    frame[20..].copy_from_slice(&hmac_sha256(&lab_key(a, b), fields));
+    frame[..22].copy_from_slice(fields);
+    frame[22..].copy_from_slice(&hmac_sha256(&lab_key(a, b), fields));
     frame
 }
 
 /// So many bytes of a frame.
 fn cut(frame: &Frame, n: usize) -> &[u8]
-    requires { n ≤ 52 }
+    requires { n ≤ 54 }
 {
     &frame[..n]
 }
@@ -120,7 +120,7 @@ fn flipped(frame: &Frame, at: usize, bits: u8) -> Frame {
     other
 }
 
-fn altered(fields: &[u8; 20], at: usize, value: u8) -> [u8; 20] {
+fn altered(fields: &[u8; 22], at: usize, value: u8) -> [u8; 22] {
     let mut other = *fields;
     if let Some(byte) = other.get_mut(at) {
         *byte = value;
@@ -157,7 +157,7 @@ fn what_is_sealed_is_opened(rt: HostRuntime) -> Result<(), Fail> {
 
 /// What is refused with another byte in a frame whose tag stays.
 static BEFORE_THE_TAG: [(usize, u8, LinkFault); 4] = [
-    (0, 2, LinkFault::Version),
+    (0, 1, LinkFault::Version),
     (4, 2, LinkFault::Cluster),
     (6, 2, LinkFault::NotForMe),
     (5, 9, LinkFault::NoSuchNode),
@@ -192,7 +192,7 @@ static FLIPPED: [(usize, usize, u8, LinkFault, u32); 6] = [
     (5, 6, 0xfc, LinkFault::NoSuchNode, 6),
     (5, 6, 0x03, LinkFault::BadTag, 2),
     (6, 7, 0xff, LinkFault::NotForMe, 8),
-    (7, FRAME_LEN, 0xff, LinkFault::BadTag, 360),
+    (7, FRAME_LEN, 0xff, LinkFault::BadTag, 376),
 ];
 
 /// Flips each bit of a range alone. How many were refused as they must be.
@@ -256,11 +256,13 @@ fn frames_have_one_length(rt: HostRuntime) -> Result<(), Fail> {
 }
 
 /// What is refused with another byte in the fields, under a tag by this node.
-static BEHIND_THE_TAG: [(u8, usize, u8, LinkFault); 4] = [
+static BEHIND_THE_TAG: [(u8, usize, u8, LinkFault); 6] = [
     (0, 7, 4, LinkFault::BadKind),
     (0, 8, 4, LinkFault::BadOwner),
-    (0, 19, 1, LinkFault::BadCommand),
+    (0, 21, 1, LinkFault::BadCommand),
     (2, 5, 2, LinkFault::SendNotByOwner),
+    (0, 10, 0x10, LinkFault::BadPlace),
+    (0, 9, 0x80, LinkFault::BadPlace),
 ];
 
 fn refuse_behind_the_tag(rt: &impl Abort, keys: &PairKeys, sizes: &Sizes)
@@ -281,6 +283,40 @@ fn refusals_behind_the_tag(rt: HostRuntime) -> Result<(), Fail> {
     let sizes = Sizes::new(4, 1)?;
     let me = sizes.name(1).ok_or("no name")?;
     refuse_behind_the_tag(&rt, &lab_keys(rt.alloc(), &sizes, me)?, &sizes);
+    Ok(())
+}
+
+/// The same SEND at the last place of a stream, with the tag of Python's hmac.
+static LAST_PLACE: Frame = [
+    0x02, 0x00, 0x00, 0x00, 0x01, 0x00, 0x01, 0x01, 0x00, 0x00, 0x0f, 0xff, 0xff, 0x01, 0x00, 0x02,
+    0x00, 0x00, 0x00, 0x07, 0x00, 0x00, 0x00, 0x7b, 0x9f, 0xc8, 0x47, 0xb1, 0x1a, 0xd9, 0x81, 0xaa,
+    0xc8, 0xb8, 0x3d, 0x65, 0x47, 0xf1, 0xc1, 0x9c, 0xc5, 0x5c, 0x2a, 0x5d, 0xfb, 0x36, 0xbd, 0x8f,
+    0x6b, 0x8c, 0xf7, 0x14, 0x28, 0x1a,
+];
+
+/// The same at the first number that is no place.
+static NO_PLACE: Frame = [
+    0x02, 0x00, 0x00, 0x00, 0x01, 0x00, 0x01, 0x01, 0x00, 0x00, 0x10, 0x00, 0x00, 0x01, 0x00, 0x02,
+    0x00, 0x00, 0x00, 0x07, 0x00, 0x00, 0x18, 0x4a, 0x9e, 0x7d, 0x57, 0xde, 0xfd, 0x72, 0xfc, 0xad,
+    0x98, 0xb9, 0xb0, 0x94, 0x8e, 0x84, 0xe9, 0xcf, 0x27, 0x26, 0xca, 0x7a, 0xbf, 0xd9, 0x7b, 0xb6,
+    0x8a, 0x1d, 0x80, 0x42, 0xea, 0xdb,
+];
+
+#[test]
+fn a_stream_ends_at_its_last_place(rt: HostRuntime) -> Result<(), Fail> {
+    let sizes = Sizes::new(4, 1)?;
+    let me = sizes.name(1).ok_or("no name")?;
+    let keys = lab_keys(rt.alloc(), &sizes, me)?;
+    let opened = open_frame(&keys, &sizes, 1, &LAST_PLACE)?;
+    assert!(rt; opened.place() == 1_048_575);
+    assert!(rt; open_frame(&keys, &sizes, 1, &NO_PLACE) == Err(LinkFault::BadPlace));
+    let message = Message {
+        place: PLACES,
+        ..opened.message()
+    };
+    assert!(rt; Packet::new(opened.from(), opened.to(), message).is_none());
+    let text = format!(in rt.alloc(); "{}", LinkFault::BadPlace)?;
+    assert!(rt; text.as_str() == "L11 BadPlace");
     Ok(())
 }
 

@@ -100,7 +100,7 @@ impl OwnerStream {
             (λ taken. IsAnswerAt sizes.now (held self.old here) (take_of packet.now) taken) }
         ensures err { let here = packet.now.place in OnErr result (held self.new here ≡ held self.old here) }
     {
-        let place = usize::from(packet.place());
+        let place = packet.place() as usize;
         self.below.reserve(WINDOW as usize)?;
         if place < self.below.len() {
             return Ok(take_record(&mut self.below, place, packet));
@@ -176,7 +176,7 @@ impl OwnerStream {
     {
         let place = packet.message().place;
         let end = self.reach() + WINDOW;
-        if u32::from(place) >= end {
+        if place >= end {
             return Err(StreamFault::Beyond { place, end });
         }
         if self.voted(packet) {
@@ -195,7 +195,7 @@ impl OwnerStream {
             SendsAreFrom owner (takes ++ take_of packet.now ∷ []) →
             result ≡ is_some (vote packet.now.kind packet.now.from takes) }
     {
-        let place = usize::from(packet.place());
+        let place = packet.place() as usize;
         let kind = packet.kind();
         let from = packet.from();
         if place < self.below.len() {
@@ -220,7 +220,7 @@ impl OwnerStream {
     pub(crate) fn command(&self, place: Place) -> Option<Command>
         ensures { result ≡ command_in self.now place }
     {
-        let place = usize::from(place);
+        let place = place as usize;
         if place < self.below.len() {
             Some(self.record_at(place).delivered())
         } else {
@@ -232,7 +232,7 @@ impl OwnerStream {
     pub(crate) fn again(&self, place: Place) -> Again
         ensures { result ≡ again_in (held self.now place) }
     {
-        let place = usize::from(place);
+        let place = place as usize;
         if place < self.below.len() {
             let record = self.record_at(place);
             return Again {

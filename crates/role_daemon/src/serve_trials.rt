@@ -187,7 +187,7 @@ where
     let mut frame: Frame = [0; FRAME_LEN];
     next.read_exact(&mut frame)?;
     // a SEND from node 1 to node 0 of its place 0
-    Ok(frame.starts_with(&[1, 0, 0, 0, 1, 1, 0, 1, 1, 0, 0]))
+    Ok(frame.starts_with(&[2, 0, 0, 0, 1, 1, 0, 1, 1, 0, 0, 0, 0]))
 }
 
 /// What a client hears that asks how many events there are, and what the node sent at the first place of node 0.

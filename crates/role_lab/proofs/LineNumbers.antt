@@ -35,7 +35,7 @@ at_node-grouped name node text = simp append_assoc
 session_rest : (n : ℕ) (rest : List ℕ) → n < 2 ^ 64 → then_rest long_number (decimal n ++ (32 ∷ rest)) ≡ Some (n, rest)
 session_rest n rest small = then_rest-decimal long_number n n rest small (long_read n small)
 
-wide_rest : (n : ℕ) (rest : List ℕ) → n < 2 ^ 32 → then_rest wide_number (decimal n ++ (32 ∷ rest)) ≡ Some (n, rest)
+pub wide_rest : (n : ℕ) (rest : List ℕ) → n < 2 ^ 32 → then_rest wide_number (decimal n ++ (32 ∷ rest)) ≡ Some (n, rest)
 wide_rest n rest small = then_rest-decimal wide_number n n rest (omega arith) (wide_read n small)
 
 pub narrow_rest : (n : ℕ) (rest : List ℕ) → n < 2 ^ 16 → then_rest narrow_number (decimal n ++ (32 ∷ rest))
@@ -97,7 +97,7 @@ session_rest_spelled : (text : List ℕ) (p : ℕ × List ℕ) → then_rest lon
     → (text ≡ decimal p.0 ++ (32 ∷ p.1)) × (p.0 < 2 ^ 64)
 session_rest_spelled text p e = let s = then_rest_spelled (2 ^ 64 - 1) text p e in (s.0, omega arith)
 
-wide_rest_spelled : (text : List ℕ) (p : ℕ × List ℕ) → then_rest wide_number text ≡ Some p
+pub wide_rest_spelled : (text : List ℕ) (p : ℕ × List ℕ) → then_rest wide_number text ≡ Some p
     → (text ≡ decimal p.0 ++ (32 ∷ p.1)) × (p.0 < 2 ^ 32)
 wide_rest_spelled text p e = let s = then_rest_spelled (2 ^ 32 - 1) text p e in (s.0, omega arith)
 

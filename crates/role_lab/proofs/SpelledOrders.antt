@@ -8,7 +8,7 @@ use Rattle.std.specs.Fmt.{decimal}
 use Rattle.std.specs.List.{position_or_len}
 use Rattle.std.specs.Str.{bytes_eq}
 use Rattle.quorum_sizes.specs.Sizes.{Counts, AreSizes}
-use Rattle.role_commands.specs.Numbers.{is_space, split_word, narrow_number, wide_number}
+use Rattle.role_commands.specs.Numbers.{is_space, split_word, wide_number}
 use Rattle.role_commands.specs.Bytes.{IsBytes}
 use Rattle.role_commands.specs.Reading.{command_of}
 use Rattle.role_commands.specs.Words.{spelling, IsCommand}
@@ -16,7 +16,7 @@ use Rattle.role_commands.specs.declared.command.Command.{Command}
 use Rattle.role_commands.proofs.Exported.{split_word-word, split_word-joined, wide_read, long_read, narrow_read}
 use Rattle.role_commands.proofs.Exported.{wide_spelled, narrow_spelled, long_spelled, if_else, mapped, by_name}
 use Rattle.role_commands.proofs.Exported.{by_name_made, command_of-spelling, command_of_spelled}
-use Rattle.link_frames.specs.Packets.{PacketValue, SentByOwner, packet_of}
+use Rattle.link_frames.specs.Packets.{PacketValue, IsSound, packet_of}
 use Rattle.link_frames.specs.declared.packet.Message.{Message}
 use Rattle.link_frames.proofs.Exported.{due_takes, due_again}
 use Rattle.role_sessions.specs.declared.event.ClientEvent.{ClientEvent}
@@ -40,7 +40,7 @@ use Rattle.role_lab.specs.declared.orders.Order.TheVariants.{Do, Flush, Settle, 
 use Rattle.role_lab.proofs.SpelledBytes.{bytes_read, bytes_spelled, spelling_spells}
 use Rattle.role_lab.proofs.LineNames.{node_read, node_spelled, node_rest_spelled, kind_read, plain_kind}
 use Rattle.role_lab.proofs.LineNames.{kind_spelled, then_rest-word, then_rest-decimal, then_rest_is}
-use Rattle.role_lab.proofs.LineNumbers.{at_node-grouped, two_numbers-grouped, narrow_rest_spelled, joined}
+use Rattle.role_lab.proofs.LineNumbers.{at_node-grouped, two_numbers-grouped, wide_rest, wide_rest_spelled, joined}
 use Rattle.role_lab.proofs.LineNumbers.{session_and_user-numbers, session_user_and_role-numbers}
 use Rattle.role_lab.proofs.LineNumbers.{access_of-numbers, role_operations_of-numbers, user_operations_of-numbers}
 use Rattle.role_lab.proofs.LineNumbers.{session_and_user_spelled, session_user_and_role_spelled}
@@ -95,9 +95,8 @@ lie_read s p are is =
     (node_read s p.to are is.to))
     (rw (then_rest-decimal (node_number s) p.owner p.owner place_text (omega (arith, is.owner, are.0))
     (node_read s p.owner are is.owner))
-    (rw (then_rest-decimal narrow_number p.place p.place (spelling p.command) (omega (arith, is.packet.1))
-    (narrow_read p.place is.packet.1))
-    (rw (command_of-spelling p.command is.packet.2) (due_again p is.packet.0))))))
+    (rw (wide_rest p.place (spelling p.command) (omega (arith, is.packet.1)))
+    (rw (command_of-spelling p.command is.packet.2) (due_again p (is.packet.0, is.packet.1)))))))
 
 lie_spelled : (s : Counts) (text : List ℕ) (p : PacketValue) → lie_of s text ≡ Some p
     → (text ≡ packet_spelling p) × IsLie s p
@@ -113,10 +112,10 @@ lie_spelled s text p e =
     let (cut_from, from_within) = node_rest_spelled s kind.1 from is_from in
     let (cut_to, to_within) = node_rest_spelled s from.1 to is_to in
     let (cut_owner, owner_within) = node_rest_spelled s to.1 owner is_owner in
-    let (cut_place, small) = narrow_rest_spelled owner.1 place is_place in
+    let cut_place = (wide_rest_spelled owner.1 place is_place).0 in
     let (spelled, fits) = command_of_spelled place.1 command is_command in
     let m : Message = record { kind = kind.0; owner = owner.0; place = place.0; command = command } in
-    let (same, owns) = due_takes from.0 to.0 m p due in
+    let (same, sound) = due_takes from.0 to.0 m p due in
     let last : owner.1 ≡ decimal place.0 ++ (32 ∷ spelling command) =
     cut_place ∙ ap (λ w. decimal place.0 ++ (32 ∷ w)) spelled in
     let text_is : text ≡ packet_spelling (packet_of from.0 to.0 m) =
@@ -128,7 +127,7 @@ lie_spelled s text p e =
       from = from_within;
       to = to_within;
       owner = owner_within;
-      packet = (subst SentByOwner (sym same) owns, small, fits);
+      packet = let (owns, in_range) = subst IsSound (sym same) sound in (owns, in_range, fits);
     } in
     (text_is ∙ ap packet_spelling same, subst (IsLie s) same lie)))))))
 

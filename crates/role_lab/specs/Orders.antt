@@ -61,7 +61,7 @@ named_setup s name text =
 unfoldable pub setup_of_line : Counts → List ℕ → Option Setup
 setup_of_line s line = option_and_then (λ words. named_setup s words.0 words.1) (split_word line)
 
--- Sessions have 64 bits, users, objects and packets' numbers 32, roles, operations and places 16.
+-- Sessions have 64 bits, users, objects, places and packets' numbers 32, roles and operations 16.
 
 -- `S USER`
 unfoldable pub session_and_user : List ℕ → Option (ℕ × ℕ)
@@ -114,7 +114,7 @@ named_listing name text =
 unfoldable pub listing_of : List ℕ → Option Question
 listing_of text = option_and_then (λ words. named_listing words.0 words.1) (split_word text)
 
--- `KIND FROM TO OWNER PLACE C`; a SEND is its owner's
+-- `KIND FROM TO OWNER PLACE C`; a SEND is its owner's, and the place one of a stream
 unfoldable pub lie_of : Counts → List ℕ → Option PacketValue
 lie_of s text =
     option_and_then (λ kind.
@@ -125,7 +125,7 @@ lie_of s text =
     option_and_then (λ command.
     packet_due from.0 to.0 (record { kind = kind.0; owner = owner.0; place = place.0; command = command }))
     (command_of place.1))
-    (then_rest narrow_number owner.1))
+    (then_rest wide_number owner.1))
     (then_rest (node_number s) to.1))
     (then_rest (node_number s) from.1))
     (then_rest (node_number s) kind.1))

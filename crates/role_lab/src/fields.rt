@@ -20,7 +20,7 @@ pub fn session_then(text: &str) -> Option<(u64, &str)>
     Some((long_number(word)?, rest))
 }
 
-/// A user or an object, and what stands behind its space.
+/// A user, an object or a place, and what stands behind its space.
 #[tactic(auto, unfolding(crate::specs::Orders::then_rest))]
 pub fn wide_then(text: &str) -> Option<(u32, &str)>
     ensures { option_map (λ p. (p.0, p.1.now)) result ≡ reading.then_rest numbers.wide_number text.now }
@@ -29,7 +29,7 @@ pub fn wide_then(text: &str) -> Option<(u32, &str)>
     Some((wide_number(word)?, rest))
 }
 
-/// A role, an operation or a place, and what stands behind its space.
+/// A role or an operation, and what stands behind its space.
 #[tactic(auto, unfolding(crate::specs::Orders::then_rest))]
 pub fn narrow_then(text: &str) -> Option<(u16, &str)>
     ensures { option_map (λ p. (p.0, p.1.now)) result ≡ reading.then_rest numbers.narrow_number text.now }

@@ -278,7 +278,7 @@ fn lie_of(sizes: &Sizes, text: &str) -> Option<Packet>
     let to = node_number(sizes, word)?;
     let (word, text) = split_word(text)?;
     let owner = node_number(sizes, word)?;
-    let (place, text) = narrow_then(text)?;
+    let (place, text) = wide_then(text)?;
     let command = parse_command(text)?;
     let message = Message {
         kind,

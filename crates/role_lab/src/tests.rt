@@ -42,12 +42,12 @@ const BYTES: Row = (
     "cluster 4 1\n\
     role 2 0\n\
     bytes 1 -\n\
-    bytes 1 01000000010001010000000100020000000700007748227dd60fa0e7d9fe50a5b9ac4a3a2e2f051b6d9ef19e52f2813c9887255a\n\
+    bytes 1 020000000100010100000000000100020000000700004d048806c23113432e60da75912f98f908f165dc9f3144962acc2cdca86137fd\n\
     issue 0 assign 7 2\n\
-    bytes 1 01000000010001010000000100020000000700007748227dd60fa0e7d9fe50a5b9ac4a3a2e2f051b6d9ef19e52f2813c9887255b\n\
-    bytes 1 0100000002000101000000010002000000070000eb706a1a4c2176221f98ec91ea208d13057df66d8961c29b30efaab36f577455\n\
-    bytes 2 01000000010001010000000100020000000700007748227dd60fa0e7d9fe50a5b9ac4a3a2e2f051b6d9ef19e52f2813c9887255a\n\
-    bytes 1 01000000010001010000000100020000000700007748227DD60FA0E7D9FE50A5B9AC4A3A2E2F051B6D9EF19E52F2813C9887255A\n\
+    bytes 1 020000000100010100000000000100020000000700004d048806c23113432e60da75912f98f908f165dc9f3144962acc2cdca86137fc\n\
+    bytes 1 02000000020001010000000000010002000000070000bb95a848620c3c2542d73d0d006acd39bde1dbd65afbafeb09248d51f369ab33\n\
+    bytes 2 020000000100010100000000000100020000000700004d048806c23113432e60da75912f98f908f165dc9f3144962acc2cdca86137fd\n\
+    bytes 1 020000000100010100000000000100020000000700004D048806C23113432E60DA75912F98F908F165DC9F3144962ACC2CDCA86137FD\n\
     give 1\n",
     "sizes 3 2 3\nok\nL1 Length\nV4 NotSent\nissued 0 sent 0-3\n\
       L6 BadTag\nL3 Cluster\nL4 NotForMe\ncounted echo 4-7\nidle\n",
@@ -112,7 +112,7 @@ fn a_clear_names_one_role(rt: HostRuntime) {
 }
 
 /// A script, the number of its first bad line, and what is written before.
-static BAD_SCRIPTS: [(&str, u64, &str); 8] = [
+static BAD_SCRIPTS: [(&str, u64, &str); 9] = [
     ("cluster 3 1\n", 1, ""),
     ("cluster 129 42\n", 1, ""),
     ("\n", 1, ""),
@@ -121,6 +121,11 @@ static BAD_SCRIPTS: [(&str, u64, &str); 8] = [
         "cluster 4 1\nliar 3\nlie send 3 1 0 0 assign 7 2\n",
         3,
         "sizes 3 2 3\nok\n",
+    ),
+    (
+        "cluster 4 1\nliar 3\nlie ready 3 1 0 1048575 assign 7 2\nlie ready 3 1 0 1048576 assign 7 2\n",
+        4,
+        "sizes 3 2 3\nok\nS1 Beyond 1048575 64\n",
     ),
     ("cluster 4 1\nbytes 1 0\n", 2, "sizes 3 2 3\n"),
     ("cluster 4 1\nbytes 1 \n", 2, "sizes 3 2 3\n"),

@@ -284,7 +284,7 @@ impl State {
     {
         let again = self.streams.again(owner, place);
         let send = if owner == me {
-            self.issued.get(usize::from(place)).copied()
+            self.issued.get(place as usize).copied()
         } else {
             None
         };
@@ -318,7 +318,7 @@ fn obey(policy: &mut Policy, streams: &Streams, owner: NodeName, from: u32, to: 
     ensures table { policy.new.table ≡ policy.old.table }
 {
     for place in from..to {
-        if let Some(command) = streams.command(owner, place as Place) {
+        if let Some(command) = streams.command(owner, place) {
             policy.apply(owner, command);
         }
     }

@@ -1,10 +1,8 @@
-use Rattle.std.proofs.Common.{◌≡◌, sym, ap, ◌∙◌, arith}
+use Rattle.std.proofs.Common.{sym, ap, ◌∙◌}
 use Rattle.owner_streams.specs.Slots.{again_in}
-use Rattle.owner_streams.specs.Kept.{held}
 use Rattle.owner_streams.proofs.owner_stream.OwnerStream.again.Goals as goal
 
 pub returns-then-place-len : goal.returns-then-place-len
 returns-then-place-len c =
-    let at : c.from-place.result ≡ c.args.place = omega arith in
     (λ i. record { echo = c.echoed.ensures i; ready = c.readied.ensures i })
-    ∙ ap again_in (sym c.record_at-record.ensures ∙ ap (held c.args.self.now) at)
+    ∙ ap again_in (sym c.record_at-record.ensures)

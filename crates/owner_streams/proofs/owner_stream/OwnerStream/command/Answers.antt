@@ -7,10 +7,9 @@ use Rattle.owner_streams.proofs.owner_stream.OwnerStream.command.Goals as goal
 
 pub returns-then-place-len : goal.returns-then-place-len
 returns-then-place-len c =
-    let at : c.from-place.result ≡ c.args.place = omega arith in
     let below : nat_lt c.args.place (reach_in c.args.self.now) ≡ true = grind (arith, nat_tests) in
     let found : command_in c.args.self.now c.args.place ≡ delivered_in (held c.args.self.now c.args.place) =
     rw below refl in
     c.delivered.ensures
-    ∙ ap delivered_in (sym c.record_at.ensures ∙ ap (held c.args.self.now) at)
+    ∙ ap delivered_in (sym c.record_at.ensures)
     ∙ sym found

@@ -9,8 +9,8 @@ use Rattle.owner_streams.proofs.Stepping.{due_beyond, due_within, look_is}
 use Rattle.owner_streams.proofs.Senders.{one_sender}
 use Rattle.owner_streams.proofs.owner_stream.OwnerStream.look.Goals as goal
 
-pub returns-then-from-end-clause-due : goal.returns-then-from-end-clause-due
-returns-then-from-end-clause-due c s packets kept is sent =
+pub returns-then-place-end-clause-due : goal.returns-then-place-end-clause-due
+returns-then-place-end-clause-due c s packets kept is sent =
     let e = ap (λ m. m.place) c.message-place.ensures.value in
     let beyond : reach_in c.args.self.now + window ≤ c.args.packet.now.place = omega arith in
     (λ i. Err (Beyond (e i) (c.reach-end.ensures i + 64)))

@@ -40,37 +40,37 @@ returns-in_err-reserve-clause-err c =
 pub returns-then-place-len-clause-others : goal.returns-then-place-len-clause-others
 unfolding held
 returns-then-place-len-clause-others c place apart =
-    let at : c.from-place.result ≡ c.args.packet.now.place = omega arith in
+    let at : c.place-place.result ≡ c.args.packet.now.place = omega arith in
     let ring = c.args.self.now.ring.items in
-    held-other_record c.reserve.new.self.items c.take_record.new.records.items ring c.from-place.result (omega arith)
+    held-other_record c.reserve.new.self.items c.take_record.new.records.items ring c.place-place.result (omega arith)
     c.take_record.ensures.len c.take_record.ensures.others place (λ e. apart (e ∙ at))
     ∙ ap (λ below. held_in below ring place) c.reserve.ensures.items
 
 pub returns-then-place-len-clause-state : goal.returns-then-place-len-clause-state
 unfolding held
 returns-then-place-len-clause-state c =
-    let at : c.from-place.result ≡ c.args.packet.now.place = omega arith in
+    let at : c.place-place.result ≡ c.args.packet.now.place = omega arith in
     let ring = c.args.self.now.ring.items in
     let below = c.reserve.new.self.items in
-    let here : c.from-place.result < length below = omega arith in
+    let here : c.place-place.result < length below = omega arith in
     goes_on c.args.sizes.now _ _ _ _ _
     (ap (held c.args.self.now) (sym at)
-    ∙ sym (ap (λ xs. held_in xs ring c.from-place.result) c.reserve.ensures.items)
-    ∙ held-below below ring c.from-place.result here)
+    ∙ sym (ap (λ xs. held_in xs ring c.place-place.result) c.reserve.ensures.items)
+    ∙ held-below below ring c.place-place.result here)
     (ap (held_in c.take_record.new.records.items ring) (sym at)
-    ∙ held-record below c.take_record.new.records.items ring c.from-place.result here c.take_record.ensures.len)
+    ∙ held-record below c.take_record.new.records.items ring c.place-place.result here c.take_record.ensures.len)
     (c.take_record.ensures.state c.args.sizes.now)
 
 pub returns-then-place-len-clause-taken : goal.returns-then-place-len-clause-taken
 unfolding held
 returns-then-place-len-clause-taken c =
-    let at : c.from-place.result ≡ c.args.packet.now.place = omega arith in
+    let at : c.place-place.result ≡ c.args.packet.now.place = omega arith in
     let ring = c.args.self.now.ring.items in
-    let here : c.from-place.result < length c.reserve.new.self.items = omega arith in
+    let here : c.place-place.result < length c.reserve.new.self.items = omega arith in
     answers c.args.sizes.now _ _ _ _
     (ap (held c.args.self.now) (sym at)
-    ∙ sym (ap (λ xs. held_in xs ring c.from-place.result) c.reserve.ensures.items)
-    ∙ held-below c.reserve.new.self.items ring c.from-place.result here)
+    ∙ sym (ap (λ xs. held_in xs ring c.place-place.result) c.reserve.ensures.items)
+    ∙ held-below c.reserve.new.self.items ring c.place-place.result here)
     (c.take_record.ensures.taken c.args.sizes.now)
 
 -- The slot of the place.
@@ -78,57 +78,57 @@ returns-then-place-len-clause-taken c =
 pub returns-clause-others : goal.returns-clause-others
 unfolding held
 returns-clause-others c place apart =
-    let at : c.from-place.result ≡ c.args.packet.now.place = omega arith in
+    let at : c.place-place.result ≡ c.args.packet.now.place = omega arith in
     let ring = c.args.self.now.ring.items in
     let records = c.reserve.new.self.items in
     let len : length records ≡ length c.args.self.now.below.items = ap length c.reserve.ensures.items in
-    held-other_slot records ring c.take_slot.new.ring.items c.from-place.result (omega arith) (omega arith)
+    held-other_slot records ring c.take_slot.new.ring.items c.place-place.result (omega arith) (omega arith)
     c.take_slot.ensures.others place (λ e. apart (e ∙ at))
     ∙ ap (λ below. held_in below ring place) c.reserve.ensures.items
 
 pub returns-clause-state : goal.returns-clause-state
 unfolding held
 returns-clause-state c =
-    let at : c.from-place.result ≡ c.args.packet.now.place = omega arith in
-    let slot = c.from-place.result % window in
+    let at : c.place-place.result ≡ c.args.packet.now.place = omega arith in
+    let slot = c.place-place.result % window in
     let ring = c.args.self.now.ring.items in
     let records = c.reserve.new.self.items in
     let len : length records ≡ length c.args.self.now.below.items = ap length c.reserve.ensures.items in
     let before : held c.args.self.now c.args.packet.now.place ≡ slot_at ring slot =
     ap (held c.args.self.now) (sym at)
-    ∙ held-window c.args.self.now.below.items ring c.from-place.result (omega arith) (omega arith) in
+    ∙ held-window c.args.self.now.below.items ring c.place-place.result (omega arith) (omega arith) in
     let after : held_in records c.take_slot.new.ring.items c.args.packet.now.place
     ≡ slot_at c.take_slot.new.ring.items slot =
     ap (held_in records c.take_slot.new.ring.items) (sym at)
-    ∙ held-window records c.take_slot.new.ring.items c.from-place.result (omega arith) (omega arith) in
+    ∙ held-window records c.take_slot.new.ring.items c.place-place.result (omega arith) (omega arith) in
     on_ok_weaker c.take_slot.result (goes_on c.args.sizes.now _ _ _ _ _ before after) c.take_slot.ensures.state
 
 pub returns-clause-taken : goal.returns-clause-taken
 unfolding held
 returns-clause-taken c =
-    let at : c.from-place.result ≡ c.args.packet.now.place = omega arith in
-    let slot = c.from-place.result % window in
+    let at : c.place-place.result ≡ c.args.packet.now.place = omega arith in
+    let slot = c.place-place.result % window in
     let ring = c.args.self.now.ring.items in
     let records = c.reserve.new.self.items in
     let len : length records ≡ length c.args.self.now.below.items = ap length c.reserve.ensures.items in
     let before : held c.args.self.now c.args.packet.now.place ≡ slot_at ring slot =
     ap (held c.args.self.now) (sym at)
-    ∙ held-window c.args.self.now.below.items ring c.from-place.result (omega arith) (omega arith) in
+    ∙ held-window c.args.self.now.below.items ring c.place-place.result (omega arith) (omega arith) in
     IfOk-weaker c.take_slot.result _ _ (λ taken. answers c.args.sizes.now _ taken _ _ before) c.take_slot.ensures.taken
 
 pub returns-clause-err : goal.returns-clause-err
 unfolding held
 returns-clause-err c =
-    let at : c.from-place.result ≡ c.args.packet.now.place = omega arith in
-    let slot = c.from-place.result % window in
+    let at : c.place-place.result ≡ c.args.packet.now.place = omega arith in
+    let slot = c.place-place.result % window in
     let ring = c.args.self.now.ring.items in
     let records = c.reserve.new.self.items in
     let len : length records ≡ length c.args.self.now.below.items = ap length c.reserve.ensures.items in
     let before : held c.args.self.now c.args.packet.now.place ≡ slot_at ring slot =
     ap (held c.args.self.now) (sym at)
-    ∙ held-window c.args.self.now.below.items ring c.from-place.result (omega arith) (omega arith) in
+    ∙ held-window c.args.self.now.below.items ring c.place-place.result (omega arith) (omega arith) in
     let after : held_in records c.take_slot.new.ring.items c.args.packet.now.place
     ≡ slot_at c.take_slot.new.ring.items slot =
     ap (held_in records c.take_slot.new.ring.items) (sym at)
-    ∙ held-window records c.take_slot.new.ring.items c.from-place.result (omega arith) (omega arith) in
+    ∙ held-window records c.take_slot.new.ring.items c.place-place.result (omega arith) (omega arith) in
     on_err_weaker c.take_slot.result (λ same. after ∙ same ∙ sym before) c.take_slot.ensures.err

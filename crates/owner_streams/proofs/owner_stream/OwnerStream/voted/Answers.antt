@@ -10,7 +10,7 @@ use Rattle.owner_streams.proofs.owner_stream.OwnerStream.voted.Goals as goal
 
 pub returns-then-place-len-clause-seen : goal.returns-then-place-len-clause-seen
 returns-then-place-len-clause-seen c =
-    let at : c.from-place.result ≡ c.args.packet.now.place = omega arith in
+    let at : c.place-place.result ≡ c.args.packet.now.place = omega arith in
     c.voted.ensures.seen
     ∙ (λ i. has_voted c.record_at.result.now (c.kind-kind.ensures i) (c.from-from.ensures i))
     ∙ ap (λ slot. voted_in slot c.args.packet.now.kind c.args.packet.now.from)
@@ -18,7 +18,7 @@ returns-then-place-len-clause-seen c =
 
 pub returns-then-place-len-clause-vote : goal.returns-then-place-len-clause-vote
 returns-then-place-len-clause-vote c s takes owner is from =
-    let at : c.from-place.result ≡ c.args.packet.now.place = omega arith in
+    let at : c.place-place.result ≡ c.args.packet.now.place = omega arith in
     let command = c.args.packet.now.command in
     let t : Take = record { kind = c.kind-kind.result; from = c.from-from.result; command = command } in
     let same : t ≡ take_of c.args.packet.now =
@@ -31,7 +31,7 @@ returns-then-place-len-clause-vote c s takes owner is from =
 
 pub returns-in-Some-clause-vote : goal.returns-in-Some-clause-vote
 returns-in-Some-clause-vote c s takes owner is from =
-    let at : c.from-place.result ≡ c.args.packet.now.place = omega arith in
+    let at : c.place-place.result ≡ c.args.packet.now.place = omega arith in
     let command = c.args.packet.now.command in
     let t : Take = record { kind = c.kind-kind.result; from = c.from-from.result; command = command } in
     let same : t ≡ take_of c.args.packet.now =
@@ -44,6 +44,6 @@ returns-in-Some-clause-vote c s takes owner is from =
 
 pub returns-in-None-clause-vote : goal.returns-in-None-clause-vote
 returns-in-None-clause-vote c s takes owner is from =
-    let at : c.from-place.result ≡ c.args.packet.now.place = omega arith in
+    let at : c.place-place.result ≡ c.args.packet.now.place = omega arith in
     none_voted s takes c.args.packet.now.kind c.args.packet.now.from
     (ap (state_in s) (c.in-None.ensures ∙ ap (held c.args.self.now) at) ∙ is)
