@@ -5,6 +5,7 @@ ghost use Rattle.std.specs.List.{AllByRecursion};
 ghost use Rattle.client_lines.specs.AnswerTexts.{IsWritten};
 ghost use Rattle.client_lines.specs.Faults.{IsRefusal};
 ghost use Rattle.client_lines.specs.Requests.{NamesNodes};
+ghost use Rattle.role_node.specs.Answers.{sent_by_answer};
 ghost use Rattle.role_node.specs.Listed.{IsWithin};
 ghost use Rattle.role_node.specs.Nodes.{due_at};
 ghost use Rattle.role_daemon.specs.Answers as answers;
@@ -97,12 +98,11 @@ fn take_own(node: &mut Node, message: Message) -> Result<Option<Message>, AllocE
 
 /// The message that the node sends to all.
 fn sent_by(due: &Result<Reply, NodeFault>) -> Option<Message>
-    ensures { result ≡ answers.sent_by due.now }
+    ensures { result ≡ sent_by_answer due.now }
 {
     match due {
-        Ok(Reply::Issued(message)) => Some(*message),
-        Ok(Reply::Counted { send, .. }) => *send,
-        Ok(Reply::Idle | Reply::Session(_) | Reply::Done) | Err(_) => None,
+        Ok(reply) => reply.message(),
+        Err(_) => None,
     }
 }
 
