@@ -134,8 +134,7 @@ impl<L: Ledger> Locked<L> {
         ensures legal { IsLegalNode self.now.node }
         ensures beside { length self.now.seats ≡ end_of self.now }
     {
-        let _most = self.node.config().roles();
-        self.node.history().len() as u32
+        self.node.events()
     }
 
     /// Whether the seat has seen no more than the history has, and recorded as many events as it has there.

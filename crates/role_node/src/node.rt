@@ -1,5 +1,6 @@
-ghost use Rattle.std.specs.Prelude.{◌≡◌, ◌<◌, map, slice_get, IfOk, OnOk, OnErr, Ok};
+ghost use Rattle.std.specs.Prelude.{◌≡◌, ◌<◌, ◌≤◌, length, map, slice_get, IfOk, OnOk, OnErr, Ok};
 ghost use Rattle.bracha_instance.specs.declared.instance.Effect.TheVariants.{Counted};
+ghost use Rattle.role_node.specs.Configs.{most_events};
 ghost use Rattle.role_node.specs.Access.{stream_at, reach_at, sessions_at, verdict_at, sent_at};
 ghost use Rattle.role_node.specs.Questions.{ask_due, IsAsked, IsAnswerTo};
 ghost use Rattle.role_node.specs.Answers.{outlook, reply_to, is_recorded, IsAnswer};
@@ -163,6 +164,15 @@ impl Node {
         ensures legal { IsLegalNode self.now }
     {
         self.entries.as_slice()
+    }
+
+    /// How many events were recorded.
+    pub fn events(&self) -> u32
+        ensures count { result ≡ length self.now.history }
+        ensures most { result ≤ most_events }
+        ensures legal { IsLegalNode self.now }
+    {
+        self.entries.len() as u32
     }
 
     /// What the node was told at its start.

@@ -132,7 +132,7 @@ fn ask(node: &mut Node, question: Question) -> Result<ClientAnswer, AllocError>
     ensures written { IfOk result IsWritten }
     ensures same { node.new ≡ node.old }
 {
-    let at = events_recorded(node);
+    let at = node.events();
     match node.ask(question) {
         Ok(answer) => {
             are_within(&answer);
@@ -144,15 +144,6 @@ fn ask(node: &mut Node, question: Question) -> Result<ClientAnswer, AllocError>
         }
         Err(AskFault::Memory) => Err(AllocError),
     }
-}
-
-/// How many events the node has recorded.
-fn events_recorded(node: &Node) -> u32
-    ensures { result ≡ length node.now.history }
-{
-    // what the node may record at most bounds its history
-    let _limit = node.config().roles();
-    node.history().len() as u32
 }
 
 /// The numbers of an answer are within their widths, as their types say.
