@@ -6,6 +6,7 @@ ghost use Rattle.quorum_sizes.specs.Sizes.{AreSizes};
 ghost use Rattle.link_frames.specs.Packets.{IsPacket, message_of};
 ghost use Rattle.role_node.specs.Access.{verdict_at};
 ghost use Rattle.role_node.specs.Answers.{outlook, reply_to};
+ghost use Rattle.role_node.specs.Listed.{IsWithin};
 ghost use Rattle.role_node.specs.Questions.{IsAnswerTo};
 ghost use Rattle.role_node.specs.Nodes.{NodeValue};
 ghost use Rattle.bracha_instance.specs.declared.instance.Effect.TheVariants.{Counted};
@@ -387,6 +388,7 @@ impl World {
     pub fn ask(&mut self, name: NodeName, question: Question) -> Result<Answer, WorldFault>
         ensures due { IsQuestionAnswer self.old name question result }
         ensures answer { IfOk result (IsAnswerTo self.old.config.roles (history_of name self.old.run) question) }
+        ensures within { IfOk result IsWithin }
         ensures same { self.new ≡ self.old }
     {
         if !self.is_correct(name) {
