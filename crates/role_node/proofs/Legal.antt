@@ -51,7 +51,8 @@ recorded_counts (Err f) r e = absurd cc
 pub recorded_with_room : (config : ConfigValue) (me : ℕ) (past : List Event) (e : Event) →
     is_recorded (answer_due config me past e) ≡ true → length past < config.limit
 recorded_with_room config me past e recorded =
-    let counts : outlook config me past e ≡ Ok effect.Counted = recorded_counts _ (reply_to config.roles me past e) recorded in
+    let counts : outlook config me past e ≡ Ok effect.Counted =
+    recorded_counts _ (reply_to config.roles me past e) recorded in
     let room : nat_le config.limit (length past) ≡ false = (counted_with_room config me past e counts).0 in
     grind (arith, nat_tests)
 
