@@ -11,7 +11,7 @@ use Rattle.std.proofs.lemmas.List.{nil_from_length}
 use Rattle.std.proofs.lemmas.List.FromFn.{map-range_with_len_more}
 use Rattle.quorum_sizes.specs.NodeSets.{Nodes}
 use Rattle.link_frames.specs.Packets.{PacketValue}
-use Rattle.role_node.proofs.Exported.{recorded_next}
+use Rattle.role_node.proofs.Exported.{legal_within}
 use Rattle.role_node.specs.Answers.{outlook_with_room, unless_full, answered, reply_to}
 use Rattle.role_node.specs.Answers.{answer_due, is_recorded, IsLegal}
 use Rattle.bracha_instance.specs.declared.instance.Effect.{Effect}
@@ -225,33 +225,6 @@ idle_pass_is_stuck w none room p pooled correct =
 
 -- How long a run can be.
 
-roomy : (limit count : ℕ) → nat_le limit count ≡ false → count < limit
-roomy limit count e = grind (arith, nat_tests)
-
-recorded_with_room : (config : ConfigValue) (me : ℕ) (past : List Event) (e : Event) →
-    is_recorded (answer_due config me past e) ≡ true → length past < config.limit
-recorded_with_room config me past e recorded =
-    roomy config.limit (length past) (by _ (outlook_with_room config.roles me past e)
-    (reply_to config.roles me past e) recorded)
-  where
-    by : (full : Bool) (o : Result Effect NodeFault) (r : Reply) →
-        is_recorded (answered (unless_full full o) r) ≡ true → full ≡ false
-    by false o r is = refl
-    by true (Ok effect.Idle) r is = absurd cc
-    by true (Ok effect.Counted) r is = absurd cc
-    by true (Err f) r is = absurd cc
-
-short_after : (config : ConfigValue) (me : ℕ) (past rest : List Event) → IsLegal config me (past ++ rest) →
-    length past ≤ config.limit → length (past ++ rest) ≤ config.limit
-short_after config me past [] legal short = omega (arith, ap length (append-nil past), short)
-short_after config me past (e ∷ rest) legal short =
-    let split : past ++ e ∷ rest ≡ (past ++ e ∷ []) ++ rest = sym (append_assoc past (e ∷ []) rest) in
-    let room = recorded_with_room config me past e (recorded_next config me past rest e legal) in
-    let one : length (past ++ e ∷ []) ≡ length past + 1 = length-append past (e ∷ []) in
-    let more = short_after config me (past ++ e ∷ []) rest (subst (IsLegal config me) split legal)
-    (omega (arith, room, one)) in
-    omega (arith, ap length split, more)
-
 all_histories : (run : Run) (nodes : ℕ) → ((t node : ℕ) (e : Event) → slice_get run t ≡ Some (node, e) → node < nodes) →
     length run ≤ total (λ node. length (history_of node run)) nodes
 all_histories [] nodes names = omega arith
@@ -278,7 +251,7 @@ run_is_short config liars run cluster =
     let all = all_histories run nodes (λ t node e at.
     correct_is_node config.roles.sizes liars node (cluster.correct t node e at)) in
     let few = total_most (λ node. length (history_of node run)) nodes config.limit
-    (λ node. short_after config node [] (history_of node run) (cluster.legal node) (omega arith)) in
+    (λ node. legal_within config node (history_of node run) (cluster.legal node)) in
     omega (arith, all, few)
 
 -- The last pass.

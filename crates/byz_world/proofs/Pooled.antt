@@ -22,11 +22,11 @@ use Rattle.owner_streams.specs.Places.{takes_at}
 use Rattle.owner_streams.proofs.Exported.{echoed-none, readied-none}
 use Rattle.role_node.proofs.Exported.{issued-none, packets-none}
 use Rattle.role_node.specs.Access.{sent_at}
-use Rattle.role_node.specs.Answers.{answer_due, is_recorded, IsLegal}
+use Rattle.role_node.specs.Answers.{answer_due, sent_by_answer, is_recorded, IsLegal}
 use Rattle.role_node.specs.Configs.{ConfigValue}
 use Rattle.role_node.specs.declared.event.Event.{Event}
 use Rattle.byz_world.specs.Runs.{Run, history_of, is_correct, of_kind, has_sent, IsClusterRun}
-use Rattle.byz_world.specs.Pools.{Sent, listed, sent_by_answer, sends_next, messages_after, messages, packets_of}
+use Rattle.byz_world.specs.Pools.{Sent, listed, sends_next, messages_after, messages, packets_of}
 use Rattle.byz_world.specs.Pools.{pool, WasSent}
 use Rattle.byz_world.specs.Laws.{PoolIsWhatWasSent}
 use Rattle.byz_world.proofs.Elements.{at_seam, number_of, contained, contains_listed}

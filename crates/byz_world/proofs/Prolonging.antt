@@ -18,7 +18,7 @@ use Rattle.bracha_instance.specs.declared.instance.Effect.TheVariants as effect
 use Rattle.owner_streams.proofs.Exported.{takes_at-own}
 use Rattle.owner_streams.specs.Places.{window, take_of, takes_at}
 use Rattle.role_node.proofs.Exported.{packets-Take}
-use Rattle.role_node.specs.Answers.{outlook, answered, answer_due, reply_to, said_at}
+use Rattle.role_node.specs.Answers.{outlook, answered, answer_due, reply_to, said_at, sent_by_answer}
 use Rattle.role_node.specs.Configs.{ConfigValue}
 use Rattle.role_node.specs.Histories.{packets}
 use Rattle.role_node.specs.declared.event.Event.{Event}
@@ -26,7 +26,7 @@ use Rattle.role_node.specs.declared.event.Event.TheVariants as event
 use Rattle.role_node.specs.declared.faults.NodeFault.{NodeFault}
 use Rattle.std.specs.Prelude.{Result, Ok, Err}
 use Rattle.byz_world.specs.Laws.{reach_of}
-use Rattle.byz_world.specs.Pools.{Sent, sent_by_answer, sends_next, listed, messages, packets_of, pool}
+use Rattle.byz_world.specs.Pools.{Sent, sends_next, listed, messages, packets_of, pool}
 use Rattle.byz_world.specs.Progress.{IsGivable, IsProlongation, IsPoolBelow, most_at_place, most_work}
 use Rattle.byz_world.specs.Progress.{WorkIsBounded}
 use Rattle.byz_world.specs.Runs.{Run, history_of, has_sent, IsClusterRun}

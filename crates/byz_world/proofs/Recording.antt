@@ -8,7 +8,7 @@ use Rattle.std.proofs.lemmas.Map.Views.{exact_unsigned_eq}
 use Rattle.quorum_sizes.specs.NodeSets.{Nodes}
 use Rattle.link_frames.specs.declared.packet.Message.{Message}
 use Rattle.bracha_instance.specs.declared.instance.Effect.TheVariants as effect
-use Rattle.role_node.specs.Answers.{outlook, reply_to, answered, answer_due, is_recorded}
+use Rattle.role_node.specs.Answers.{outlook, reply_to, sent_by, sent_by_answer, answered, answer_due, is_recorded}
 use Rattle.role_node.specs.Configs.{ConfigValue}
 use Rattle.role_node.specs.Nodes.{NodeValue, with_event}
 use Rattle.role_node.specs.declared.event.Event.{Event}
@@ -16,7 +16,7 @@ use Rattle.role_node.specs.declared.event.Event.TheVariants.{Issue, Take, Client
 use Rattle.role_node.specs.declared.event.Reply.{Reply}
 use Rattle.role_sessions.specs.declared.event.ClientEvent.TheVariants.{Open, Activate, DropRole, Close}
 use Rattle.byz_world.specs.Runs.{Run, history_of, IsClusterRun}
-use Rattle.byz_world.specs.Pools.{Sent, listed, sent_by, sent_by_answer, sends_next, messages, pool}
+use Rattle.byz_world.specs.Pools.{Sent, listed, sends_next, messages, pool}
 use Rattle.byz_world.specs.Worlds.{WorldValue, node_in, node_due, is_correct_in}
 use Rattle.byz_world.specs.Inside.{Members, member_in, history_in, run_in, world_in, IsWorldIn, MayHappen, is_act}
 use Rattle.byz_world.proofs.Pushing.{history_of-push, history_of-push_other, messages-push}

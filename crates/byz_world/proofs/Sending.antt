@@ -29,13 +29,13 @@ use Rattle.role_node.proofs.Exported.{packets-Issue, packets-Take, packets-Clien
 use Rattle.role_node.specs.Configs.{ConfigValue}
 use Rattle.role_node.specs.Histories.{issued, packets, command_in, packet_in}
 use Rattle.role_node.specs.Access.{sent_at}
-use Rattle.role_node.specs.Answers.{outlook, answered, answer_due, reply_to, is_recorded, said_at}
+use Rattle.role_node.specs.Answers.{outlook, answered, answer_due, reply_to, sent_by, sent_by_answer, is_recorded}
+use Rattle.role_node.specs.Answers.{said_at}
 use Rattle.role_node.specs.declared.event.Event.{Event}
 use Rattle.role_node.specs.declared.event.Event.TheVariants as event
 use Rattle.role_node.specs.declared.event.Reply.{Reply}
 use Rattle.role_node.specs.declared.faults.NodeFault.{NodeFault}
 use Rattle.byz_world.specs.Runs.{of_kind}
-use Rattle.byz_world.specs.Pools.{sent_by, sent_by_answer}
 use Rattle.byz_world.proofs.Elements.{at_front, at_seam}
 
 -- what the node has sent of this message's kind, owner and place

@@ -10,7 +10,7 @@ use Rattle.role_node.specs.declared.event.Event.TheVariants.{Issue, Take, Client
 use Rattle.link_frames.specs.Packets.{PacketValue, IsSound, message_of, packet_due}
 use Rattle.bracha_instance.specs.declared.instance.Effect.{Effect}
 use Rattle.bracha_instance.specs.declared.instance.Effect.TheVariants.{Idle, Counted}
-use Rattle.role_node.specs.Answers.{outlook}
+use Rattle.role_node.specs.Answers.{outlook, sent_by}
 use Rattle.role_node.specs.declared.faults.NodeFault.{NodeFault}
 use Rattle.std.specs.List.{list_all}
 use Rattle.byz_world.specs.Runs.{Run, is_correct, has_sent, IsClusterRun}
@@ -18,7 +18,6 @@ use Rattle.byz_world.specs.Pools.{Sent, listed, messages, pool}
 use Rattle.byz_world.specs.Worlds.{WorldValue, node_due}
 use Rattle.role_node.specs.declared.event.Reply.{Reply}
 use Rattle.role_node.specs.declared.event.Reply.TheVariants as reply
-use Rattle.byz_world.specs.Pools.{sent_by}
 use Rattle.byz_world.specs.Steps.{is_pool_full, Arrival}
 use Rattle.byz_world.specs.declared.step.Came.{Came}
 use Rattle.byz_world.specs.declared.step.Came.TheVariants as came

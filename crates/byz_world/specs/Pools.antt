@@ -1,32 +1,17 @@
 -- The packets that the correct nodes of a run have sent, in the order of the run.
-use Rattle.std.specs.Prelude.{ℕ, ◌<◌, IsTrue, List, [], ◌∷◌, ◌++◌, map, Option, Some, None, option_map, Result, Ok, Err}
+use Rattle.std.specs.Prelude.{ℕ, ◌<◌, IsTrue, List, [], ◌∷◌, ◌++◌, map, Option, Some, None, option_map}
 use Rattle.std.specs.List.{range_with_len, flat_map}
 use Rattle.link_frames.specs.declared.packet.Message.{Message}
 use Rattle.quorum_sizes.specs.NodeSets.{Nodes}
 use Rattle.link_frames.specs.Packets.{PacketValue, packet_of, message_of}
 use Rattle.role_node.specs.Configs.{ConfigValue}
-use Rattle.role_node.specs.Answers.{answer_due}
+use Rattle.role_node.specs.Answers.{answer_due, sent_by_answer}
 use Rattle.role_node.specs.declared.event.Event.{Event}
-use Rattle.role_node.specs.declared.event.Reply.{Reply}
-use Rattle.role_node.specs.declared.event.Reply.TheVariants as reply
-use Rattle.role_node.specs.declared.faults.NodeFault.{NodeFault}
 use Rattle.byz_world.specs.Runs.{Run, history_of, is_correct, has_sent}
 
 -- a message and the node that sends it to all
 abbrev pub Sent : Type 0
 Sent = ℕ × Message
-
--- the message that a reply has the node send to all
-abbrev pub sent_by : Reply → Option Message
-sent_by reply.Idle = None
-sent_by (reply.Issued message) = Some message
-sent_by (reply.Counted send delivered from to) = send
-sent_by (reply.Session id) = None
-sent_by reply.Done = None
-
-abbrev pub sent_by_answer : Result Reply NodeFault → Option Message
-sent_by_answer (Ok r) = sent_by r
-sent_by_answer (Err fault) = None
 
 -- what the node sends when this event is the next of the run: by the answer that is due to it
 abbrev pub sends_next : ConfigValue → Run → ℕ × Event → Option Sent

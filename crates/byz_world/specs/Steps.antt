@@ -5,13 +5,13 @@ use Rattle.link_frames.specs.Opening.{open_due}
 use Rattle.link_frames.specs.Packets.{PacketValue, IsSound, message_of}
 use Rattle.link_frames.specs.declared.opening.LinkFault.{LinkFault}
 use Rattle.role_node.specs.Nodes.{due_at}
-use Rattle.role_node.specs.Answers.{is_recorded}
+use Rattle.role_node.specs.Answers.{is_recorded, sent_by}
 use Rattle.role_node.specs.declared.event.Event.{Event}
 use Rattle.role_node.specs.declared.event.Event.TheVariants as event
 use Rattle.role_node.specs.declared.event.Reply.{Reply}
 use Rattle.role_node.specs.declared.faults.NodeFault.{NodeFault}
 use Rattle.byz_world.specs.Runs.{Run, has_sent}
-use Rattle.byz_world.specs.Pools.{pool, sent_by}
+use Rattle.byz_world.specs.Pools.{pool}
 use Rattle.byz_world.specs.LabKeys.{lab_ring}
 use Rattle.byz_world.specs.Worlds.{WorldValue, is_correct_in, node_in}
 use Rattle.byz_world.specs.declared.step.Step.{Step}

@@ -8,6 +8,7 @@ ghost use Rattle.bracha_instance.specs.Broadcast.{is_for};
 ghost use Rattle.bracha_instance.specs.declared.instance.Effect.TheVariants.{Counted};
 ghost use Rattle.role_commands.specs.Same.{same_command};
 ghost use Rattle.role_node.specs.Access.{sent_at, sessions_at, verdict_at};
+ghost use Rattle.role_node.specs.Listed.{IsWithin};
 ghost use Rattle.role_node.specs.Questions.{ask_due, IsAsked, IsAnswerTo};
 ghost use Rattle.role_node.specs.Answers.{outlook, reply_to};
 ghost use Rattle.role_node.specs.Nodes.{NodeValue, with_event};
@@ -101,6 +102,7 @@ pub(crate) fn ask_at(
         IsAsked (ask_due (sessions_at node.history) question) question result }
     ensures answer { (node : NodeValue) → member_in members.old name ≡ Some node →
         IfOk result (IsAnswerTo node.config.roles node.history question) }
+    ensures within { IfOk result IsWithin }
     ensures same { members.new ≡ members.old }
 {
     match &mut members[usize::from(name.index())] {

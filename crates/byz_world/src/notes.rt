@@ -2,25 +2,13 @@
 
 ghost use Rattle.std.specs.Prelude.{◌≡◌, ◌<◌, ◌++◌, ◌∷◌, [], option_map};
 ghost use Rattle.std.specs.Vec.{vec_len, vec_capacity};
-ghost use Rattle.byz_world.specs.Pools.{listed, sent_by};
+ghost use Rattle.byz_world.specs.Pools.{listed};
 ghost use Rattle.byz_world.specs.Inside.{told_by};
 
 use crate::step::{Came, StepReply};
 use link_frames::Message;
 use quorum_sizes::NodeName;
 use role_node::Reply;
-
-/// The message that a reply has the node send to all.
-#[inline(always)]
-pub(crate) fn sent_by(reply: &Reply) -> Option<Message>
-    ensures { result ≡ sent_by reply.now }
-{
-    match reply {
-        Reply::Issued(message) => Some(*message),
-        Reply::Counted { send, .. } => *send,
-        Reply::Idle | Reply::Session(_) | Reply::Done => None,
-    }
-}
 
 /// What a step answers by what came of it, where so many packets were sent before it and there are so many nodes.
 pub(crate) fn told(came: &Came, first: u32, nodes: u8) -> StepReply
@@ -31,7 +19,7 @@ pub(crate) fn told(came: &Came, first: u32, nodes: u8) -> StepReply
         Came::Idle => Reply::Idle,
         Came::Recorded(entry) => entry.reply(),
     };
-    let count = if sent_by(&reply).is_some() { nodes } else { 0 };
+    let count = if reply.message().is_some() { nodes } else { 0 };
     StepReply::Node {
         reply,
         first,

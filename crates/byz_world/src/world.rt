@@ -6,12 +6,13 @@ ghost use Rattle.quorum_sizes.specs.Sizes.{AreSizes};
 ghost use Rattle.link_frames.specs.Packets.{IsPacket, message_of};
 ghost use Rattle.role_node.specs.Access.{verdict_at};
 ghost use Rattle.role_node.specs.Answers.{outlook, reply_to};
+ghost use Rattle.role_node.specs.Listed.{IsWithin};
 ghost use Rattle.role_node.specs.Questions.{IsAnswerTo};
 ghost use Rattle.role_node.specs.Nodes.{NodeValue};
 ghost use Rattle.bracha_instance.specs.declared.instance.Effect.TheVariants.{Counted};
 ghost use Rattle.byz_world.specs.Runs.{history_of, has_sent};
 ghost use Rattle.byz_world.specs.LabKeys.{ring_due};
-ghost use Rattle.byz_world.specs.Pools.{pool, sent_by};
+ghost use Rattle.byz_world.specs.Pools.{pool};
 ghost use Rattle.byz_world.specs.Worlds.{new_world, is_correct_in, node_due};
 ghost use Rattle.byz_world.specs.Steps.{arrival, opened_at, unless_forged, arrives, is_forged, is_pool_full};
 ghost use Rattle.byz_world.specs.Steps.{with_run, adds, after_step, after_steps, IsStepAnswer};
@@ -28,7 +29,7 @@ ghost use Rattle.byz_world.specs.declared.step.Step.TheVariants.{Issue, Give, Li
 use crate::faults::WorldFault;
 use crate::keys::{keys_of, new_keys};
 use crate::members::{ask_at, check_at, has_sent, has_taken_all, member, new_members, record_at};
-use crate::notes::{note_name, note_sent, sent_by, told};
+use crate::notes::{note_name, note_sent, told};
 use crate::step::{Came, Step, StepReply};
 use bracha_instance::Effect;
 use link_frames::{LinkFault, Message, Packet, PairKeys, open_frame};
@@ -374,7 +375,7 @@ impl World {
         self.sent.try_reserve(1)?;
         let entry = record_at(&mut self.members, name, event)?;
         note_name(&mut self.order, name);
-        note_sent(&mut self.sent, name, sent_by(&entry.reply()));
+        note_sent(&mut self.sent, name, entry.reply().message());
         Ok(entry)
     }
 
@@ -387,6 +388,7 @@ impl World {
     pub fn ask(&mut self, name: NodeName, question: Question) -> Result<Answer, WorldFault>
         ensures due { IsQuestionAnswer self.old name question result }
         ensures answer { IfOk result (IsAnswerTo self.old.config.roles (history_of name self.old.run) question) }
+        ensures within { IfOk result IsWithin }
         ensures same { self.new ≡ self.old }
     {
         if !self.is_correct(name) {

@@ -1,4 +1,3 @@
-pub mod Histories
 pub mod Dues
 pub mod Places
 pub mod Audited

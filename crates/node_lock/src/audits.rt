@@ -84,7 +84,7 @@ fn replayed(
 {
     let sorted = by_place(alloc, receipts)?;
     let sorted = sorted.as_slice();
-    let end = end_of(node);
+    let end = node.events();
     let mut done = 0;
     for place in 0..end {
         let (here, _) = split_at_place(&sorted[done..], place);
@@ -103,14 +103,6 @@ fn replayed(
         Some(receipt) => Err(AuditFault::Differs(receipt.place)),
         None => Ok(()),
     }
-}
-
-/// The length of the history.
-fn end_of(node: &Node) -> u32
-    ensures { result ≡ length node.now.history }
-{
-    let _most = node.config().roles();
-    node.history().len() as u32
 }
 
 /// The entry at a place of the history.

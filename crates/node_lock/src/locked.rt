@@ -1,7 +1,8 @@
 ghost use Rattle.std.specs.Prelude.{◌≡◌, ◌<◌, ◌≤◌, ◌↔◌, [], ◌∷◌, ◌++◌, length, IsTrue};
 ghost use Rattle.std.specs.Prelude.{option_map, Ok, IfOk, IfErr, OnOk, OnErr, MatchResult};
 ghost use Rattle.role_node.specs.Configs.{most_events};
-ghost use Rattle.role_node.specs.Answers.{is_recorded};
+ghost use Rattle.bracha_instance.specs.declared.instance.Effect.TheVariants.{Counted};
+ghost use Rattle.role_node.specs.Answers.{outlook, is_recorded};
 ghost use Rattle.role_node.specs.Nodes.{IsLegalNode, due_at, with_event};
 ghost use Rattle.node_lock.specs.Receipts.{outcome_due};
 ghost use Rattle.node_lock.specs.Holds.{end_of, Fits, receipt_of, held_after, seat_after};
@@ -14,6 +15,7 @@ use crate::asked::asked;
 use crate::receipt::{Call, Outcome, Receipt};
 use crate::seat::{MOST_SEATS, Seat};
 use crate::view::View;
+use bracha_instance::Effect;
 use link_frames::Place;
 use quorum_sizes::NodeName;
 use role_node::{Event, Node, Question, Reply};
@@ -134,8 +136,7 @@ impl<L: Ledger> Locked<L> {
         ensures legal { IsLegalNode self.now.node }
         ensures beside { length self.now.seats ≡ end_of self.now }
     {
-        let _most = self.node.config().roles();
-        self.node.history().len() as u32
+        self.node.events()
     }
 
     /// Whether the seat has seen no more than the history has, and recorded as many events as it has there.
@@ -161,7 +162,7 @@ impl<L: Ledger> Locked<L> {
 
     /// Records an event that counts, with the seat's number beside it.
     fn record(&mut self, seat: &mut Seat<L>, event: Event) -> Result<Receipt, StepFault>
-        requires recorded { IsTrue (is_recorded (due_at self.old.node event)) }
+        requires counts { outlook self.old.node.config self.old.node.me self.old.node.history event ≡ Ok Counted }
         requires fits { Fits self.old seat.old }
         ensures receipt { IfOk result (λ receipt. receipt ≡ receipt_of self.old seat.old (Step event)) }
         ensures held { OnOk result (self.new ≡ held_after self.old seat.old event) }
@@ -206,16 +207,17 @@ impl<L: Ledger> Locked<L> {
     {
         let place = self.end();
         self.admit(seat)?;
-        if self.node.records(&event) {
-            return self.record(seat, event);
-        }
+        let outcome = match self.node.look(&event) {
+            Ok(Effect::Counted) => return self.record(seat, event),
+            Ok(Effect::Idle) => Outcome::Reply(Reply::Idle),
+            Err(fault) => Outcome::Refused(fault),
+        };
         seat.see(place);
-        let call = Call::of_event(&event);
         Ok(Receipt {
             seat: seat.number(),
             place,
-            call,
-            outcome: Outcome::from_reply(self.node.apply(event)),
+            call: Call::of_event(&event),
+            outcome,
         })
     }
 
@@ -306,9 +308,10 @@ impl<L: Ledger> Locked<L> {
     }
 }
 
-/// Applies an event that is recorded, and puts the number of its seat beside it.
+/// Has the node record an event that counts, and puts the number of its seat beside it.
 fn applied(node: &mut Node, by: &mut Vec<u8>, number: u8, event: Event) -> Result<Reply, AllocError>
-    requires { IsTrue (is_recorded (due_at node.old event)) }
+    requires { outlook node.old.config node.old.me node.old.history event ≡ Ok Counted }
+    ensures recorded { OnOk result (IsTrue (is_recorded (due_at node.old event))) }
     ensures reply { IfOk result (λ reply. due_at node.old event ≡ Ok reply) }
     ensures node { OnOk result (node.new ≡ with_event node.old event) }
     ensures beside { OnOk result (by.new.items ≡ by.old.items ++ number ∷ []) }
@@ -317,9 +320,7 @@ fn applied(node: &mut Node, by: &mut Vec<u8>, number: u8, event: Event) -> Resul
     ensures same_beside { OnErr result (by.new.items ≡ by.old.items) }
 {
     by.try_reserve(1)?;
-    let Ok(reply) = node.apply(event) else {
-        return Err(AllocError);
-    };
+    let entry = node.record(&event)?;
     by.push_reserved(number);
-    Ok(reply)
+    Ok(entry.reply())
 }

@@ -1,19 +1,10 @@
--- What a node answers, and how many events it has recorded.
-use Rattle.std.proofs.Common.{◌⊎◌, inl, inr, ◌≡◌, ℕ, zero, suc, ◌<◌, ◌≤◌, Bool, true, false}
-use Rattle.std.proofs.Common.{nat_le, List, [], ◌∷◌, length, take, get_or, slice_get, Some}
-use Rattle.std.proofs.Common.{None, Result, Ok, Err, refl, sym, ap, ◌∙◌, arith, length-take-le}
-use Rattle.std.proofs.lemmas.Option.{slice_get_cases}
+-- What a node answers to an event and to a question.
+use Rattle.std.proofs.Common.{◌≡◌, length, None, Ok, Err, sym, ap, ◌∙◌}
 use Rattle.std.specs.Option.{option_map_or}
-use Rattle.std.specs.List.{AllByRecursion}
-use Rattle.std.proofs.lemmas.Bool.Decides.{nat_tests}
-use Rattle.bracha_instance.specs.declared.instance.Effect.{Effect}
-use Rattle.bracha_instance.specs.declared.instance.Effect.TheVariants as effect
 use Rattle.role_sessions.specs.declared.faults.SessionFault.TheVariants as session
 use Rattle.role_node.specs.Access.{sessions_at}
-use Rattle.role_node.specs.Answers.{answered, unless_full, outlook_with_room, reply_to, is_recorded}
-use Rattle.role_node.specs.Configs.{most_events}
 use Rattle.role_node.specs.Listed.{IsWithin, answer_after}
-use Rattle.role_node.specs.Nodes.{NodeValue, due_at, after_reply, IsLegalNode}
+use Rattle.role_node.specs.Nodes.{NodeValue, due_at, after_reply}
 use Rattle.role_node.specs.Questions.{ask_due, IsAnswerTo}
 use Rattle.role_node.specs.declared.event.Event.{Event}
 use Rattle.role_node.specs.declared.event.Reply.{Reply}
@@ -24,12 +15,6 @@ use Rattle.role_node.specs.declared.question.Question.{Question}
 use Rattle.role_node.proofs.Exported.{one_answer}
 use Rattle.client_lines.specs.declared.answer.ClientAnswer.TheVariants.{Refused}
 use Rattle.role_daemon.specs.Answers.{after_answer, after_event, listed, asked}
-
--- what holds at each index holds of each item
-pub each_within : {X : Type 0} (P : X → Type 0) (xs : List X) (d : X)
-    → ((i : ℕ) → i < length xs → P (get_or xs i d)) → AllByRecursion P xs
-each_within P [] d at = tt
-each_within P (x ∷ xs) d at = (at 0 (omega arith), each_within P xs d (λ i h. at (suc i) (omega arith)))
 
 -- the event was answered
 pub event_done : (node new : NodeValue) (e : Event) (r : Reply) → due_at node e ≡ Ok r → new ≡ after_reply node e r
@@ -52,33 +37,3 @@ asked-answer node q a due is within =
     ap (listed (length node.history)) one
     ∙ sym (ap (λ o. option_map_or (λ f. Refused (fault.Session session.NoSession)) o (listed (length node.history)
     (answer_after node.config.roles node.history q))) due)
-
-recorded_with_room : (full : Bool) (o : Result Effect NodeFault) (r : Reply)
-    → is_recorded (answered (unless_full full o) r) ≡ true → full ≡ false
-recorded_with_room false o r e = refl
-recorded_with_room true (Ok effect.Idle) r e = absurd cc
-recorded_with_room true (Ok effect.Counted) r e = absurd cc
-recorded_with_room true (Err f) r e = absurd cc
-
--- there was room for the last event
-pub legal_is_short : (node : NodeValue) → IsLegalNode node → node.config.limit ≤ most_events
-    → length node.history ≤ most_events
-legal_is_short node legal most = by_length (length node.history) refl
-  where
-    by_length : (n : ℕ) → length node.history ≡ n → length node.history ≤ most_events
-    by_length zero e = omega arith
-    by_length (suc k) e = by_event (slice_get_cases node.history k).1
-      where
-        by_event : ((event : Event) × (k < length node.history) × (slice_get node.history k ≡ Some event)
-            × (get_or node.history k event ≡ event))
-            ⊎ ((length node.history ≤ k) × (slice_get node.history k ≡ None))
-            → length node.history ≤ most_events
-        by_event (inr past) = let p = past.0 in omega arith
-        by_event (inl (event, within, at, same)) =
-            let before = take k node.history in
-            let room : nat_le node.config.limit (length before) ≡ false =
-            recorded_with_room _ (outlook_with_room node.config.roles node.me before event)
-            (reply_to node.config.roles node.me before event) (legal k event at) in
-            let short : length before ≡ k = length-take-le k node.history (omega arith) in
-            let below : length before < node.config.limit = grind (arith, nat_tests) in
-            omega arith

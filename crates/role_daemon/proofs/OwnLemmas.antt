@@ -19,14 +19,14 @@ use Rattle.bracha_instance.specs.declared.instance.Effect.TheVariants as effect
 use Rattle.bracha_instance.proofs.Exported.{echoed_push}
 use Rattle.owner_streams.specs.Places.{take_of, takes_at}
 use Rattle.owner_streams.proofs.Exported.{takes_at-own}
-use Rattle.role_node.specs.Answers.{answered, outlook, reply_to, said_at}
+use Rattle.role_node.specs.Answers.{answered, outlook, reply_to, said_at, sent_by_answer}
 use Rattle.role_node.specs.Histories.{packets}
 use Rattle.role_node.specs.Nodes.{NodeValue, with_event}
 use Rattle.role_node.specs.declared.event.Event.TheVariants as event
 use Rattle.role_node.specs.declared.event.Reply.TheVariants as reply
 use Rattle.role_node.specs.declared.faults.NodeFault.{NodeFault}
 use Rattle.role_node.proofs.Exported.{packets-Take}
-use Rattle.role_daemon.specs.Answers.{after_answer, after_event, sent_by, own_packet, after_own, sent_own}
+use Rattle.role_daemon.specs.Answers.{after_answer, after_event, own_packet, after_own, sent_own}
 use Rattle.role_daemon.specs.Answers.{take_own, settled}
 use Rattle.role_daemon.specs.Laws.{NoneIsLeft, OwnPacketsEnd}
 
@@ -79,7 +79,8 @@ record Sends (node : NodeValue) (p : PacketValue) (m : Message) : Type 0 where
   recorded : after_own node (Some p) ≡ with_event node (event.Take p)
 
 counted : (o : Result Effect NodeFault) (send delivered : _) (from to : ℕ) (m : Message)
-    → sent_by (answered o (reply.Counted send delivered from to)) ≡ Some m → (o ≡ Ok effect.Counted) × (send ≡ Some m)
+    → sent_by_answer (answered o (reply.Counted send delivered from to)) ≡ Some m
+    → (o ≡ Ok effect.Counted) × (send ≡ Some m)
 counted (Ok effect.Idle) send delivered from to m e = absurd cc
 counted (Ok effect.Counted) send delivered from to m e = (refl, e)
 counted (Err f) send delivered from to m e = absurd cc

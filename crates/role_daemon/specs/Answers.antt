@@ -7,6 +7,7 @@ use Rattle.link_frames.specs.declared.packet.Message.{Message}
 use Rattle.role_commands.specs.declared.command.Command.{Command}
 use Rattle.role_sessions.specs.declared.faults.SessionFault.TheVariants as session
 use Rattle.role_node.specs.Access.{reach_at, sessions_at, sent_at}
+use Rattle.role_node.specs.Answers.{sent_by_answer}
 use Rattle.role_node.specs.Listed.{answer_after}
 use Rattle.role_node.specs.Nodes.{NodeValue, due_at, after_reply}
 use Rattle.role_node.specs.Questions.{ask_due}
@@ -38,15 +39,6 @@ after_event node e = after_answer node e (due_at node e)
 
 -- ---- the node's own packets
 
--- the message that an answer has the node send to all
-abbrev pub sent_by : Result Reply NodeFault → Option Message
-sent_by (Ok reply.Idle) = None
-sent_by (Ok (reply.Issued message)) = Some message
-sent_by (Ok (reply.Counted send delivered from to)) = send
-sent_by (Ok (reply.Session id)) = None
-sent_by (Ok reply.Done) = None
-sent_by (Err f) = None
-
 -- the packet of a message of a node to itself
 abbrev pub own_packet : NodeValue → Message → Option PacketValue
 own_packet node message = packet_due node.me node.me message
@@ -59,7 +51,7 @@ after_own node (Some p) = after_event node (event.Take p)
 -- what taking it has the node send
 abbrev pub sent_own : NodeValue → Option PacketValue → Option Message
 sent_own node None = None
-sent_own node (Some p) = sent_by (due_at node (event.Take p))
+sent_own node (Some p) = sent_by_answer (due_at node (event.Take p))
 
 -- The node after so many of its own packets were taken, and the message that then waits. With one node a message is one
 -- packet, and a packet causes one message at most, so no more than one waits.
@@ -76,7 +68,7 @@ settled node waiting = (take_own 3 node waiting).0
 
 -- The node after the event and its own packets. Only a command that is published sends one.
 unfoldable pub after_taken : NodeValue → Event → NodeValue
-after_taken node e = settled (after_event node e) (sent_by (due_at node e))
+after_taken node e = settled (after_event node e) (sent_by_answer (due_at node e))
 
 -- ---- requests
 

@@ -3,6 +3,7 @@ use Rattle.std.specs.Prelude.{Option, Some, None}
 use Rattle.link_frames.specs.declared.packet.Message.{Message}
 use Rattle.role_sessions.specs.declared.faults.SessionFault.{SessionFault}
 use Rattle.role_sessions.specs.declared.faults.SessionFault.TheVariants as session
+use Rattle.role_node.specs.Answers.{sent_by}
 use Rattle.role_node.specs.declared.event.Reply.{Reply}
 use Rattle.role_node.specs.declared.event.Reply.TheVariants as reply
 use Rattle.role_node.specs.declared.faults.NodeFault.{NodeFault}
@@ -39,14 +40,7 @@ served view (outcome.Answer answer) = Some (listed view.at answer)
 served view (outcome.Refused f) = refusal_served f
 
 -- the message that an outcome has the node send to all
-abbrev pub sent_reply : Reply → Option Message
-sent_reply reply.Idle = None
-sent_reply (reply.Issued message) = Some message
-sent_reply (reply.Counted send delivered from to) = send
-sent_reply (reply.Session id) = None
-sent_reply reply.Done = None
-
 abbrev pub sent_outcome : Outcome → Option Message
-sent_outcome (outcome.Reply r) = sent_reply r
+sent_outcome (outcome.Reply r) = sent_by r
 sent_outcome (outcome.Answer answer) = None
 sent_outcome (outcome.Refused f) = None

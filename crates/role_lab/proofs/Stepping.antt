@@ -50,13 +50,13 @@ given-found lab number found =
 pub asked_ok : {S E : Type 0} (bytes : S → List ℕ) (w : WorldValue) (node : ℕ) (q : Question) (a : Answer)
     (r : Result S E)
     → question_due w node q ≡ None → IsAnswerTo w.config.roles (history_of node w.run) q a
-    → IfOk r (λ t. bytes t ≡ answer_text a) → OnOk r (IsWithin a) → IfOk r (λ t. bytes t ≡ asked_text w node q)
-asked_ok bytes w node q a (Ok t) due is told within =
+    → IsWithin a → IfOk r (λ t. bytes t ≡ answer_text a) → IfOk r (λ t. bytes t ≡ asked_text w node q)
+asked_ok bytes w node q a (Ok t) due is within told =
     let history = history_of node w.run in
     let one = one_answer w.config.roles history q a is within in
     told ∙ ap answer_text one
     ∙ ap (λ o. option_map_or world_fault_text o (answer_text (answer_after w.config.roles history q))) (sym due)
-asked_ok bytes w node q a (Err e) due is told within = tt
+asked_ok bytes w node q a (Err e) due is within told = tt
 
 -- or a refusal
 pub asked_err : {S E : Type 0} (bytes : S → List ℕ) (w : WorldValue) (node : ℕ) (q : Question) (f : WorldFault)

@@ -1,8 +1,6 @@
 //! What is written for a line of a cluster, its end left out.
 
-ghost use Rattle.std.specs.Prelude.{◌≡◌, ◌<◌, ◌^◌, ◌++◌, codes, IfOk, OnOk, string_bytes};
-ghost use Rattle.std.specs.List.{AllByRecursion};
-ghost use Rattle.role_node.specs.Listed.{IsWithin};
+ghost use Rattle.std.specs.Prelude.{◌≡◌, ◌++◌, codes, IfOk, string_bytes};
 ghost use Rattle.role_lab.specs.OrderTexts as texts;
 
 use crate::texts::kind_word;
@@ -164,10 +162,9 @@ pub fn rest_text(alloc: Global, at_rest: bool) -> Result<String, AllocError>
     String::from_str(alloc, if at_rest { "rest yes" } else { "rest no" })
 }
 
-/// What is written for an answer. Its numbers are found to be within their widths.
+/// What is written for an answer.
 pub fn answer_text(alloc: Global, answer: &Answer) -> Result<String, AllocError>
-    ensures text { IfOk result (λ text. string_bytes text ≡ texts.answer_text answer.now) }
-    ensures within { OnOk result (IsWithin answer.now) }
+    ensures { IfOk result (λ text. string_bytes text ≡ texts.answer_text answer.now) }
 {
     match answer {
         Answer::Verdict(verdict) => verdict_text(alloc, verdict),
@@ -188,8 +185,7 @@ fn verdict_text(alloc: Global, verdict: &Verdict) -> Result<String, AllocError>
 }
 
 fn wide_numbers_text(alloc: Global, numbers: &[u32]) -> Result<String, AllocError>
-    ensures text { IfOk result (λ text. string_bytes text ≡ texts.numbers_text numbers.now) }
-    ensures within { OnOk result (AllByRecursion (λ n. n < 2 ^ 32) numbers.now) }
+    ensures { IfOk result (λ text. string_bytes text ≡ texts.numbers_text numbers.now) }
 {
     let mut text = String::from_str(alloc, "list")?;
     for number in numbers {
@@ -199,8 +195,7 @@ fn wide_numbers_text(alloc: Global, numbers: &[u32]) -> Result<String, AllocErro
 }
 
 fn narrow_numbers_text(alloc: Global, numbers: &[u16]) -> Result<String, AllocError>
-    ensures text { IfOk result (λ text. string_bytes text ≡ texts.numbers_text numbers.now) }
-    ensures within { OnOk result (AllByRecursion (λ n. n < 2 ^ 16) numbers.now) }
+    ensures { IfOk result (λ text. string_bytes text ≡ texts.numbers_text numbers.now) }
 {
     let mut text = String::from_str(alloc, "list")?;
     for number in numbers {
@@ -210,8 +205,7 @@ fn narrow_numbers_text(alloc: Global, numbers: &[u16]) -> Result<String, AllocEr
 }
 
 fn permissions_text(alloc: Global, permissions: &[(u16, u32)]) -> Result<String, AllocError>
-    ensures text { IfOk result (λ text. string_bytes text ≡ texts.permissions_text permissions.now) }
-    ensures within { OnOk result (AllByRecursion (λ p. (p.0 < 2 ^ 16) × (p.1 < 2 ^ 32)) permissions.now) }
+    ensures { IfOk result (λ text. string_bytes text ≡ texts.permissions_text permissions.now) }
 {
     let mut text = String::from_str(alloc, "list")?;
     for &(operation, object) in permissions {

@@ -4,7 +4,7 @@
 --     stream_other, stream_same      the streams, as one more packet is taken
 --     legal, relations_are      what entries and a node's state say of its history
 --     at_push, events-push, entries_push ..      entries, as one more is recorded
---     recorded_next, along_legal, issued_within      what holds of each legal history
+--     recorded_next, along_legal, legal_within ..      what holds of each legal history
 --     refused_is_due      a refusal is the answer that is due, and want of memory is none
 --     those_members, pairs_members ..      the ascending lists of the numbers and of the pairs that pass a test
 pub use Rattle.role_node.proofs.ListedLemmas.{one_answer, one_under}
@@ -15,7 +15,7 @@ pub use Rattle.role_node.proofs.Growing.{stream_other, stream_same, policy_same}
 pub use Rattle.role_node.proofs.Relations.{relations_are, legal_inside}
 pub use Rattle.role_node.proofs.Entries.{at_push, events-push, events-length, entries_push, no_entries}
 pub use Rattle.role_node.proofs.Entries.{legal, counted_is_due, counted_is_recorded, counted_with_room}
-pub use Rattle.role_node.proofs.Legal.{recorded_next, along_legal, issued_within}
+pub use Rattle.role_node.proofs.Legal.{recorded_next, along_legal, recorded_with_room, legal_within, issued_within}
 pub use Rattle.role_node.proofs.Refused.{refused_is_due}
 pub use Rattle.role_node.proofs.Ascending.{those_members, those_sorted}
 pub use Rattle.role_node.proofs.Pairs.{pairs_members, permissions_sorted}

@@ -42,12 +42,29 @@ along_legal config me P keeps past (e ∷ rest) legal was =
     subst P (sym split)
     (along_legal config me P keeps (past ++ e ∷ []) rest (subst (IsLegal config me) split legal) next)
 
--- Places of its own stream.
-
 recorded_counts : (o : Result Effect NodeFault) (r : Reply) → is_recorded (answered o r) ≡ true → o ≡ Ok effect.Counted
 recorded_counts (Ok effect.Idle) r e = absurd cc
 recorded_counts (Ok effect.Counted) r e = refl
 recorded_counts (Err f) r e = absurd cc
+
+-- an event is recorded where the history has room
+pub recorded_with_room : (config : ConfigValue) (me : ℕ) (past : List Event) (e : Event) →
+    is_recorded (answer_due config me past e) ≡ true → length past < config.limit
+recorded_with_room config me past e recorded =
+    let counts : outlook config me past e ≡ Ok effect.Counted =
+    recorded_counts _ (reply_to config.roles me past e) recorded in
+    let room : nat_le config.limit (length past) ≡ false = (counted_with_room config me past e counts).0 in
+    grind (arith, nat_tests)
+
+-- a legal history is no longer than its limit
+pub legal_within : (config : ConfigValue) (me : ℕ) (history : List Event) → IsLegal config me history →
+    length history ≤ config.limit
+legal_within config me history legal =
+    along_legal config me (λ past. length past ≤ config.limit)
+    (λ past e recorded was. omega (arith, recorded_with_room config me past e recorded, length-append past (e ∷ [])))
+    [] history legal (omega arith)
+
+-- Places of its own stream.
 
 -- where a command is issued, the stream has a place for it
 place_is_free : (config : ConfigValue) (me : ℕ) (past : List Event) (c : Command) →

@@ -106,6 +106,19 @@ reply_to roles me history (Client (Activate session user role)) = reply.Done
 reply_to roles me history (Client (DropRole session user role)) = reply.Done
 reply_to roles me history (Client (Close session user)) = reply.Done
 
+-- the message that a reply has the node send to all
+abbrev pub sent_by : Reply → Option Message
+sent_by reply.Idle = None
+sent_by (reply.Issued message) = Some message
+sent_by (reply.Counted send delivered from to) = send
+sent_by (reply.Session id) = None
+sent_by reply.Done = None
+
+-- a refusal has it send none
+abbrev pub sent_by_answer : Result Reply NodeFault → Option Message
+sent_by_answer (Ok r) = sent_by r
+sent_by_answer (Err f) = None
+
 abbrev pub answered : Result Effect NodeFault → Reply → Result Reply NodeFault
 answered (Ok effect.Idle) r = Ok reply.Idle
 answered (Ok effect.Counted) r = Ok r

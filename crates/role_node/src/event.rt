@@ -1,3 +1,6 @@
+ghost use Rattle.std.specs.Prelude.{◌≡◌};
+ghost use Rattle.role_node.specs.Answers.{sent_by};
+
 use link_frames::{Message, Packet};
 use role_commands::Command;
 use role_sessions::ClientEvent;
@@ -35,6 +38,20 @@ pub enum Reply {
     Session(u64),
     /// The client's act is done.
     Done,
+}
+
+impl Reply {
+    /// The message that the node sends to all now.
+    #[inline(always)]
+    pub fn message(&self) -> Option<Message>
+        ensures { result ≡ sent_by self.now }
+    {
+        match self {
+            Reply::Issued(message) => Some(*message),
+            Reply::Counted { send, .. } => *send,
+            Reply::Idle | Reply::Session(_) | Reply::Done => None,
+        }
+    }
 }
 
 /// What a node has sent to all at a place of an owner's stream, and may send again.

@@ -1,6 +1,8 @@
-ghost use Rattle.std.specs.Prelude.{◌≡◌, ◌<◌, map, slice_get, IfOk, OnOk, OnErr, Ok};
+ghost use Rattle.std.specs.Prelude.{◌≡◌, ◌<◌, ◌≤◌, length, map, slice_get, IfOk, OnOk, OnErr, Ok};
 ghost use Rattle.bracha_instance.specs.declared.instance.Effect.TheVariants.{Counted};
+ghost use Rattle.role_node.specs.Configs.{most_events};
 ghost use Rattle.role_node.specs.Access.{stream_at, reach_at, sessions_at, verdict_at, sent_at};
+ghost use Rattle.role_node.specs.Listed.{IsWithin};
 ghost use Rattle.role_node.specs.Questions.{ask_due, IsAsked, IsAnswerTo};
 ghost use Rattle.role_node.specs.Answers.{outlook, reply_to, is_recorded, IsAnswer};
 ghost use Rattle.role_node.specs.Nodes.{new_node, due_at, with_event, after_reply, IsLegalNode, AreRepliesOf};
@@ -10,7 +12,7 @@ use crate::config::Config;
 use crate::entry::Entry;
 use crate::event::{Event, NodeAgain, Reply};
 use crate::faults::{AskFault, NodeFault};
-use crate::question::{Answer, Question};
+use crate::question::{Answer, Question, within};
 use crate::state::State;
 use bracha_instance::Effect;
 use link_frames::Place;
@@ -151,9 +153,12 @@ impl Node {
     pub fn ask(&mut self, question: Question) -> Result<Answer, AskFault>
         ensures due { IsAsked (ask_due (sessions_at self.old.history) question) question result }
         ensures answer { IfOk result (IsAnswerTo self.old.config.roles self.old.history question) }
+        ensures within { IfOk result IsWithin }
         ensures same { self.new ≡ self.old }
     {
-        self.state.ask(question)
+        let answer = self.state.ask(question)?;
+        within(&answer);
+        Ok(answer)
     }
 
     /// The events that were recorded, oldest first, each with its reply.
@@ -163,6 +168,15 @@ impl Node {
         ensures legal { IsLegalNode self.now }
     {
         self.entries.as_slice()
+    }
+
+    /// How many events were recorded.
+    pub fn events(&self) -> u32
+        ensures count { result ≡ length self.now.history }
+        ensures most { result ≤ most_events }
+        ensures legal { IsLegalNode self.now }
+    {
+        self.entries.len() as u32
     }
 
     /// What the node was told at its start.

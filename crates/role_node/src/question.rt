@@ -1,3 +1,6 @@
+ghost use Rattle.std.specs.Prelude.{◌<◌, ◌^◌, All};
+ghost use Rattle.role_node.specs.Listed.{IsWithin};
+
 use role_commands::Items;
 use role_sessions::Verdict;
 
@@ -49,3 +52,35 @@ pub enum Answer {
     /// Operations, in ascending order.
     Operations(Items<u16>),
 }
+
+/// The numbers of an answer are within the widths of their types.
+pub(crate) fn within(answer: &Answer)
+    ensures { IsWithin answer.now }
+{
+    match answer {
+        Answer::Verdict(_) | Answer::Roles(_) => {}
+        Answer::Users(users) => users_within(users.as_slice()),
+        Answer::Permissions(permissions) => permissions_within(permissions.as_slice()),
+        Answer::Operations(operations) => operations_within(operations.as_slice()),
+    }
+}
+
+fn users_within(users: &[u32])
+    ensures { All (λ user. user < 2 ^ 32) users.now }
+{}
+
+fn operations_within(operations: &[u16])
+    ensures { All (λ operation. operation < 2 ^ 16) operations.now }
+{}
+
+fn permissions_within(permissions: &[(u16, u32)])
+    ensures { All (λ p. (p.0 < 2 ^ 16) × (p.1 < 2 ^ 32)) permissions.now }
+{
+    for permission in permissions {
+        permission_within(*permission);
+    }
+}
+
+fn permission_within(permission: (u16, u32))
+    ensures { (permission.0 < 2 ^ 16) × (permission.1 < 2 ^ 32) }
+{}

@@ -1,11 +1,10 @@
 //! What the pipe's node answers to a request, and how it takes its own packets before it answers.
 
-ghost use Rattle.std.specs.Prelude.{◌≡◌, ◌<◌, ◌≤◌, ◌^◌, length, IfOk, IfErr, OnOk};
-ghost use Rattle.std.specs.List.{AllByRecursion};
+ghost use Rattle.std.specs.Prelude.{◌≡◌, IfOk, IfErr, OnOk};
 ghost use Rattle.client_lines.specs.AnswerTexts.{IsWritten};
 ghost use Rattle.client_lines.specs.Faults.{IsRefusal};
 ghost use Rattle.client_lines.specs.Requests.{NamesNodes};
-ghost use Rattle.role_node.specs.Listed.{IsWithin};
+ghost use Rattle.role_node.specs.Answers.{sent_by_answer};
 ghost use Rattle.role_node.specs.Nodes.{due_at};
 ghost use Rattle.role_daemon.specs.Answers as answers;
 ghost use Rattle.role_daemon.specs.Answers.{answer_to, after_request, after_event, own_packet, settled};
@@ -13,7 +12,7 @@ ghost use Rattle.role_daemon.specs.Answers.{answer_to, after_request, after_even
 use crate::answers::{listed, sent_count};
 use client_lines::{ClientAnswer, Request};
 use link_frames::{Message, Packet};
-use role_node::{Answer, AskFault, Event, Node, NodeFault, Question, Reply};
+use role_node::{AskFault, Event, Node, NodeFault, Question, Reply};
 use role_sessions::SessionFault;
 use std::alloc::AllocError;
 
@@ -97,12 +96,11 @@ fn take_own(node: &mut Node, message: Message) -> Result<Option<Message>, AllocE
 
 /// The message that the node sends to all.
 fn sent_by(due: &Result<Reply, NodeFault>) -> Option<Message>
-    ensures { result ≡ answers.sent_by due.now }
+    ensures { result ≡ sent_by_answer due.now }
 {
     match due {
-        Ok(Reply::Issued(message)) => Some(*message),
-        Ok(Reply::Counted { send, .. }) => *send,
-        Ok(Reply::Idle | Reply::Session(_) | Reply::Done) | Err(_) => None,
+        Ok(reply) => reply.message(),
+        Err(_) => None,
     }
 }
 
@@ -132,12 +130,9 @@ fn ask(node: &mut Node, question: Question) -> Result<ClientAnswer, AllocError>
     ensures written { IfOk result IsWritten }
     ensures same { node.new ≡ node.old }
 {
-    let at = events_recorded(node);
+    let at = node.events();
     match node.ask(question) {
-        Ok(answer) => {
-            are_within(&answer);
-            Ok(listed(at, answer))
-        }
+        Ok(answer) => Ok(listed(at, answer)),
         Err(AskFault::NoSession) => {
             let fault = NodeFault::Session(SessionFault::NoSession);
             Ok(ClientAnswer::Refused(fault))
@@ -145,44 +140,3 @@ fn ask(node: &mut Node, question: Question) -> Result<ClientAnswer, AllocError>
         Err(AskFault::Memory) => Err(AllocError),
     }
 }
-
-/// How many events the node has recorded.
-fn events_recorded(node: &Node) -> u32
-    ensures { result ≡ length node.now.history }
-{
-    // what the node may record at most bounds its history
-    let _limit = node.config().roles();
-    node.history().len() as u32
-}
-
-/// The numbers of an answer are within their widths, as their types say.
-fn are_within(answer: &Answer)
-    ensures { IsWithin answer.now }
-{
-    match answer {
-        Answer::Verdict(_) | Answer::Roles(_) => {}
-        Answer::Users(users) => are_wide(users.as_slice()),
-        Answer::Permissions(permissions) => are_permissions(permissions.as_slice()),
-        Answer::Operations(operations) => are_narrow(operations.as_slice()),
-    }
-}
-
-fn are_wide(numbers: &[u32])
-    ensures { AllByRecursion (λ n. n < 2 ^ 32) numbers.now }
-{}
-
-fn are_narrow(numbers: &[u16])
-    ensures { AllByRecursion (λ n. n < 2 ^ 16) numbers.now }
-{}
-
-fn are_permissions(permissions: &[(u16, u32)])
-    ensures { AllByRecursion (λ p. (p.0 < 2 ^ 16) × (p.1 < 2 ^ 32)) permissions.now }
-{
-    for &(operation, object) in permissions {
-        fit(operation, object);
-    }
-}
-
-fn fit(operation: u16, object: u32)
-    ensures { (operation < 2 ^ 16) × (object < 2 ^ 32) }
-{}

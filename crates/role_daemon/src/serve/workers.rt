@@ -230,9 +230,7 @@ fn message_of(outcome: &Outcome) -> Option<Message>
     ensures { result ≡ sent_outcome outcome.now }
 {
     match outcome {
-        Outcome::Reply(Reply::Issued(message)) => Some(*message),
-        Outcome::Reply(Reply::Counted { send, .. }) => *send,
-        Outcome::Reply(Reply::Idle | Reply::Session(_) | Reply::Done) => None,
+        Outcome::Reply(reply) => reply.message(),
         Outcome::Answer(_) | Outcome::Refused(_) => None,
     }
 }

@@ -74,13 +74,13 @@ loop-place-preserved c =
 
 pub returns-in-Err-check_place-clause-err : goal.returns-in-Err-check_place-clause-err
 returns-in-Err-check_place-clause-err c =
-    let at_end : c.loop-place.place ≡ c.end_of-end.result = omega arith in
-    let end : slice_get c.args.node.now.history c.end_of-end.result ≡ None =
-    slice_get_past c.args.node.now.history c.end_of-end.result (omega arith) in
+    let at_end : c.loop-place.place ≡ c.events-end.result = omega arith in
+    let end : slice_get c.args.node.now.history c.events-end.result ≡ None =
+    slice_get_past c.args.node.now.history c.events-end.result (omega arith) in
     let R : ℕ → Type 0 =
     λ n. IsRest c.args.receipts.now n (receipts_of (drop c.loop-place.done c.as_slice-sorted.result.now)) in
     let B : ℕ → Type 0 = λ n. AreRightBefore c.args.node.now c.args.receipts.now n in
-    let split : IsSplit c.args.receipts.now c.end_of-end.result
+    let split : IsSplit c.args.receipts.now c.events-end.result
     (receipts_of (drop c.loop-place.done c.as_slice-sorted.result.now))
     (receipts_of c.split_at_place-2.result.0.now) (receipts_of c.split_at_place-2.result.1.now) = record {
       rest_is = subst R at_end c.loop-place.invariant.rest;
@@ -88,7 +88,7 @@ returns-in-Err-check_place-clause-err c =
       same = c.split_at_place-2.ensures.here;
       above = c.split_at_place-2.ensures.later;
     } in
-    fault_found c.args.node.now c.args.receipts.now c.end_of-end.result _ _ _ split
+    fault_found c.args.node.now c.args.receipts.now c.events-end.result _ _ _ split
     (subst B at_end c.loop-place.invariant.right)
     c.in-Err-check_place.fault c.loop-place.replay None
     (c.loop-place.invariant.replay ∙ ap (node_at c.args.node.now) at_end)
@@ -99,7 +99,7 @@ returns-in-Some-clause-err c =
     let node = c.args.node.now in
     let rs = c.args.receipts.now in
     let at_end : c.loop-place.place ≡ length node.history = omega arith in
-    let ends : c.end_of-end.result ≡ length node.history = c.end_of-end.ensures in
+    let ends : c.events-end.result ≡ length node.history = c.events-end.ensures.count in
     let R : ℕ → Type 0 = λ n. IsRest rs n (receipts_of (drop c.loop-place.done c.as_slice-sorted.result.now)) in
     let B : ℕ → Type 0 = λ n. AreRightBefore node rs n in
     let S : ℕ → Type 0 = λ n. All (λ (r : Receipt). r.place ≡ n) (receipts_of c.split_at_place-2.result.0.now) in
@@ -127,7 +127,7 @@ returns-clause-ok c =
     let node = c.args.node.now in
     let rs = c.args.receipts.now in
     let at_end : c.loop-place.place ≡ length node.history = omega arith in
-    let ends : c.end_of-end.result ≡ length node.history = c.end_of-end.ensures in
+    let ends : c.events-end.result ≡ length node.history = c.events-end.ensures.count in
     let R : ℕ → Type 0 = λ n. IsRest rs n (receipts_of (drop c.loop-place.done c.as_slice-sorted.result.now)) in
     let B : ℕ → Type 0 = λ n. AreRightBefore node rs n in
     let S : ℕ → Type 0 = λ n. All (λ (r : Receipt). r.place ≡ n) (receipts_of c.split_at_place-2.result.0.now) in

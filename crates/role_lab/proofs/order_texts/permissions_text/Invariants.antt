@@ -1,8 +1,6 @@
-use Rattle.std.proofs.Common.{◌≡◌, ℕ, ◌<◌, ◌^◌, take, get_or, string_bytes}
+use Rattle.std.proofs.Common.{◌≡◌, take, string_bytes}
 use Rattle.role_lab.specs.OrderTexts.{permissions_text}
 use Rattle.role_lab.proofs.order_texts.permissions_text.Given as goal
 
 abbrev pub invariant-loop-operation : goal.invariant-loop-operation
-invariant-loop-operation l =
-    (string_bytes l.text ≡ permissions_text (take l.operation-index l.permissions))
-    × ((k : ℕ) → k < l.operation-index → let p = get_or l.permissions k (0, 0) in (p.0 < 2 ^ 16) × (p.1 < 2 ^ 32))
+invariant-loop-operation l = string_bytes l.text ≡ permissions_text (take l.operation-index l.permissions)

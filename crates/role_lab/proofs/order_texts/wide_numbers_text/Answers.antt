@@ -1,7 +1,7 @@
 use Rattle.std.proofs.Common.{◌∙◌, ℕ, List, ap, ◌++◌, codes, get_or}
 use Rattle.std.specs.Fmt.{decimal}
 use Rattle.role_lab.specs.OrderTexts.{numbers_text}
-use Rattle.role_lab.proofs.Wording.{written_more, each_within}
+use Rattle.role_lab.proofs.Wording.{written_more}
 use Rattle.role_lab.proofs.order_texts.wide_numbers_text.Goals as goal
 
 pub loop-number-init : goal.loop-number-init
@@ -16,6 +16,3 @@ loop-number-preserved c =
     c.in_ok-write.ensures.bytes
     ∙ ap (λ (front : List ℕ). front ++ (codes " " ++ decimal (get_or xs i 0))) c.loop-number.invariant
     ∙ written_more (λ n. codes " " ++ decimal n) (codes "list") xs i 0 c.loop-number-test.true
-
-pub returns-clause-within : goal.returns-clause-within
-returns-clause-within c = each_within _ c.args.numbers.now 0 (λ i h. (c.type_inv.numbers i).fits)

@@ -1,6 +1,7 @@
 use Rattle.std.proofs.Common.{[], ◌∷◌, ◌++◌, ap, ◌∙◌}
 use Rattle.std.specs.Prelude.{option_map}
-use Rattle.byz_world.specs.Pools.{listed, sent_by}
+use Rattle.role_node.specs.Answers.{sent_by}
+use Rattle.byz_world.specs.Pools.{listed}
 use Rattle.byz_world.proofs.Recording.{IsRecorded, is_recorded_in}
 use Rattle.byz_world.proofs.world.World.record.Goals as goal
 
@@ -19,7 +20,7 @@ recorded c =
     (c.note_name.ensures ∙ ap (λ names. names ++ c.args.name ∷ []) c.try_reserve.ensures.items)
     (c.note_sent.ensures
     ∙ (λ i. c.try_reserve-2.ensures.items i
-    ++ listed (option_map (λ m. (c.args.name, m)) ((c.sent_by.ensures ∙ ap sent_by c.reply.ensures) i))))
+    ++ listed (option_map (λ m. (c.args.name, m)) ((c.message.ensures ∙ ap sent_by c.reply.ensures) i))))
 
 pub invariant_of-self-2 : goal.invariant_of-self-2
 invariant_of-self-2 c = record { world = (recorded c).grown.is; keys = c.self.invariant.keys }

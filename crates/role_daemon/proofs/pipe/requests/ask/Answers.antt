@@ -5,6 +5,6 @@ use Rattle.role_daemon.proofs.pipe.requests.ask.Goals as goal
 
 pub returns-in-Ok-clause-answer : goal.returns-in-Ok-clause-answer
 returns-in-Ok-clause-answer c =
-    c.listed.ensures.answer ∙ ap (λ at. listed at c.in-Ok.answer) c.events_recorded-at.ensures
+    c.listed.ensures.answer ∙ ap (λ at. listed at c.in-Ok.answer) c.events-at.ensures.count
     ∙ asked-answer c.args.node.now c.args.question c.in-Ok.answer c.in-Ok.ensures.due c.in-Ok.ensures.answer
-    c.are_within.ensures
+    c.in-Ok.ensures.within

@@ -2,7 +2,7 @@ use Rattle.std.proofs.Common.{ℕ, ◌<◌, ◌^◌, List, subst}
 use Rattle.std.specs.Prelude.{All}
 use Rattle.std.proofs.lemmas.List.{take_all}
 use Rattle.std.proofs.lemmas.List.Elements.{All-more}
-use Rattle.node_lock.proofs.asked.permissions_within.Goals as goal
+use Rattle.role_node.proofs.question.permissions_within.Goals as goal
 
 abbrev Fits : ℕ × ℕ → Type 0
 Fits p = (p.0 < 2 ^ 16) × (p.1 < 2 ^ 32)
