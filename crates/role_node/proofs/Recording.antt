@@ -117,9 +117,11 @@ in_range roles me history a (Take p) h e room =
     last_two (p.to == me) (nat_lt p.from roles.sizes.nodes) (nat_lt p.owner roles.sizes.nodes)
     (routed_by (is_routed roles.sizes me p) _ e) in
     let due : effect_due (step_due roles.sizes (packets history) p) ≡ Ok effect.Counted =
-    counted_by (is_routed roles.sizes me p) _ e in
-    (rw h.sizes (below p.from roles.sizes.nodes both.0), rw h.sizes (below p.owner roles.sizes.nodes both.1),
-    (packets history, h.streams, h.sends, rw h.sizes due))
+    counted_by (is_routed roles.sizes me p) _ e in (
+      rw h.sizes (below p.from roles.sizes.nodes both.0),
+      rw h.sizes (below p.owner roles.sizes.nodes both.1),
+      (packets history, h.streams, h.sends, rw h.sizes due),
+    )
 in_range roles me history a (Client act) h e room =
     let opened : a.sessions.state.opened ≡ (state_of (client_events history)).opened = ap (λ s. s.opened) h.sessions in
     let few = state_counts_the_opened (client_events history) in
