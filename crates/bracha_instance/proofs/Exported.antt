@@ -1,6 +1,7 @@
 -- What layers above may cite of the proofs. Declares nothing.
 --     state_push      the state of a longer list is one step, `after` of specs/Next.antt, from the state of the list
 --     state-..      each field of a state, by its definition
+--     voted_at      what a state says of a vote is what the messages say
 --     delivered_is_ready      a node that delivered is ready
 --     vote_push ..      first votes, and what was echoed, as one more message comes
 --     contains-.., get-votes      the voters, the supporters and the map of votes, by the votes
@@ -8,6 +9,7 @@
 pub use Rattle.bracha_instance.proofs.StateOf.{state_push, state-echoed, state-readied, state-delivered}
 pub use Rattle.bracha_instance.proofs.StateOf.{state-echoers, state-readiers, state-echo_votes, state-ready_votes}
 pub use Rattle.bracha_instance.proofs.StateOf.{voted, delivered_push-other, repeat_changes_nothing}
+pub use Rattle.bracha_instance.proofs.Counting.{voted_at}
 pub use Rattle.bracha_instance.proofs.Due.{delivered_is_ready, deliverable_is_ready, readies_its_own}
 pub use Rattle.bracha_instance.proofs.Due.{delivers_its_own, echo_stays, ready_stays, delivery_stays}
 pub use Rattle.bracha_instance.proofs.Due.{ready_was_first, delivery_was_first, ready_comes, delivery_comes}

@@ -180,6 +180,35 @@ impl Instance {
                 delivered: None,
             });
         }
+        self.take_new(sizes, kind, from, command)
+    }
+
+    /// Takes a message as [`take`](Self::take) does, where that node's of that kind was not taken before.
+    ///
+    /// # Errors
+    ///
+    /// `AllocError`, where there is no memory for one more vote. It changes nothing.
+    #[inline(always)]
+    pub fn take_new(
+        &mut self,
+        sizes: &Sizes,
+        kind: Kind,
+        from: NodeName,
+        command: Command,
+    ) -> Result<Taken, AllocError>
+        requires { has_voted self.old kind from ≡ false }
+        ensures state { let t : Take = record { kind = kind; from = from; command = command } in
+            OnOk result ((takes : List Take) →
+            self.old ≡ state sizes.now takes → self.new ≡ state sizes.now (takes ++ t ∷ [])) }
+        ensures effect { IfOk result (λ taken. taken.effect ≡ Effect.Counted) }
+        ensures broadcast { let t : Take = record { kind = kind; from = from; command = command } in
+            IfOk result (λ taken. (takes : List Take) →
+            self.old ≡ state sizes.now takes → taken.broadcast ≡ newly_sent sizes.now takes (takes ++ t ∷ [])) }
+        ensures delivered { let t : Take = record { kind = kind; from = from; command = command } in
+            IfOk result (λ taken. (takes : List Take) →
+            self.old ≡ state sizes.now takes → taken.delivered ≡ newly_delivered sizes.now takes (takes ++ t ∷ [])) }
+        ensures err { OnErr result (self.new ≡ self.old) }
+    {
         let echoed = self.echoed();
         let readied = self.readied();
         let delivered = self.delivered();

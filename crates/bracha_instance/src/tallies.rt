@@ -56,12 +56,43 @@ impl Tally {
     }
 }
 
-/// Whether two commands are the same.
+/// Whether two commands are the same. The derived test is a call, and this runs for each vote.
 #[inline(always)]
 fn is_same(a: &Command, b: &Command) -> bool
     ensures { result ≡ same_command a.now b.now }
 {
-    *a == *b
+    match (*a, *b) {
+        (Command::Assign { user, role }, Command::Assign { user: u, role: r })
+        | (Command::Deassign { user, role }, Command::Deassign { user: u, role: r }) => {
+            user == u && role == r
+        }
+        (
+            Command::Grant {
+                role,
+                operation,
+                object,
+            },
+            Command::Grant {
+                role: r,
+                operation: p,
+                object: o,
+            },
+        )
+        | (
+            Command::Revoke {
+                role,
+                operation,
+                object,
+            },
+            Command::Revoke {
+                role: r,
+                operation: p,
+                object: o,
+            },
+        ) => role == r && operation == p && object == o,
+        (Command::Clear { role }, Command::Clear { role: r }) => role == r,
+        _ => false,
+    }
 }
 
 /// The place of the command's tally.
@@ -86,16 +117,25 @@ fn tally_of(tallies: &mut Vec<Tally>, command: Command) -> Result<usize, AllocEr
 {
     match place_of(tallies, &command) {
         Some(at) => Ok(at),
-        None => {
-            let at = tallies.len();
-            tallies.push(Tally {
-                command,
-                echoes: NodeSet::new(),
-                readies: NodeSet::new(),
-            })?;
-            Ok(at)
-        }
+        None => add_tally(tallies, command),
     }
+}
+
+/// Adds the tally of a command that has none. Its place.
+#[inline(never)]
+fn add_tally(tallies: &mut Vec<Tally>, command: Command) -> Result<usize, AllocError>
+    requires { position (is_tally_of command) tallies.old.items ≡ None }
+    ensures place { IfOk result (λ at. IsFirst command tallies.new.items at) }
+    ensures tallies { OnOk result (tallies.new.items ≡ with_tally (λ t. t) command tallies.old.items) }
+    ensures err { OnErr result (tallies.new.items ≡ tallies.old.items) }
+{
+    let at = tallies.len();
+    tallies.push(Tally {
+        command,
+        echoes: NodeSet::new(),
+        readies: NodeSet::new(),
+    })?;
+    Ok(at)
 }
 
 /// Adds a name to the ECHOs for a command. How many nodes support it then.

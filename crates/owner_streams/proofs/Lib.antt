@@ -5,6 +5,7 @@ pub mod Senders
 pub mod Reaching
 pub mod Keeping
 pub mod Stepping
+pub mod Looking
 pub mod OneTake
 pub mod Slots
 pub mod Rings

@@ -1,5 +1,5 @@
 -- What contracts see of `Streams`: the states of its instances, by owner and place, and nothing of how they are kept.
-use Rattle.std.specs.Prelude.{◌≡◌, ℕ, List, [], slice_get, unwrap_or, refl}
+use Rattle.std.specs.Prelude.{◌≡◌, ℕ, List, [], slice_get, unwrap_or, Ok, refl}
 use Rattle.std.specs.Coded.{Coded, code_by, coded×, coded_list, coded_ℕ}
 use Rattle.std.specs.Ordering.{nat_cmp}
 use Rattle.std.specs.FinMap as maps
@@ -8,7 +8,9 @@ use Rattle.quorum_sizes.specs.contracts.sizes.Sizes as sizes
 use Rattle.link_frames.specs.Packets.{PacketValue}
 use Rattle.bracha_instance.specs.States.{State, state}
 use Rattle.bracha_instance.specs.contracts.instance.Instance as instance
+use Rattle.bracha_instance.specs.declared.instance.Effect.TheVariants.{Counted}
 use Rattle.owner_streams.specs.Places.{takes_at}
+use Rattle.owner_streams.specs.Steps.{SendsAreOwners, step_due, effect_due}
 
 -- the instances of an owner's stream by place: those in which a message was counted
 abbrev pub Instances : Type 0
@@ -30,6 +32,12 @@ state_at streams owner place = unwrap_or (maps.get (instances_of streams owner) 
 pub record IsStateOf (streams : StreamsValue) (packets : List PacketValue) : Type 0 where
   pub at_each_place : (owner place : ℕ)
       → state_at streams owner place ≡ state streams.sizes (takes_at owner place packets)
+
+-- these are the streams of some packets after which this one counts
+abbrev pub WouldCount : StreamsValue → PacketValue → Type 0
+WouldCount streams p =
+    (packets : List PacketValue) × IsStateOf streams packets × SendsAreOwners packets
+    × (effect_due (step_due streams.sizes packets p) ≡ Ok Counted)
 
 abbrev pub instances_code : Coded Instances
 instances_code = maps.code coded_ℕ instance.the_row.coded

@@ -1,13 +1,13 @@
 ghost use Rattle.std.specs.Prelude.{◌≡◌, ◌≢◌, ℕ, ◌+◌, ◌<◌, ◌≤◌, false, List, [], ◌∷◌, ◌++◌};
 ghost use Rattle.std.specs.Prelude.{length, max, IsSome, IfOk, OnOk, OnErr, is_some, slice_get};
-ghost use Rattle.std.specs.Prelude.{slice_set, vec_len, vec_capacity, Some, None, IfSome};
+ghost use Rattle.std.specs.Prelude.{slice_set, vec_len, vec_capacity, Some, None, IfSome, Ok};
 ghost use Rattle.std.specs.Option.{option_copied};
 ghost use Rattle.quorum_sizes.specs.Sizes.{Counts};
 ghost use Rattle.link_frames.specs.Packets.{PacketValue};
 ghost use Rattle.bracha_instance.specs.Broadcast.{Take, vote};
 ghost use Rattle.bracha_instance.specs.Taking.{SendsAreFrom};
 ghost use Rattle.bracha_instance.specs.States.{state};
-ghost use Rattle.bracha_instance.specs.declared.instance.Effect.TheVariants.{Idle};
+ghost use Rattle.bracha_instance.specs.declared.instance.Effect.TheVariants.{Idle, Counted};
 ghost use Rattle.owner_streams.specs.Places.{place_count, window, take_of, stream, reach as reach_of};
 ghost use Rattle.owner_streams.specs.Steps.{SendsAreOwners, step_due, IsAnswer, effect_due};
 ghost use Rattle.owner_streams.specs.Slots.{slot_at, state_in, delivered_in, again_in, voted_in, GoesOn, IsAnswerAt};
@@ -74,6 +74,36 @@ impl OwnerStream {
                 to: from,
             });
         }
+        self.take_new(sizes, packet)
+    }
+
+    /// Takes a packet of this owner that counts. An `Err` changes nothing that the places hold.
+    #[inline(always)]
+    pub(crate) fn take_new(
+        &mut self,
+        sizes: &Sizes,
+        packet: &Packet,
+    ) -> Result<StreamStep, StreamFault>
+        requires from { packet.now.from < sizes.now.nodes }
+        requires kept { IsOwnerStream sizes.now self.old }
+        requires counts { look_in self.old packet.now ≡ Ok Counted }
+        requires due { (packets : List PacketValue) →
+            AreStatesOf sizes.now packet.now.owner self.old packets → SendsAreOwners packets →
+            effect_due (step_due sizes.now packets packet.now) ≡ Ok Counted }
+        ensures kept { IsOwnerStream sizes.now self.new }
+        ensures due { (packets : List PacketValue) →
+            AreStatesOf sizes.now packet.now.owner self.old packets → SendsAreOwners packets →
+            IsAnswer (step_due sizes.now packets packet.now) result }
+        ensures state { OnOk result ((packets : List PacketValue) →
+            AreStatesOf sizes.now packet.now.owner self.old packets →
+            AreStatesOf sizes.now packet.now.owner self.new (packets ++ packet.now ∷ [])) }
+        ensures onward { IfOk result (λ step. step.from ≤ step.to) }
+        ensures few { IfOk result (λ step. step.to ≤ step.from + window) }
+        ensures bound { IfOk result (λ step. step.to ≤ place_count) }
+        ensures counted { IfOk result (λ step. step.effect ≡ Counted) }
+        ensures err { OnErr result (SamePlaces self.old self.new) }
+    {
+        let from = self.reach();
         let taken = self.take_at(sizes, packet)?;
         self.advance_if(taken.delivered.is_some());
         Ok(StreamStep {
@@ -90,6 +120,7 @@ impl OwnerStream {
     fn take_at(&mut self, sizes: &Sizes, packet: &Packet) -> Result<Taken, AllocError>
         requires from { packet.now.from < sizes.now.nodes }
         requires window { packet.now.place < reach_in self.old + window }
+        requires new { voted_in (held self.old packet.now.place) packet.now.kind packet.now.from ≡ false }
         ensures reach { reach_in self.new ≡ reach_in self.old }
         ensures room { OnOk result (reach_in self.new + window ≤ vec_capacity self.new.below) }
         ensures others { (place : ℕ) → place ≢ packet.now.place → held self.new place ≡ held self.old place }
@@ -324,6 +355,7 @@ fn take_slot(
 ) -> Result<Taken, AllocError>
     requires from { packet.now.from < sizes.now.nodes }
     requires slot { slot < window }
+    requires new { voted_in (slot_at ring.old.items slot) packet.now.kind packet.now.from ≡ false }
     ensures others { (k : ℕ) → k ≢ slot → slot_at ring.new.items k ≡ slot_at ring.old.items k }
     ensures state { OnOk result
         (GoesOn sizes.now (slot_at ring.old.items slot) (slot_at ring.new.items slot) (take_of packet.now)) }
@@ -356,14 +388,32 @@ fn take_in(
     sizes: &Sizes,
     packet: &Packet,
 ) -> Result<Taken, AllocError>
-    requires { packet.now.from < sizes.now.nodes }
+    requires from { packet.now.from < sizes.now.nodes }
+    requires new { voted_in slot.old packet.now.kind packet.now.from ≡ false }
     ensures state { OnOk result (GoesOn sizes.now slot.old slot.new (take_of packet.now)) }
     ensures taken { IfOk result (λ taken. IsAnswerAt sizes.now slot.old (take_of packet.now) taken) }
     ensures err { OnErr result (slot.new ≡ slot.old) }
 {
     if let Some(instance) = slot {
-        return instance.take(sizes, packet.kind(), packet.from(), packet.command());
+        return instance.take_new(sizes, packet.kind(), packet.from(), packet.command());
     }
+    take_first(slot, alloc, sizes, packet)
+}
+
+/// Takes a packet in a slot that has no instance. It is made.
+#[inline(never)]
+fn take_first(
+    slot: &mut Option<Instance>,
+    alloc: Global,
+    sizes: &Sizes,
+    packet: &Packet,
+) -> Result<Taken, AllocError>
+    requires from { packet.now.from < sizes.now.nodes }
+    requires none { slot.old ≡ None }
+    ensures state { OnOk result (GoesOn sizes.now slot.old slot.new (take_of packet.now)) }
+    ensures taken { IfOk result (λ taken. IsAnswerAt sizes.now slot.old (take_of packet.now) taken) }
+    ensures err { OnErr result (slot.new ≡ slot.old) }
+{
     let mut instance = Instance::new(alloc);
     let taken = instance.take(sizes, packet.kind(), packet.from(), packet.command())?;
     *slot = Some(instance);

@@ -1,9 +1,9 @@
 ghost use Rattle.std.specs.Prelude.{◌≡◌, ◌≢◌, ℕ, ◌+◌, ◌<◌, ◌≤◌, List, [], ◌∷◌, ◌++◌, IfOk, OnOk, OnErr, slice_get};
 ghost use Rattle.link_frames.specs.Packets.{PacketValue};
-ghost use Rattle.bracha_instance.specs.declared.instance.Effect.TheVariants.{Idle};
+ghost use Rattle.bracha_instance.specs.declared.instance.Effect.TheVariants.{Idle, Counted};
 ghost use Rattle.owner_streams.specs.Places.{place_count, window, stream, reach as reach_of};
 ghost use Rattle.owner_streams.specs.Steps.{SendsAreOwners, step_due, IsAnswer, effect_due, again_due};
-ghost use Rattle.owner_streams.specs.Values.{IsStateOf};
+ghost use Rattle.owner_streams.specs.Values.{IsStateOf, WouldCount};
 ghost use Rattle.owner_streams.specs.Kept.{AreOwnerStreams};
 
 use crate::owner_stream::OwnerStream;
@@ -85,6 +85,33 @@ impl Streams {
     {
         let owner = usize::from(packet.owner().index());
         self.owners[owner].take(&self.sizes, packet)
+    }
+
+    /// Takes a packet that counts, as [`take`](Self::take) does: these are the streams of some packets after which it
+    /// does.
+    ///
+    /// # Errors
+    ///
+    /// [`StreamFault::Memory`], which changes nothing.
+    #[inline(always)]
+    pub fn take_new(&mut self, packet: &Packet) -> Result<StreamStep, StreamFault>
+        requires from { packet.now.from < self.old.sizes.nodes }
+        requires owner { packet.now.owner < self.old.sizes.nodes }
+        requires counts { WouldCount self.old packet.now }
+        ensures sizes { self.new.sizes ≡ self.old.sizes }
+        ensures due { (packets : List PacketValue) →
+            IsStateOf self.old packets → SendsAreOwners packets →
+            IsAnswer (step_due self.old.sizes packets packet.now) result }
+        ensures state { OnOk result ((packets : List PacketValue) → IsStateOf self.old packets →
+            IsStateOf self.new (packets ++ packet.now ∷ [])) }
+        ensures onward { IfOk result (λ step. step.from ≤ step.to) }
+        ensures few { IfOk result (λ step. step.to ≤ step.from + window) }
+        ensures bound { IfOk result (λ step. step.to ≤ place_count) }
+        ensures counted { IfOk result (λ step. step.effect ≡ Counted) }
+        ensures err { OnErr result (self.new ≡ self.old) }
+    {
+        let message = packet.message();
+        self.owners[usize::from(message.owner.index())].take_new(&self.sizes, packet)
     }
 
     /// The effect that [`take`](Self::take) would answer, or its refusal. Its conditions are those of `take`.

@@ -7,11 +7,13 @@ use Rattle.role_commands.specs.Tables.{Table}
 use Rattle.bracha_instance.specs.declared.instance.Effect.{Effect}
 use Rattle.bracha_instance.specs.declared.instance.Effect.TheVariants as effect
 use Rattle.owner_streams.specs.Places.{place_count}
+use Rattle.owner_streams.specs.Steps.{step_due, effect_due}
+use Rattle.owner_streams.specs.declared.steps.StreamFault.{StreamFault}
 use Rattle.role_sessions.specs.Sessions.{state_of}
 use Rattle.role_sessions.proofs.Exported.{state_counts_the_opened}
 use Rattle.role_node.specs.Configs.{most_events}
-use Rattle.role_node.specs.Histories.{issued, client_events}
-use Rattle.role_node.specs.Answers.{EntryValue, outlook, outlook_with_room, or_counted, is_routed, reply_to}
+use Rattle.role_node.specs.Histories.{issued, packets, client_events}
+use Rattle.role_node.specs.Answers.{EntryValue, outlook, outlook_with_room, or_counted, is_routed, of_effect_due, reply_to}
 use Rattle.role_node.specs.Inside.{IsNode, node_value}
 use Rattle.role_node.specs.Nodes.{NodeValue}
 use Rattle.role_node.specs.Kept.{IsStateAfter, Stays, Follows, IsEntryFor, IsInRange, events}
@@ -95,6 +97,12 @@ last_two false b c e = absurd cc
 below : (x n : ℕ) → nat_lt x n ≡ true → x < n
 below x n e = grind (arith, nat_tests)
 
+counted_by : (routed : Bool) (r : Result Effect StreamFault)
+    → (if routed then of_effect_due r else Err fault.Misrouted) ≡ Ok effect.Counted → r ≡ Ok effect.Counted
+counted_by true (Ok e) h = cc
+counted_by true (Err f) h = absurd cc
+counted_by false r h = absurd cc
+
 -- what counts is in range
 pub in_range : (roles : Table) (me : ℕ) (history : List Event) (a : State) (event : Event)
     → IsStateAfter roles history a →
@@ -108,7 +116,12 @@ in_range roles me history a (Take p) h e room =
     let both =
     last_two (p.to == me) (nat_lt p.from roles.sizes.nodes) (nat_lt p.owner roles.sizes.nodes)
     (routed_by (is_routed roles.sizes me p) _ e) in
-    rw h.sizes (below p.from roles.sizes.nodes both.0, below p.owner roles.sizes.nodes both.1)
+    let due : effect_due (step_due roles.sizes (packets history) p) ≡ Ok effect.Counted =
+    counted_by (is_routed roles.sizes me p) _ e in (
+      rw h.sizes (below p.from roles.sizes.nodes both.0),
+      rw h.sizes (below p.owner roles.sizes.nodes both.1),
+      (packets history, h.streams, h.sends, rw h.sizes due),
+    )
 in_range roles me history a (Client act) h e room =
     let opened : a.sessions.state.opened ≡ (state_of (client_events history)).opened = ap (λ s. s.opened) h.sessions in
     let few = state_counts_the_opened (client_events history) in

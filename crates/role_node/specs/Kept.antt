@@ -8,7 +8,7 @@ use Rattle.link_frames.specs.Packets.{PacketValue}
 use Rattle.bracha_instance.specs.declared.instance.Effect.TheVariants as effect
 use Rattle.owner_streams.specs.Places.{place_count, stream}
 use Rattle.owner_streams.specs.Steps.{SendsAreOwners}
-use Rattle.owner_streams.specs.Values.{IsStateOf}
+use Rattle.owner_streams.specs.Values.{IsStateOf, WouldCount}
 use Rattle.rbac_state.specs.Policies.{IsPolicyOf}
 use Rattle.role_sessions.specs.Sessions.{state_of}
 use Rattle.role_sessions.specs.Decisions.{relations_of}
@@ -64,10 +64,11 @@ FailsForMemory me event old result =
     (roles : Table) (history : List Event) → IsStateAfter roles history old →
     outlook_with_room roles me history event ≡ Ok effect.Counted → IfErr result (λ fault. fault ≡ Memory)
 
--- what an event needs beforehand, so that its numbers fit
+-- what an event needs beforehand, so that its numbers fit and it is taken
 abbrev pub IsInRange : State → Event → Type 0
 IsInRange a (Issue command) = vec_len a.issued < place_count
-IsInRange a (Take p) = (p.from < a.streams.sizes.nodes) × (p.owner < a.streams.sizes.nodes)
+IsInRange a (Take p) =
+    (p.from < a.streams.sizes.nodes) × (p.owner < a.streams.sizes.nodes) × WouldCount a.streams p
 IsInRange a (Client act) = a.sessions.state.opened ≤ most_events
 
 -- the streams' commands, of one owner's only so many

@@ -2,7 +2,7 @@ ghost use Rattle.std.specs.Prelude.{◌≡◌, ℕ, ◌<◌, ◌≤◌, ◌+◌,
 ghost use Rattle.role_commands.specs.Tables.{Table};
 ghost use Rattle.link_frames.specs.Packets.{PacketValue};
 ghost use Rattle.owner_streams.specs.Places.{place_count};
-ghost use Rattle.owner_streams.specs.Values.{IsStateOf};
+ghost use Rattle.owner_streams.specs.Values.{IsStateOf, WouldCount};
 ghost use Rattle.rbac_state.specs.Policies.{IsPolicyOf};
 ghost use Rattle.role_sessions.specs.Decisions.{Relations, relations_of};
 ghost use Rattle.role_sessions.specs.Refusals.{AnswersExactly};
@@ -161,6 +161,7 @@ impl State {
     fn take(&mut self, packet: &Packet) -> Result<Entry, NodeFault>
         requires from { packet.now.from < self.old.streams.sizes.nodes }
         requires owner { packet.now.owner < self.old.streams.sizes.nodes }
+        requires counts { WouldCount self.old.streams packet.now }
         requires reached { IsReached self.old }
         ensures entry { IfOk result (λ entry. (me : ℕ) → IsEntryFor me (Take packet.now) self.old entry) }
         ensures ok { OnOk result (Follows (Take packet.now) self.old self.new) }
@@ -169,7 +170,7 @@ impl State {
     {
         let message = packet.message();
         self.policy.make_room()?;
-        let step = self.streams.take(packet)?;
+        let step = self.streams.take_new(packet)?;
         if step.from < step.to {
             obey(
                 &mut self.policy,

@@ -52,83 +52,13 @@ returns-in-Idle-clause-state c packets is =
           is.at_each_place;
     }
 
--- Memory is wanting.
-
-pub returns-in_err-taken-clause-kept : goal.returns-in_err-taken-clause-kept
-returns-in_err-taken-clause-kept c =
-    let was = held c.args.self.now in
-    let now = held c.take_at.new.self in
-    let same = at_each was now c.args.packet.now.place c.take_at.ensures.others c.in_err-taken.ensures.err in
-    record {
-      states = same_states c.args.sizes.now was now same c.requires.kept.states;
-      run = λ place h.
-          subst (λ slot. IsSome (delivered_in slot)) (sym (same place))
-          (c.requires.kept.run place (omega (arith, c.take_at.ensures.reach)));
-      run_ends =
-          ap (λ n. delivered_in (now n)) c.take_at.ensures.reach
-          ∙ ap delivered_in (same (reach_in c.args.self.now))
-          ∙ c.requires.kept.run_ends;
-      in_range = λ place past. same place ∙ c.requires.kept.in_range place past;
-    }
-
 -- A packet that counts.
 
-pub advance_if-requires-clause-run : goal.advance_if-requires-clause-run
-advance_if-requires-clause-run c place h =
-    still_run c.args.sizes.now (held c.args.self.now) (held c.take_at.new.self) c.args.packet.now
-    (reach_in c.args.self.now) c.take_at.ensures.others c.in_ok-taken.ensures.state c.requires.kept.states
-    c.requires.kept.run place (omega (arith, c.take_at.ensures.reach))
+pub take_new-requires-clause-counts : goal.take_new-requires-clause-counts
+take_new-requires-clause-counts c =
+    sym c.in_ok-look.ensures.seen ∙ ap Ok (counts c.in_ok-look.field-0 c.in_default.not-Idle)
 
-pub advance_if-requires-clause-run_ends : goal.advance_if-requires-clause-run_ends
-advance_if-requires-clause-run_ends c nothing =
-    ap (λ n. delivered_in (held c.take_at.new.self n)) c.take_at.ensures.reach
-    ∙ still_ends c.args.sizes.now (held c.args.self.now) (held c.take_at.new.self) c.args.packet.now
-    c.in_ok-taken.taken (reach_in c.args.self.now) c.take_at.ensures.others c.in_ok-taken.ensures.state
-    c.in_ok-taken.ensures.taken c.requires.kept.states c.requires.kept.run_ends (sym c.is_some.ensures ∙ nothing)
-
-pub returns-clause-kept : goal.returns-clause-kept
-returns-clause-kept c =
-    still_kept c.args.sizes.now c.args.self.now c.take_at.new.self c.advance_if.new.self c.args.packet.now
-    c.requires.kept c.take_at.ensures.in_range c.take_at.ensures.others c.in_ok-taken.ensures.state
-    c.advance_if.ensures.same c.advance_if.ensures.run c.advance_if.ensures.run_ends
-
-pub reach-requires : goal.reach-requires
-reach-requires c =
-    reach_within c.args.sizes.now c.advance_if.new.self
-    (still_kept c.args.sizes.now c.args.self.now c.take_at.new.self c.advance_if.new.self c.args.packet.now
-    c.requires.kept c.take_at.ensures.in_range c.take_at.ensures.others c.in_ok-taken.ensures.state
-    c.advance_if.ensures.same c.advance_if.ensures.run c.advance_if.ensures.run_ends)
-
-pub returns-clause-state : goal.returns-clause-state
-returns-clause-state c packets is =
-    let mid = held c.take_at.new.self in
-    record {
-      at_each_place = λ place.
-          ap (state_in c.args.sizes.now) (c.advance_if.ensures.same.at_each_place place)
-          ∙ states_push c.args.sizes.now (held c.args.self.now) mid packets c.args.packet.now c.take_at.ensures.others
-          c.in_ok-taken.ensures.state is.at_each_place place;
-    }
-
-pub returns-clause-due : goal.returns-clause-due
-returns-clause-due c packets is sent =
-    let s = c.args.sizes.now in
-    let p = c.args.packet.now in
-    let inside : p.place < reach_in c.args.self.now + window =
-    look_within c.args.self.now p _ c.in_ok-look.ensures.seen in
-    let before =
-    reach_of_run s p.owner (held c.args.self.now) packets (reach_in c.args.self.now) is.at_each_place
-    c.requires.kept.run c.requires.kept.run_ends
-    ∙ sym c.reach-from.ensures in
-    let states = returns-clause-state c packets is in
-    let after =
-    reach_of_run s p.owner (held c.advance_if.new.self) (packets ++ p ∷ []) (reach_in c.advance_if.new.self)
-    states.at_each_place c.advance_if.ensures.run c.advance_if.ensures.run_ends
-    ∙ sym c.reach.ensures in
-    let due = due_within s packets p c.reach-from.result before (omega arith) in
-    let is_counted = counts c.in_ok-look.field-0 c.in_default.not-Idle in
-    due
-    ∙ ap Ok (step_is s packets p c.in_ok-taken.taken c.reach-from.result c.reach.result
-    (effect_is s packets p Counted due (ap Ok (sym is_counted)
-    ∙ c.in_ok-look.ensures.due s packets c.requires.kept is sent))
-    (c.in_ok-taken.ensures.taken (takes_at p.owner p.place packets) (is.at_each_place p.place))
-    before after)
+pub take_new-requires-clause-due : goal.take_new-requires-clause-due
+take_new-requires-clause-due c packets is sent =
+    sym (c.in_ok-look.ensures.due c.args.sizes.now packets c.requires.kept is sent)
+    ∙ ap Ok (counts c.in_ok-look.field-0 c.in_default.not-Idle)

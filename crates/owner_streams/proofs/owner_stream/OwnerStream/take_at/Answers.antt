@@ -6,7 +6,7 @@ use Rattle.bracha_instance.specs.Broadcast.{Take}
 use Rattle.bracha_instance.specs.States.{State}
 use Rattle.bracha_instance.specs.declared.instance.Taken.{Taken}
 use Rattle.owner_streams.specs.Places.{window}
-use Rattle.owner_streams.specs.Slots.{slot_at, state_in, GoesOn, IsAnswerAt}
+use Rattle.owner_streams.specs.Slots.{slot_at, state_in, voted_in, GoesOn, IsAnswerAt}
 use Rattle.owner_streams.specs.Kept.{held_in, held}
 use Rattle.owner_streams.proofs.Rings.{held-below, held-window, held-record, held-other_record, held-other_slot}
 use Rattle.owner_streams.proofs.owner_stream.OwnerStream.take_at.Goals as goal
@@ -74,6 +74,18 @@ returns-then-place-len-clause-taken c =
     (c.take_record.ensures.taken c.args.sizes.now)
 
 -- The slot of the place.
+
+pub take_slot-requires-clause-new : goal.take_slot-requires-clause-new
+unfolding held
+take_slot-requires-clause-new c =
+    let at : c.place-place.result ≡ c.args.packet.now.place = omega arith in
+    let ring = c.args.self.now.ring.items in
+    let len : length c.reserve.new.self.items ≡ length c.args.self.now.below.items = ap length c.reserve.ensures.items
+    in
+    let before : held c.args.self.now c.args.packet.now.place ≡ slot_at ring (c.place-place.result % window) =
+    ap (held c.args.self.now) (sym at)
+    ∙ held-window c.args.self.now.below.items ring c.place-place.result (omega arith) (omega arith) in
+    sym (ap (λ slot. voted_in slot c.args.packet.now.kind c.args.packet.now.from) before) ∙ c.requires.new
 
 pub returns-clause-others : goal.returns-clause-others
 unfolding held

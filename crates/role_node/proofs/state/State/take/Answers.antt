@@ -49,17 +49,17 @@ returns-clause-ok c roles history h =
     elim c.if-step.branch [
       | then-step w ↦
           rw w.self-is
-          (after_take roles history p h c.message-message.ensures.kept.0 refl c.take.ensures.sizes
+          (after_take roles history p h c.message-message.ensures.kept.0 refl c.take_new.ensures.sizes
           (c.in_ok-step.ensures.state (packets history) h.streams)
           (w.obey.ensures.table ∙ c.make_room.ensures.same.table)
           (policy_grown roles.sizes (packets history) p
-          (c.take.ensures.sizes
+          (c.take_new.ensures.sizes
           ∙ h.sizes) (ap (λ m. m.owner) c.message-message.ensures.value) is h.policy c.make_room.ensures.same
           (w.obey.ensures.policy (packets history ++ p ∷ []) (c.in_ok-step.ensures.state (packets history) h.streams)))
           w.forget_answers.ensures.state (w.forget_answers.ensures.kept (relations_of w.obey.new.policy)))
       | else-step w ↦
           rw w.self-is
-          (after_take roles history p h c.message-message.ensures.kept.0 refl c.take.ensures.sizes
+          (after_take roles history p h c.message-message.ensures.kept.0 refl c.take_new.ensures.sizes
           (c.in_ok-step.ensures.state (packets history) h.streams)
           c.make_room.ensures.same.table
           (policy_stays roles.sizes (packets history) p is
