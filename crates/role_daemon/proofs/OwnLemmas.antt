@@ -1,14 +1,14 @@
 -- A node's own packets come to an end: what it sends when it takes one is an ECHO or a READY, its own ECHO causes no
 -- other ECHO, and its own READY, which it sent as it was ready, causes nothing.
-use Rattle.std.proofs.Common.{◌⊎◌, inl, inr, ◌≡◌, ℕ, zero, suc, ◌+◌, ◌<◌, ◌≤◌, Bool, true, false, not, ◌&&◌, cond}
+use Rattle.std.proofs.Common.{◌⊎◌, inl, inr, ◌≡◌, ℕ, zero, suc, ◌+◌, ◌<◌, ◌≤◌, Bool, true, false, cond}
 use Rattle.std.proofs.Common.{List, [], ◌∷◌, ◌++◌}
 use Rattle.std.proofs.Common.{Option, Some, None, Result, Ok, Err, refl, sym, ap, ◌∙◌, subst, arith, option_map}
-use Rattle.std.specs.Prelude.{◌==◌, if◌then◌else◌}
+use Rattle.std.specs.Prelude.{◌||◌, nat_le, if◌then◌else◌}
 use Rattle.std.proofs.lemmas.Option.{none-some}
 use Rattle.std.specs.Option.{option_or}
 use Rattle.role_commands.specs.declared.command.Command.{Command}
 use Rattle.link_frames.specs.Kinds.{same_kind}
-use Rattle.link_frames.specs.Packets.{PacketValue, packet_of}
+use Rattle.link_frames.specs.Packets.{PacketValue, place_count, packet_of, is_relayed}
 use Rattle.link_frames.specs.declared.kind.Kind.{Kind}
 use Rattle.link_frames.specs.declared.kind.Kind.TheVariants.{Send, Echo, Ready}
 use Rattle.link_frames.specs.declared.packet.Message.{Message}
@@ -179,12 +179,12 @@ abbrev own : NodeValue → Message → PacketValue
 own node m = packet_of node.me node.me m
 
 own_is : (node : NodeValue) (m more : Message) → waits node m ≡ Some more → own_packet node m ≡ Some (own node m)
-own_is node m more e = by_owner (same_kind m.kind Send && not (node.me == m.owner)) e
+own_is node m more e = by_refusal (is_relayed node.me m || nat_le place_count m.place) e
   where
-    by_owner : (b : Bool) → sent_own node (if b then None else Some (own node m)) ≡ Some more
+    by_refusal : (b : Bool) → sent_own node (if b then None else Some (own node m)) ≡ Some more
         → (if b then None else Some (own node m)) ≡ Some (own node m)
-    by_owner true e = absurd cc
-    by_owner false e = refl
+    by_refusal true e = absurd cc
+    by_refusal false e = refl
 
 own_sends : (node : NodeValue) (m more : Message) → waits node m ≡ Some more → Sends node (own node m) more
 own_sends node m more e = sends node (own node m) more (sym (ap (sent_own node) (own_is node m more e)) ∙ e)
