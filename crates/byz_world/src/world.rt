@@ -165,6 +165,20 @@ impl World {
         ensures run { IsClusterRunOf self.new }
     {
         match step {
+            Step::Give { packet } => self.give(*packet),
+            _ => self.answer_other(step),
+        }
+    }
+
+    /// As `answer`. Packets of the pool come by the million, and the other steps would have each pay for their room.
+    #[inline(never)]
+    fn answer_other(&mut self, step: &Step) -> Result<Came, WorldFault>
+        ensures due { IsStepAnswer self.old step.now (told_of self.old result) }
+        ensures ok { OnOk result (self.new ≡ after_step self.old step.now) }
+        ensures err { OnErr result (self.new ≡ self.old) }
+        ensures run { IsClusterRunOf self.new }
+    {
+        match step {
             Step::Issue { node, command } => self.issue(*node, *command),
             Step::Give { packet } => self.give(*packet),
             Step::Lie { packet } => self.lie(packet),
