@@ -1,5 +1,5 @@
 -- The promise of the product, for the run of any list of steps.
-use Rattle.std.specs.Prelude.{◌≡◌, ◌≢◌, ℕ, min, false, List, [], take, find, All, IsTrue, IsSomeAnd, Option, Some, None}
+use Rattle.std.specs.Prelude.{◌≡◌, ◌≢◌, ℕ, min, false, List, [], take, find, All, IsSomeAnd, Option, Some, None}
 use Rattle.quorum_sizes.specs.Sizes.{AreSizes}
 use Rattle.quorum_sizes.specs.NodeSets.{Nodes}
 use Rattle.owner_streams.specs.Laws.{IsPrefixOf}
@@ -15,7 +15,7 @@ use Rattle.role_node.specs.Configs.{ConfigValue}
 use Rattle.role_node.specs.Histories.{issued}
 use Rattle.byz_world.specs.Checks.{decision_due}
 use Rattle.byz_world.specs.Laws.{stream_of, reach_of}
-use Rattle.byz_world.specs.Runs.{Run, history_of, is_correct, IsClusterRun}
+use Rattle.byz_world.specs.Runs.{Run, history_of, IsCorrect, IsClusterRun}
 use Rattle.byz_world.specs.Steps.{after_steps, IsSoundStep}
 use Rattle.byz_world.specs.Worlds.{new_world, too_many_lie}
 use Rattle.byz_world.specs.declared.step.Step.{Step}
@@ -49,16 +49,16 @@ pub record IsRightDecision (relations : Relations) (found : Option Session) (use
 -- far as both reach; and a correct owner's stream is a front of what it issued.
 pub record KeepsThePromise (config : ConfigValue) (liars : Nodes) (run : Run) : Type 0 where
   pub is_run : IsClusterRun config liars run
-  pub decisions : (node session user operation object : ℕ) → IsTrue (is_correct config.roles.sizes liars node) →
+  pub decisions : (node session user operation object : ℕ) → IsCorrect config liars node →
       IsSomeAnd (decision_due config liars run node session user operation object)
       (IsRightDecision (relations_at config.roles (history_of node run)) (session_at (history_of node run) session)
       user operation object)
   pub streams_agree : (i j owner : ℕ) →
-      IsTrue (is_correct config.roles.sizes liars i) → IsTrue (is_correct config.roles.sizes liars j) →
+      IsCorrect config liars i → IsCorrect config liars j →
       take (min (reach_of config run i owner) (reach_of config run j owner)) (stream_of config run i owner)
       ≡ take (min (reach_of config run i owner) (reach_of config run j owner)) (stream_of config run j owner)
   pub nothing_forged : (i owner : ℕ) →
-      IsTrue (is_correct config.roles.sizes liars i) → IsTrue (is_correct config.roles.sizes liars owner) →
+      IsCorrect config liars i → IsCorrect config liars owner →
       IsPrefixOf (stream_of config run i owner) (issued (history_of owner run))
 
 -- For every configuration and set of liars, of whom no more are nodes than may lie, and for every list of steps:

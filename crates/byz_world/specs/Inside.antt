@@ -1,7 +1,7 @@
 -- What holds of a world's fields. Serves the code, and no public contract.
-use Rattle.std.specs.Prelude.{◌≡◌, ⊤, ℕ, ◌≤◌, ◌==◌, Bool, true, false, IsTrue, Result, Ok}
+use Rattle.std.specs.Prelude.{◌≡◌, ⊤, ℕ, ◌≤◌, ◌==◌, Bool, true, false, IsTrue, Result, Ok, if◌then◌else◌}
 use Rattle.std.specs.Prelude.{Err, List, [], ◌∷◌, ◌++◌, length, count_by, slice_get, is_some}
-use Rattle.std.specs.Prelude.{if◌then◌else◌, Option, Some, None, option_map, option_and_then}
+use Rattle.std.specs.Prelude.{Option, Some, None, option_map, option_and_then}
 use Rattle.quorum_sizes.specs.NodeSets.{Nodes}
 use Rattle.role_node.specs.Configs.{ConfigValue, most_events}
 use Rattle.role_node.specs.Nodes.{NodeValue}
@@ -13,7 +13,7 @@ use Rattle.bracha_instance.specs.declared.instance.Effect.TheVariants.{Idle, Cou
 use Rattle.role_node.specs.Answers.{outlook, sent_by}
 use Rattle.role_node.specs.declared.faults.NodeFault.{NodeFault}
 use Rattle.std.specs.List.{list_all}
-use Rattle.byz_world.specs.Runs.{Run, is_correct, has_sent, IsClusterRun}
+use Rattle.byz_world.specs.Runs.{Run, IsCorrect, has_sent, IsClusterRun}
 use Rattle.byz_world.specs.Pools.{Sent, listed, messages, pool}
 use Rattle.byz_world.specs.Worlds.{WorldValue, node_due}
 use Rattle.role_node.specs.declared.event.Reply.{Reply}
@@ -67,9 +67,9 @@ pub record IsWorldIn (config : ConfigValue) (liars : Nodes) (members : Members) 
 
 -- what an event needs of a run to be its next
 pub record MayFollow (config : ConfigValue) (liars : Nodes) (run : Run) (at : ℕ) (e : Event) : Type 0 where
-  pub correct : IsTrue (is_correct config.roles.sizes liars at)
+  pub correct : IsCorrect config liars at
   pub sound : (p : PacketValue) → e ≡ Take p → IsSound p
-  pub links : (p : PacketValue) → e ≡ Take p → IsTrue (is_correct config.roles.sizes liars p.from) →
+  pub links : (p : PacketValue) → e ≡ Take p → IsCorrect config liars p.from →
       IsTrue (has_sent config.roles.sizes run p.from (message_of p))
 
 abbrev pub is_act : Event → Bool

@@ -11,7 +11,7 @@ use Rattle.link_frames.specs.Packets.{PacketValue, IsSound}
 use Rattle.role_node.specs.Configs.{ConfigValue}
 use Rattle.role_node.specs.Histories.{issued, packets}
 use Rattle.role_node.specs.Access.{stream_at, reach_at, relations_at}
-use Rattle.byz_world.specs.Runs.{Run, history_of, is_correct, IsClusterRun}
+use Rattle.byz_world.specs.Runs.{Run, history_of, IsCorrect, IsClusterRun}
 use Rattle.byz_world.specs.Pools.{pool, WasSent}
 use Rattle.byz_world.specs.Resting.{IsAtRest}
 use Rattle.byz_world.specs.Agreement.{common_length}
@@ -51,13 +51,13 @@ PoolIsSound =
 -- an owner agree as far as both reach.
 pub record IsConsistent (config : ConfigValue) (liars : Nodes) (run : Run) : Type 0 where
   pub ready_for_one : (i j owner place : ℕ) (c d : Command) →
-      IsTrue (is_correct config.roles.sizes liars i) → IsTrue (is_correct config.roles.sizes liars j) →
+      IsCorrect config liars i → IsCorrect config liars j →
       readied_by config run i owner place ≡ Some c → readied_by config run j owner place ≡ Some d → c ≡ d
   pub deliver_one : (i j owner place : ℕ) (c d : Command) →
-      IsTrue (is_correct config.roles.sizes liars i) → IsTrue (is_correct config.roles.sizes liars j) →
+      IsCorrect config liars i → IsCorrect config liars j →
       delivered_by config run i owner place ≡ Some c → delivered_by config run j owner place ≡ Some d → c ≡ d
   pub streams_agree : (i j owner : ℕ) →
-      IsTrue (is_correct config.roles.sizes liars i) → IsTrue (is_correct config.roles.sizes liars j) →
+      IsCorrect config liars i → IsCorrect config liars j →
       common_length (stream_of config run i owner) (stream_of config run j owner)
       ≡ min (reach_of config run i owner) (reach_of config run j owner)
 
@@ -70,7 +70,7 @@ Consistency =
 abbrev pub Integrity : Type 0
 Integrity =
     (config : ConfigValue) (liars : Nodes) (run : Run) (i owner : ℕ) → IsClusterRun config liars run →
-    IsTrue (is_correct config.roles.sizes liars i) → IsTrue (is_correct config.roles.sizes liars owner) →
+    IsCorrect config liars i → IsCorrect config liars owner →
     IsPrefixOf (stream_of config run i owner) (issued (history_of owner run))
 
 -- correct nodes whose streams reach equally far have the same relations
@@ -85,7 +85,7 @@ pub record HaveSameRelations (config : ConfigValue) (run : Run) (i j : ℕ) : Ty
 abbrev pub SamePolicy : Type 0
 SamePolicy =
     (config : ConfigValue) (liars : Nodes) (run : Run) (i j : ℕ) → IsClusterRun config liars run →
-    IsTrue (is_correct config.roles.sizes liars i) → IsTrue (is_correct config.roles.sizes liars j) →
+    IsCorrect config liars i → IsCorrect config liars j →
     ((owner : ℕ) → owner < config.roles.sizes.nodes → reach_of config run i owner ≡ reach_of config run j owner) →
     HaveSameRelations config run i j
 
@@ -96,16 +96,16 @@ ReadyByAll =
     (config : ConfigValue) (liars : Nodes) (run : Run) (owner place : ℕ) (c : Command) (ready : Nodes) →
     IsClusterRun config liars run → IsAtRest config liars run →
     ((node : ℕ) → IsTrue (sets.contains ready node) →
-    IsTrue (is_correct config.roles.sizes liars node) × (readied_by config run node owner place ≡ Some c)) →
+    IsCorrect config liars node × (readied_by config run node owner place ≡ Some c)) →
     amplify_of config.roles.sizes ≤ sets.len ready →
-    (j : ℕ) → IsTrue (is_correct config.roles.sizes liars j) → readied_by config run j owner place ≡ Some c
+    (j : ℕ) → IsCorrect config liars j → readied_by config run j owner place ≡ Some c
 
 -- What one correct node delivered, each did.
 abbrev pub DeliveredByAll : Type 0
 DeliveredByAll =
     (config : ConfigValue) (liars : Nodes) (run : Run) (i j owner place : ℕ) (c : Command) →
     IsClusterRun config liars run → IsAtRest config liars run →
-    IsTrue (is_correct config.roles.sizes liars i) → IsTrue (is_correct config.roles.sizes liars j) →
+    IsCorrect config liars i → IsCorrect config liars j →
     delivered_by config run i owner place ≡ Some c → delivered_by config run j owner place ≡ Some c
 
 -- the node has echoed the command, is ready for it, and has delivered it
@@ -119,17 +119,17 @@ abbrev pub IssuedReachesAll : Type 0
 IssuedReachesAll =
     (config : ConfigValue) (liars : Nodes) (run : Run) (i owner place : ℕ) (c : Command) →
     IsClusterRun config liars run → IsAtRest config liars run →
-    IsTrue (is_correct config.roles.sizes liars i) → IsTrue (is_correct config.roles.sizes liars owner) →
+    IsCorrect config liars i → IsCorrect config liars owner →
     slice_get (issued (history_of owner run)) place ≡ Some c → HasReached config run i owner place c
 
 -- Of a cluster at rest: a correct owner's stream is, at each correct node, what the owner issued; and what one correct
 -- node delivered, each did, whoever the owner is.
 pub record HasSettled (config : ConfigValue) (liars : Nodes) (run : Run) : Type 0 where
   pub issued_is_delivered : (i owner : ℕ) →
-      IsTrue (is_correct config.roles.sizes liars i) → IsTrue (is_correct config.roles.sizes liars owner) →
+      IsCorrect config liars i → IsCorrect config liars owner →
       stream_of config run i owner ≡ issued (history_of owner run)
   pub delivered_by_all : (i j owner place : ℕ) →
-      IsTrue (is_correct config.roles.sizes liars i) → IsTrue (is_correct config.roles.sizes liars j) →
+      IsCorrect config liars i → IsCorrect config liars j →
       delivered_by config run i owner place ≡ delivered_by config run j owner place
 
 abbrev pub AtRest : Type 0

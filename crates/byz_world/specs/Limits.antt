@@ -1,12 +1,12 @@
 -- Runs of nodes that were told different limits.
-use Rattle.std.specs.Prelude.{◌≡◌, ℕ, ◌≤◌, IsTrue, slice_get, Some}
+use Rattle.std.specs.Prelude.{◌≡◌, ℕ, ◌≤◌, slice_get, Some}
 use Rattle.std.specs.FinSet as sets
 use Rattle.quorum_sizes.specs.Sizes.{AreSizes}
 use Rattle.quorum_sizes.specs.NodeSets.{Nodes, nodes_among}
 use Rattle.role_node.specs.Configs.{ConfigValue}
 use Rattle.role_node.specs.Answers.{IsLegal}
 use Rattle.role_node.specs.declared.event.Event.{Event}
-use Rattle.byz_world.specs.Runs.{Run, history_of, is_correct, PacketsAreSound, LinksAreTrue, IsClusterRun}
+use Rattle.byz_world.specs.Runs.{Run, history_of, IsCorrect, PacketsAreSound, LinksAreTrue, IsClusterRun}
 
 -- the configuration with another limit
 abbrev pub with_limit : ConfigValue → ℕ → ConfigValue
@@ -17,7 +17,7 @@ pub record IsRunUnderLimits (config : ConfigValue) (limits : ℕ → ℕ) (liars
   pub sizes : AreSizes config.roles.sizes
   pub few : sets.len (nodes_among config.roles.sizes liars) ≤ config.roles.sizes.liars
   pub correct : (t node : ℕ) (event : Event) → slice_get run t ≡ Some (node, event) →
-      IsTrue (is_correct config.roles.sizes liars node)
+      IsCorrect config liars node
   pub legal : (node : ℕ) → IsLegal (with_limit config (limits node)) node (history_of node run)
   pub sound : PacketsAreSound run
   pub links : LinksAreTrue config.roles.sizes liars run

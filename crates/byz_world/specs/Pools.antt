@@ -7,7 +7,7 @@ use Rattle.link_frames.specs.Packets.{PacketValue, packet_of, message_of}
 use Rattle.role_node.specs.Configs.{ConfigValue}
 use Rattle.role_node.specs.Answers.{answer_due, sent_by_answer}
 use Rattle.role_node.specs.declared.event.Event.{Event}
-use Rattle.byz_world.specs.Runs.{Run, history_of, is_correct, has_sent}
+use Rattle.byz_world.specs.Runs.{Run, history_of, IsCorrect, has_sent}
 
 -- a message and the node that sends it to all
 abbrev pub Sent : Type 0
@@ -42,6 +42,6 @@ pool config run = flat_map (packets_of config.roles.sizes.nodes) (messages confi
 
 -- the packet is to a node, and of a message that a correct node has sent, by its history
 pub record WasSent (config : ConfigValue) (liars : Nodes) (run : Run) (p : PacketValue) : Type 0 where
-  pub from : IsTrue (is_correct config.roles.sizes liars p.from)
+  pub from : IsCorrect config liars p.from
   pub to : p.to < config.roles.sizes.nodes
   pub sent : IsTrue (has_sent config.roles.sizes run p.from (message_of p))

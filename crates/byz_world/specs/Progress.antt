@@ -13,7 +13,7 @@ use Rattle.role_node.specs.declared.event.Event.TheVariants.{Take}
 use Rattle.byz_world.specs.Laws.{reach_of, HasSettled}
 use Rattle.byz_world.specs.Pools.{pool}
 use Rattle.byz_world.specs.Resting.{IsAtRest}
-use Rattle.byz_world.specs.Runs.{Run, history_of, is_correct, IsClusterRun}
+use Rattle.byz_world.specs.Runs.{Run, history_of, IsCorrect, IsClusterRun}
 
 -- its receiver would record the packet if it were given now
 abbrev pub counts_now : ConfigValue → Run → PacketValue → Bool
@@ -22,13 +22,13 @@ counts_now config run p = is_recorded (answer_due config p.to (history_of p.to r
 -- no packet of the pool to a correct node counts any more
 abbrev pub IsStuck : ConfigValue → Nodes → Run → Type 0
 IsStuck config liars run =
-    (p : PacketValue) → Contains (pool config run) p → IsTrue (is_correct config.roles.sizes liars p.to) →
+    (p : PacketValue) → Contains (pool config run) p → IsCorrect config liars p.to →
     counts_now config run p ≡ false
 
 -- no correct node's history is full
 abbrev pub HasRoom : ConfigValue → Nodes → Run → Type 0
 HasRoom config liars run =
-    (node : ℕ) → IsTrue (is_correct config.roles.sizes liars node) → length (history_of node run) < config.limit
+    (node : ℕ) → IsCorrect config liars node → length (history_of node run) < config.limit
 
 -- Nothing is stuck. Of a cluster in which no history is full: where no packet of the pool counts any more, it is at
 -- rest, and only there. So none waits beyond a window for ever.
@@ -40,7 +40,7 @@ NothingIsStuck =
 -- the packet may be given, and counts: a correct node has sent it to a correct node, which would record it
 pub record IsGivable (config : ConfigValue) (liars : Nodes) (run : Run) (p : PacketValue) : Type 0 where
   pub sent : Contains (pool config run) p
-  pub to : IsTrue (is_correct config.roles.sizes liars p.to)
+  pub to : IsCorrect config liars p.to
   pub counts : IsTrue (counts_now config run p)
 
 -- The run is prolonged by packets of the pool alone, in whatever order: each of these pairs is such a packet, which
@@ -84,7 +84,7 @@ pub record ComesToRest (config : ConfigValue) (liars : Nodes) (run more : Run) :
   pub is_run : IsClusterRun config liars (run ++ more)
   pub ends : (places : ℕ) → IsPoolBelow config run places → length more ≤ most_work config.roles.sizes places
   pub has_room : (places : ℕ) → IsPoolBelow config run places →
-      ((node : ℕ) → IsTrue (is_correct config.roles.sizes liars node) →
+      ((node : ℕ) → IsCorrect config liars node →
       length (history_of node run) + most_work config.roles.sizes places < config.limit) →
       HasRoom config liars (run ++ more)
   pub goes_on : HasRoom config liars (run ++ more) →

@@ -34,6 +34,9 @@ history_of node run = filter_map (event_at node) run
 abbrev pub is_correct : Counts → Nodes → ℕ → Bool
 is_correct s liars node = nat_lt node s.nodes && not (sets.contains liars node)
 
+abbrev pub IsCorrect : ConfigValue → Nodes → ℕ → Type 0
+IsCorrect config liars node = IsTrue (is_correct config.roles.sizes liars node)
+
 -- what is sent of a kind
 abbrev pub of_kind : Kind → NodeAgain → Option Command
 of_kind Send sent = sent.send
@@ -62,7 +65,7 @@ pub record IsClusterRun (config : ConfigValue) (liars : Nodes) (run : Run) : Typ
   pub sizes : AreSizes config.roles.sizes
   pub few : sets.len (nodes_among config.roles.sizes liars) ≤ config.roles.sizes.liars
   pub correct : (t node : ℕ) (event : Event) → slice_get run t ≡ Some (node, event) →
-      IsTrue (is_correct config.roles.sizes liars node)
+      IsCorrect config liars node
   pub legal : (node : ℕ) → IsLegal config node (history_of node run)
   pub sound : PacketsAreSound run
   pub links : LinksAreTrue config.roles.sizes liars run

@@ -1,5 +1,5 @@
 -- What a step of the world does: the node and the event that it comes to, its answer, and the run after it.
-use Rattle.std.specs.Prelude.{◌≡◌, ⊤, ℕ, ◌+◌, Bool, not, ◌&&◌, nat_lt, if◌then◌else◌, IsTrue, List, []}
+use Rattle.std.specs.Prelude.{◌≡◌, ⊤, ℕ, ◌+◌, Bool, not, ◌&&◌, nat_lt, IsTrue, List, [], if◌then◌else◌}
 use Rattle.std.specs.Prelude.{◌∷◌, ◌++◌, length, slice_get, is_some, Option, Some, None, Result, Ok, Err}
 use Rattle.link_frames.specs.Opening.{open_due}
 use Rattle.link_frames.specs.Packets.{PacketValue, IsSound, message_of}
@@ -111,16 +111,8 @@ adds w step = nat_lt 0 (length (recorded_pair w (arrival w step)))
 
 -- the answer is the one that is due; want of memory comes last, where the step would add to the run
 abbrev pub IsStepAnswer : WorldValue → Step → Result StepReply WorldFault → Type 0
-IsStepAnswer w step (Ok r) = step_due w step ≡ Ok r
-IsStepAnswer w step (Err fault.TooManyLiars) = step_due w step ≡ Err fault.TooManyLiars
-IsStepAnswer w step (Err fault.NotCorrect) = step_due w step ≡ Err fault.NotCorrect
-IsStepAnswer w step (Err fault.NoSuchPacket) = step_due w step ≡ Err fault.NoSuchPacket
-IsStepAnswer w step (Err fault.NotSent) = step_due w step ≡ Err fault.NotSent
-IsStepAnswer w step (Err fault.PoolFull) = step_due w step ≡ Err fault.PoolFull
-IsStepAnswer w step (Err (fault.Link f)) = step_due w step ≡ Err (fault.Link f)
-IsStepAnswer w step (Err (fault.Node f)) = step_due w step ≡ Err (fault.Node f)
-IsStepAnswer w step (Err fault.NoSession) = step_due w step ≡ Err fault.NoSession
 IsStepAnswer w step (Err fault.Memory) = IsTrue (adds w step)
+IsStepAnswer w step answer = step_due w step ≡ answer
 
 -- a packet that a step brings is one: a SEND comes from its owner, and its place is one of a stream. What bytes open
 -- to is one whichever they are

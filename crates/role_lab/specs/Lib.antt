@@ -1,3 +1,4 @@
+pub mod Reads
 pub mod Grammar
 pub mod Orders
 pub mod Spellings

@@ -18,6 +18,7 @@ use Rattle.role_node.specs.declared.question.Question.TheVariants.{Check, Assign
 use Rattle.role_node.specs.declared.question.Question.TheVariants.{RolePermissions, UserPermissions, RoleOperations}
 use Rattle.role_node.specs.declared.question.Question.TheVariants.{UserOperations, SessionRoles, SessionPermissions}
 use Rattle.byz_world.specs.declared.step.Step.TheVariants.{Issue, Give, Lie, Bytes, Client}
+use Rattle.role_lab.specs.Reads.{◌>>=◌}
 use Rattle.role_lab.specs.Grammar.{sizes_of_numbers}
 use Rattle.role_lab.specs.declared.orders.Setup.{Setup}
 use Rattle.role_lab.specs.declared.orders.Setup.TheVariants.{Owned, Liar}
@@ -37,19 +38,21 @@ kind_of word =
 
 -- what a word says, and what stands behind its space
 unfoldable pub then_rest : {A : Type 0} → (List ℕ → Option A) → List ℕ → Option (A × List ℕ)
-then_rest read text = option_and_then (λ words. option_map (λ a. (a, words.1)) (read words.0)) (split_word text)
+then_rest read text = do
+  words ← split_word text
+  option_map (λ a. (a, words.1)) (read words.0)
 
 -- the sizes that the first line names
 unfoldable pub cluster_of_line : List ℕ → Option Counts
-cluster_of_line line =
-    option_and_then (λ words. if bytes_eq words.0 (codes "cluster") then sizes_of_numbers words.1 else None)
-    (split_word line)
+cluster_of_line line = do
+  words ← split_word line
+  if bytes_eq words.0 (codes "cluster") then sizes_of_numbers words.1 else None
 
 -- `R OWNER`
 unfoldable pub role_and_owner : List ℕ → Option Setup
-role_and_owner text =
-    option_and_then (λ role.
-    option_map (λ owner. Owned role.0 owner) (byte_number role.1)) (then_rest narrow_number text)
+role_and_owner text = do
+  role ← then_rest narrow_number text
+  option_map (λ owner. Owned role.0 owner) (byte_number role.1)
 
 unfoldable pub named_setup : Counts → List ℕ → List ℕ → Option Setup
 named_setup s name text =
@@ -59,44 +62,44 @@ named_setup s name text =
 
 -- what a line says of the cluster before anything happens in it
 unfoldable pub setup_of_line : Counts → List ℕ → Option Setup
-setup_of_line s line = option_and_then (λ words. named_setup s words.0 words.1) (split_word line)
+setup_of_line s line = do
+  words ← split_word line
+  named_setup s words.0 words.1
 
 -- Sessions have 64 bits, users, objects, places and packets' numbers 32, roles and operations 16.
 
 -- `S USER`
 unfoldable pub session_and_user : List ℕ → Option (ℕ × ℕ)
-session_and_user text =
-    option_and_then (λ session.
-    option_map (λ user. (session.0, user)) (wide_number session.1)) (then_rest long_number text)
+session_and_user text = do
+  session ← then_rest long_number text
+  option_map (λ user. (session.0, user)) (wide_number session.1)
 
 -- `S USER R`
 unfoldable pub session_user_and_role : List ℕ → Option (ℕ × ℕ × ℕ)
-session_user_and_role text =
-    option_and_then (λ session.
-    option_and_then (λ user.
-    option_map (λ role. (session.0, user.0, role)) (narrow_number user.1)) (then_rest wide_number session.1))
-    (then_rest long_number text)
+session_user_and_role text = do
+  session ← then_rest long_number text
+  user ← then_rest wide_number session.1
+  option_map (λ role. (session.0, user.0, role)) (narrow_number user.1)
 
 -- `S USER OPERATION OBJECT`
 unfoldable pub access_of : List ℕ → Option Question
-access_of text =
-    option_and_then (λ session.
-    option_and_then (λ user.
-    option_and_then (λ operation.
-    option_map (λ object. Check session.0 user.0 operation.0 object) (wide_number operation.1))
-    (then_rest narrow_number user.1)) (then_rest wide_number session.1)) (then_rest long_number text)
+access_of text = do
+  session ← then_rest long_number text
+  user ← then_rest wide_number session.1
+  operation ← then_rest narrow_number user.1
+  option_map (λ object. Check session.0 user.0 operation.0 object) (wide_number operation.1)
 
 -- `R OBJECT`
 unfoldable pub role_operations_of : List ℕ → Option Question
-role_operations_of text =
-    option_and_then (λ role.
-    option_map (λ object. RoleOperations role.0 object) (wide_number role.1)) (then_rest narrow_number text)
+role_operations_of text = do
+  role ← then_rest narrow_number text
+  option_map (λ object. RoleOperations role.0 object) (wide_number role.1)
 
 -- `USER OBJECT`
 unfoldable pub user_operations_of : List ℕ → Option Question
-user_operations_of text =
-    option_and_then (λ user.
-    option_map (λ object. UserOperations user.0 object) (wide_number user.1)) (then_rest wide_number text)
+user_operations_of text = do
+  user ← then_rest wide_number text
+  option_map (λ object. UserOperations user.0 object) (wide_number user.1)
 
 -- the listing of a name and the numbers behind it
 unfoldable pub named_listing : List ℕ → List ℕ → Option Question
@@ -112,30 +115,26 @@ named_listing name text =
     else None)))))))
 
 unfoldable pub listing_of : List ℕ → Option Question
-listing_of text = option_and_then (λ words. named_listing words.0 words.1) (split_word text)
+listing_of text = do
+  words ← split_word text
+  named_listing words.0 words.1
 
 -- `KIND FROM TO OWNER PLACE C`; a SEND is its owner's, and the place one of a stream
 unfoldable pub lie_of : Counts → List ℕ → Option PacketValue
-lie_of s text =
-    option_and_then (λ kind.
-    option_and_then (λ from.
-    option_and_then (λ to.
-    option_and_then (λ owner.
-    option_and_then (λ place.
-    option_and_then (λ command.
-    packet_due from.0 to.0 (record { kind = kind.0; owner = owner.0; place = place.0; command = command }))
-    (command_of place.1))
-    (then_rest wide_number owner.1))
-    (then_rest (node_number s) to.1))
-    (then_rest (node_number s) from.1))
-    (then_rest (node_number s) kind.1))
-    (then_rest kind_of text)
+lie_of s text = do
+  kind ← then_rest kind_of text
+  from ← then_rest (node_number s) kind.1
+  to ← then_rest (node_number s) from.1
+  owner ← then_rest (node_number s) to.1
+  place ← then_rest wide_number owner.1
+  command ← command_of place.1
+  packet_due from.0 to.0 (record { kind = kind.0; owner = owner.0; place = place.0; command = command })
 
 -- `J OWNER`
 unfoldable pub agreement_of : Counts → ℕ → List ℕ → Option Order
-agreement_of s one text =
-    option_and_then (λ other.
-    option_map (λ owner. Agree one other.0 owner) (node_number s other.1)) (then_rest (node_number s) text)
+agreement_of s one text = do
+  other ← then_rest (node_number s) text
+  option_map (λ owner. Agree one other.0 owner) (node_number s other.1)
 
 -- what is done or asked at a node, by the name of the line and what stands behind the node
 unfoldable pub order_at_node : Counts → List ℕ → ℕ → List ℕ → Option Order
@@ -156,8 +155,9 @@ order_at_node s name node text =
 
 -- `I ..`, where I is one of the nodes
 unfoldable pub order_of_node : Counts → List ℕ → List ℕ → Option Order
-order_of_node s name text =
-    option_and_then (λ node. order_at_node s name node.0 node.1) (then_rest (node_number s) text)
+order_of_node s name text = do
+  node ← then_rest (node_number s) text
+  order_at_node s name node.0 node.1
 
 -- `HEX`: two hexadecimal digits for each byte, their letters of either case, or `-` for no bytes
 unfoldable pub bytes_of : List ℕ → Option (List ℕ)
@@ -167,9 +167,9 @@ bytes_of word =
 
 -- `TO HEX`, where TO is one of the nodes
 unfoldable pub bytes_order : Counts → List ℕ → Option Order
-bytes_order s text =
-    option_and_then (λ to. option_map (λ bytes. Do (Bytes to.0 bytes)) (bytes_of to.1))
-    (then_rest (node_number s) text)
+bytes_order s text = do
+  to ← then_rest (node_number s) text
+  option_map (λ bytes. Do (Bytes to.0 bytes)) (bytes_of to.1)
 
 -- the order of a name and the words behind it, where they are no bytes
 unfoldable pub named_order : Counts → List ℕ → List ℕ → Option Order
@@ -178,11 +178,16 @@ named_order s name text =
     else (if bytes_eq name (codes "lie") then option_map (λ p. Do (Lie p)) (lie_of s text)
     else order_of_node s name text)
 
+-- what a line of more than one word asks
+abbrev pub order_of_words : Counts → List ℕ → Option Order
+order_of_words s line = do
+  words ← split_word line
+  if bytes_eq words.0 (codes "bytes") then bytes_order s words.1 else named_order s words.0 words.1
+
 -- what a later line asks
 unfoldable pub order_of_line : Counts → List ℕ → Option Order
 order_of_line s line =
     if bytes_eq line (codes "flush") then Some Flush
     else (if bytes_eq line (codes "settle") then Some Settle
     else (if bytes_eq line (codes "rest") then Some Rest
-    else option_and_then (λ words. if bytes_eq words.0 (codes "bytes") then bytes_order s words.1
-    else named_order s words.0 words.1) (split_word line)))
+    else order_of_words s line))
