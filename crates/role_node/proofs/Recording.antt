@@ -13,7 +13,8 @@ use Rattle.role_sessions.specs.Sessions.{state_of}
 use Rattle.role_sessions.proofs.Exported.{state_counts_the_opened}
 use Rattle.role_node.specs.Configs.{most_events}
 use Rattle.role_node.specs.Histories.{issued, packets, client_events}
-use Rattle.role_node.specs.Answers.{EntryValue, outlook, outlook_with_room, or_counted, is_routed, of_effect_due, reply_to}
+use Rattle.role_node.specs.Answers.{EntryValue, outlook, outlook_with_room, or_counted, is_routed, of_effect_due}
+use Rattle.role_node.specs.Answers.{reply_to}
 use Rattle.role_node.specs.Inside.{IsNode, node_value}
 use Rattle.role_node.specs.Nodes.{NodeValue}
 use Rattle.role_node.specs.Kept.{IsStateAfter, Stays, Follows, IsEntryFor, IsInRange, events}
