@@ -16,10 +16,8 @@ add_due t role owner =
 -- the fault that is due is answered; where none is, only memory can be wanting
 abbrev pub AnswersDue : {X : Type 0} → Option TableFault → Result X TableFault → Type 0
 AnswersDue due (Ok x) = due ≡ None
-AnswersDue due (Err NoSuchNode) = due ≡ Some NoSuchNode
-AnswersDue due (Err Repeated) = due ≡ Some Repeated
-AnswersDue due (Err TooManyRoles) = due ≡ Some TooManyRoles
 AnswersDue due (Err Memory) = due ≡ None
+AnswersDue due (Err fault) = due ≡ Some fault
 
 abbrev pub table_fault_text : TableFault → List ℕ
 table_fault_text NoSuchNode = codes "C1 NoSuchNode"

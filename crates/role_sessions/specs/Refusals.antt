@@ -75,14 +75,8 @@ AnswersExactly due (Err fault) = due ≡ Some fault
 -- the fault that is due is answered; where none is, only memory can be wanting
 abbrev pub AnswersDue : {X : Type 0} → Option SessionFault → Result X SessionFault → Type 0
 AnswersDue due (Ok x) = due ≡ None
-AnswersDue due (Err session.NoSession) = due ≡ Some session.NoSession
-AnswersDue due (Err session.NotYours) = due ≡ Some session.NotYours
-AnswersDue due (Err session.TooManySessions) = due ≡ Some session.TooManySessions
-AnswersDue due (Err session.NoSuchRole) = due ≡ Some session.NoSuchRole
-AnswersDue due (Err session.NotAssigned) = due ≡ Some session.NotAssigned
-AnswersDue due (Err session.AlreadyActive) = due ≡ Some session.AlreadyActive
-AnswersDue due (Err session.TooManyRoles) = due ≡ Some session.TooManyRoles
 AnswersDue due (Err session.Memory) = due ≡ None
+AnswersDue due (Err fault) = due ≡ Some fault
 
 abbrev pub session_fault_text : SessionFault → List ℕ
 session_fault_text session.NoSession = codes "N1 NoSession"
