@@ -1,8 +1,8 @@
 -- Which command a text is, if it is one: its first word names the kind, and behind it stand exactly the
 -- kind's numbers, each within its field. `one_spelling` says that this is the command with this spelling.
-use Rattle.std.specs.Prelude.{ℕ, List, if◌then◌else◌, codes, Option, None, option_and_then, option_map}
+use Rattle.std.specs.Prelude.{ℕ, List, if◌then◌else◌, codes, Option, Some, None, option_map}
 use Rattle.std.specs.Str.{bytes_eq}
-use Rattle.role_commands.specs.Numbers.{split_word}
+use Rattle.role_commands.specs.Numbers.{split_word, ◌>>=◌}
 use Rattle.role_commands.specs.declared.command.Command.{Command}
 use Rattle.role_commands.specs.declared.command.Command.TheVariants.{Assign, Deassign, Grant, Revoke, Clear}
 -- users and objects have 32 bits, roles and operations have 16
@@ -10,27 +10,27 @@ pub use Rattle.role_commands.specs.Numbers.{wide_number, narrow_number}
 
 -- a user and a role
 unfoldable pub user_and_role : List ℕ → Option (ℕ × ℕ)
-user_and_role text =
-    option_and_then (λ words.
-    option_and_then (λ user.
-    option_map (λ role. (user, role))
-    (narrow_number words.1)) (wide_number words.0)) (split_word text)
+user_and_role text = do
+  words ← split_word text
+  user ← wide_number words.0
+  role ← narrow_number words.1
+  Some (user, role)
 
 -- an operation and an object
 unfoldable pub operation_and_object : List ℕ → Option (ℕ × ℕ)
-operation_and_object text =
-    option_and_then (λ words.
-    option_and_then (λ operation.
-    option_map (λ object. (operation, object))
-    (wide_number words.1)) (narrow_number words.0)) (split_word text)
+operation_and_object text = do
+  words ← split_word text
+  operation ← narrow_number words.0
+  object ← wide_number words.1
+  Some (operation, object)
 
 -- a role, and the permission behind it
 unfoldable pub role_and_permission : List ℕ → Option (ℕ × ℕ × ℕ)
-role_and_permission text =
-    option_and_then (λ words.
-    option_and_then (λ role.
-    option_map (λ permission. (role, permission.0, permission.1))
-    (operation_and_object words.1)) (narrow_number words.0)) (split_word text)
+role_and_permission text = do
+  words ← split_word text
+  role ← narrow_number words.0
+  permission ← operation_and_object words.1
+  Some (role, permission.0, permission.1)
 
 -- the command of a name and the numbers behind it
 unfoldable pub named_command : List ℕ → List ℕ → Option Command
@@ -44,4 +44,6 @@ named_command name numbers =
 
 -- the command that the text is
 unfoldable pub command_of : List ℕ → Option Command
-command_of text = option_and_then (λ words. named_command words.0 words.1) (split_word text)
+command_of text = do
+  words ← split_word text
+  named_command words.0 words.1
