@@ -1,19 +1,21 @@
 -- A command has one spelling.
-use Rattle.std.proofs.Common.{◌≡◌, ℕ, ◌<◌, ◌^◌, true, List, ◌∷◌, ◌++◌, length, codes, Option, Some, None, IfSome}
-use Rattle.std.proofs.Common.{option_map, option_and_then, sym, refl, ap, arith, ◌∙◌, append_assoc, subst}
-use Rattle.std.proofs.lemmas.Option.{option_and_then_some, same_Some, none-some}
+use Rattle.std.proofs.Common.{◌≡◌, ℕ, ◌<◌, ◌^◌, true, false, cond, List, ◌∷◌, ◌++◌, length, codes, Option, Some, None}
+use Rattle.std.proofs.Common.{IfSome, Bool, [], option_map, option_and_then, sym, refl, ap, arith, ◌∙◌, append_assoc}
+use Rattle.std.proofs.Common.{subst}
+use Rattle.std.proofs.lemmas.Option.{option_and_then_some, same_Some}
 use Rattle.std.proofs.lemmas.Slice.Eq.{bytes_eq-Decides}
 use Rattle.std.specs.Fmt.{decimal}
-use Rattle.std.specs.List.{position_or_len}
+use Rattle.std.specs.List.{position_or_len, AllByRecursion}
+use Rattle.std.specs.Map.{lookup}
 use Rattle.std.specs.Str.{bytes_eq}
 use Rattle.role_commands.specs.Laws.{CommandsAreRead, CommandsAreSpelled, SpellingsDiffer}
 use Rattle.role_commands.specs.Numbers.{is_space, wide_number, narrow_number}
 use Rattle.role_commands.specs.Reading.{user_and_role, operation_and_object}
-use Rattle.role_commands.specs.Reading.{role_and_permission, named_command, command_of}
+use Rattle.role_commands.specs.Reading.{role_and_permission, kinds, named_command, command_of}
 use Rattle.role_commands.specs.Words.{spelling, IsCommand, one_word, two_words, three_words}
 use Rattle.role_commands.specs.declared.command.Command.{Command}
 use Rattle.role_commands.specs.declared.command.Command.TheVariants.{Assign, Deassign, Grant, Revoke, Clear}
-use Rattle.role_commands.proofs.Choosing.{if_else, mapped}
+use Rattle.role_commands.proofs.Choosing.{mapped}
 use Rattle.role_commands.proofs.NumberLemmas.{wide_read, narrow_read, wide_spelled, narrow_spelled}
 use Rattle.role_commands.proofs.Splitting.{split_word-decimal, split_word-word, split_word-joined}
 pub use Rattle.role_commands.proofs.Splitting.{split_word_is}
@@ -140,61 +142,73 @@ SpellTriples word make =
     → (three_words word role operation object ≡ spelling (make role operation object))
     × IsCommand (make role operation object)
 
-module _ (name numbers : List ℕ) (c : Command) where
-  named_clear : bytes_eq name (codes "clear") ≡ true → option_map Clear (narrow_number numbers) ≡ Some c
-      → Named name numbers c
-  unfolding Named
-  named_clear same e =
-      let (role, read, made) = mapped Clear (narrow_number numbers) c e in
-      let (joined, narrow) = narrow_spelled role numbers read in
-      let is : name ≡ codes "clear" = (bytes_eq-Decides name (codes "clear")).0 same in
-      let text : name ++ (32 ∷ numbers) ≡ spelling (Clear role) =
-      ap (λ m. m ++ (32 ∷ numbers)) is ∙ ap (λ t. codes "clear" ++ (32 ∷ t)) joined
-      ∙ sym (one_word-grouped (codes "clear") role) in
-      (text ∙ ap spelling made, subst IsCommand made narrow)
+-- what is read behind this name is spelled by it and the numbers
+abbrev SpellsKind : List ℕ × (List ℕ → Option Command) → Type 0
+SpellsKind kind = (numbers : List ℕ) (c : Command) → kind.1 numbers ≡ Some c → Named kind.0 numbers c
 
-  named_pair : (word : List ℕ) (make : ℕ → ℕ → Command) → SpellPairs word make → bytes_eq name word ≡ true
-      → option_map (λ n. make n.0 n.1) (user_and_role numbers) ≡ Some c → Named name numbers c
-  unfolding Named
-  named_pair word make spells same e =
-      let (n, read, made) = mapped (λ (m : ℕ × ℕ). make m.0 m.1) (user_and_role numbers) c e in
-      let (joined, wide, narrow) = user_and_role_spelled numbers n read in
-      let spelled = spells n.0 n.1 wide narrow in
-      let is : name ≡ word = (bytes_eq-Decides name word).0 same in
-      let text : name ++ (32 ∷ numbers) ≡ spelling (make n.0 n.1) =
-      ap (λ m. m ++ (32 ∷ numbers)) is ∙ ap (λ t. word ++ (32 ∷ t)) joined ∙ sym (two_words-grouped word n.0 n.1)
-      ∙ spelled.0 in
-      (text ∙ ap spelling made, subst IsCommand made spelled.1)
+clear_spells : SpellsKind (codes "clear", λ numbers. option_map Clear (narrow_number numbers))
+unfolding Named
+clear_spells numbers c e =
+    let (role, read, made) = mapped Clear (narrow_number numbers) c e in
+    let (joined, narrow) = narrow_spelled role numbers read in
+    let text : codes "clear" ++ (32 ∷ numbers) ≡ spelling (Clear role) =
+    ap (λ t. codes "clear" ++ (32 ∷ t)) joined ∙ sym (one_word-grouped (codes "clear") role) in
+    (text ∙ ap spelling made, subst IsCommand made narrow)
 
-  named_triple : (word : List ℕ) (make : ℕ → ℕ → ℕ → Command) → SpellTriples word make → bytes_eq name word ≡ true
-      → option_map (λ n. make n.0 n.1 n.2) (role_and_permission numbers) ≡ Some c → Named name numbers c
-  unfolding Named
-  named_triple word make spells same e =
-      let (n, read, made) = mapped (λ (m : ℕ × ℕ × ℕ). make m.0 m.1 m.2) (role_and_permission numbers) c e in
-      let (joined, role, operation, object) = role_and_permission_spelled numbers n read in
-      let spelled = spells n.0 n.1 n.2 role operation object in
-      let is : name ≡ word = (bytes_eq-Decides name word).0 same in
-      let text : name ++ (32 ∷ numbers) ≡ spelling (make n.0 n.1 n.2) =
-      ap (λ m. m ++ (32 ∷ numbers)) is ∙ ap (λ t. word ++ (32 ∷ t)) joined
-      ∙ sym (three_words-grouped word n.0 n.1 n.2) ∙ spelled.0 in
-      (text ∙ ap spelling made, subst IsCommand made spelled.1)
+pair_spells : (word : List ℕ) (make : ℕ → ℕ → Command) → SpellPairs word make
+    → SpellsKind (word, λ numbers. option_map (λ n. make n.0 n.1) (user_and_role numbers))
+unfolding Named
+pair_spells word make spells numbers c e =
+    let (n, read, made) = mapped (λ (m : ℕ × ℕ). make m.0 m.1) (user_and_role numbers) c e in
+    let (joined, wide, narrow) = user_and_role_spelled numbers n read in
+    let spelled = spells n.0 n.1 wide narrow in
+    let text : word ++ (32 ∷ numbers) ≡ spelling (make n.0 n.1) =
+    ap (λ t. word ++ (32 ∷ t)) joined ∙ sym (two_words-grouped word n.0 n.1) ∙ spelled.0 in
+    (text ∙ ap spelling made, subst IsCommand made spelled.1)
 
-  named_spelled : named_command name numbers ≡ Some c → Named name numbers c
-  unfolding named_command
-  named_spelled e =
-      if_else _ _ _ c e (named_pair (codes "assign") Assign (λ u r i j. (refl, (i, j))))
-      (λ others. if_else _ _ _ c others (named_pair (codes "deassign") Deassign (λ u r i j. (refl, (i, j))))
-      (λ rest. if_else _ _ _ c rest (named_triple (codes "grant") Grant (λ r p b i j k. (refl, (i, j, k))))
-      (λ last. if_else _ _ _ c last (named_triple (codes "revoke") Revoke (λ r p b i j k. (refl, (i, j, k))))
-      (λ clears. if_else _ _ _ c clears named_clear (λ none. absurd (none-some c none))))))
+triple_spells : (word : List ℕ) (make : ℕ → ℕ → ℕ → Command) → SpellTriples word make
+    → SpellsKind (word, λ numbers. option_map (λ n. make n.0 n.1 n.2) (role_and_permission numbers))
+unfolding Named
+triple_spells word make spells numbers c e =
+    let (n, read, made) = mapped (λ (m : ℕ × ℕ × ℕ). make m.0 m.1 m.2) (role_and_permission numbers) c e in
+    let (joined, role, operation, object) = role_and_permission_spelled numbers n read in
+    let spelled = spells n.0 n.1 n.2 role operation object in
+    let text : word ++ (32 ∷ numbers) ≡ spelling (make n.0 n.1 n.2) =
+    ap (λ t. word ++ (32 ∷ t)) joined ∙ sym (three_words-grouped word n.0 n.1 n.2) ∙ spelled.0 in
+    (text ∙ ap spelling made, subst IsCommand made spelled.1)
+
+kinds_spell : AllByRecursion SpellsKind kinds
+kinds_spell =
+    let assign = pair_spells (codes "assign") Assign (λ u r i j. (refl, (i, j))) in
+    let deassign = pair_spells (codes "deassign") Deassign (λ u r i j. (refl, (i, j))) in
+    let grant = triple_spells (codes "grant") Grant (λ r p b i j k. (refl, (i, j, k))) in
+    let revoke = triple_spells (codes "revoke") Revoke (λ r p b i j k. (refl, (i, j, k))) in
+    (assign, (deassign, (grant, (revoke, (clear_spells, tt)))))
+
+-- the same of the kind that is found by its name
+spells_found : (kinds : List (List ℕ × (List ℕ → Option Command))) (name : List ℕ) (read : List ℕ → Option Command)
+    → AllByRecursion SpellsKind kinds → lookup (bytes_eq name) kinds ≡ Some read → SpellsKind (name, read)
+spells_found [] name read spell found = absurd cc
+spells_found ((word, reads) ∷ others) name read (spells, rest) found =
+    at (bytes_eq name word) refl found (spells_found others name read rest)
+  where
+    at : (b : Bool) → bytes_eq name word ≡ b → cond b (Some reads) (lookup (bytes_eq name) others) ≡ Some read
+        → (lookup (bytes_eq name) others ≡ Some read → SpellsKind (name, read)) → SpellsKind (name, read)
+    at true same is later =
+        let e : (word, reads) ≡ (name, read) =
+        (λ i. (sym ((bytes_eq-Decides name word).0 same) i, same_Some reads read is i)) in
+        subst SpellsKind e spells
+    at false other is later = later is
 
 pub command_of_spelled : CommandsAreSpelled
-unfolding command_of Named
+unfolding command_of named_command Named
 command_of_spelled text c e =
     option_and_then_some _ _ _ e
     (λ words cut read.
-    let named = named_spelled words.0 words.1 c read in
-    (split_word-joined text words cut ∙ named.0, named.1))
+    option_and_then_some _ _ _ read
+    (λ reads found is.
+    let named = spells_found kinds words.0 reads kinds_spell found words.1 c is in
+    (split_word-joined text words cut ∙ named.0, named.1)))
 
 pub spelling_injective : SpellingsDiffer
 spelling_injective c d is also same =

@@ -1,6 +1,7 @@
 -- Which command a text is, if it is one: its first word names the kind, and behind it stand exactly the
 -- kind's numbers, each within its field. `one_spelling` says that this is the command with this spelling.
-use Rattle.std.specs.Prelude.{ℕ, List, if◌then◌else◌, codes, Option, Some, None, option_map}
+use Rattle.std.specs.Prelude.{ℕ, List, [], ◌∷◌, codes, Option, Some, option_map}
+use Rattle.std.specs.Map.{lookup}
 use Rattle.std.specs.Str.{bytes_eq}
 use Rattle.role_commands.specs.Numbers.{split_word, ◌>>=◌}
 use Rattle.role_commands.specs.declared.command.Command.{Command}
@@ -32,15 +33,21 @@ role_and_permission text = do
   permission ← operation_and_object words.1
   Some (role, permission.0, permission.1)
 
+-- the name of each kind of command, and how the numbers behind it are read
+abbrev pub kinds : List (List ℕ × (List ℕ → Option Command))
+kinds =
+    (codes "assign", λ numbers. option_map (λ n. Assign n.0 n.1) (user_and_role numbers))
+    ∷ (codes "deassign", λ numbers. option_map (λ n. Deassign n.0 n.1) (user_and_role numbers))
+    ∷ (codes "grant", λ numbers. option_map (λ n. Grant n.0 n.1 n.2) (role_and_permission numbers))
+    ∷ (codes "revoke", λ numbers. option_map (λ n. Revoke n.0 n.1 n.2) (role_and_permission numbers))
+    ∷ (codes "clear", λ numbers. option_map Clear (narrow_number numbers))
+    ∷ []
+
 -- the command of a name and the numbers behind it
 unfoldable pub named_command : List ℕ → List ℕ → Option Command
-named_command name numbers =
-    if bytes_eq name (codes "assign") then option_map (λ n. Assign n.0 n.1) (user_and_role numbers)
-    else (if bytes_eq name (codes "deassign") then option_map (λ n. Deassign n.0 n.1) (user_and_role numbers)
-    else (if bytes_eq name (codes "grant") then option_map (λ n. Grant n.0 n.1 n.2) (role_and_permission numbers)
-    else (if bytes_eq name (codes "revoke") then option_map (λ n. Revoke n.0 n.1 n.2) (role_and_permission numbers)
-    else (if bytes_eq name (codes "clear") then option_map Clear (narrow_number numbers)
-    else None))))
+named_command name numbers = do
+  read ← lookup (bytes_eq name) kinds
+  read numbers
 
 -- the command that the text is
 unfoldable pub command_of : List ℕ → Option Command
