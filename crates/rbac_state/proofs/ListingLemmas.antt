@@ -128,7 +128,7 @@ module _ (value : PolicyValue) (grants : Relation (ℕ × ℕ) ℕ)
   -- of some role of these
   pub permissions_members : (roles : List ℕ) (p : ℕ × ℕ) →
       Contains (flat_map (λ role. map (λ g. g.1) (of_role role)) roles) p
-      ↔ ((role : ℕ) × Contains roles role × RoleMay value role p.0 p.1)
+      ↔ ((role : ℕ) × Contains roles role × RoleMay value p.0 p.1 role)
   permissions_members roles p =
       iff_trans (contains_flat_map (λ role. map (λ g. g.1) (of_role role)) roles p) (
         λ (role, within, h). (role, within, (role_may role p).0 h),
@@ -170,7 +170,7 @@ module _ (value : PolicyValue) (grants : Relation (ℕ × ℕ) ℕ)
 
   pub operations_members : (object : ℕ) (roles : List ℕ) (operation : ℕ) →
       Contains (flat_map (λ role. map (λ g. g.1.0) (filter (λ g. g.1.1 == object) (of_role role))) roles) operation
-      ↔ ((role : ℕ) × Contains roles role × RoleMay value role operation object)
+      ↔ ((role : ℕ) × Contains roles role × RoleMay value operation object role)
   operations_members object roles operation =
       iff_trans
       (contains_flat_map (λ role. map (λ g. g.1.0) (filter (λ g. g.1.1 == object) (of_role role))) roles operation) (

@@ -49,11 +49,11 @@ abbrev pub HasRole : PolicyValue → ℕ → ℕ → Type 0
 HasRole p user role = IsTrue (assigned_in p user role)
 
 abbrev pub RoleMay : PolicyValue → ℕ → ℕ → ℕ → Type 0
-RoleMay p role operation object = IsTrue (granted_in p operation object role)
+RoleMay p operation object role = IsTrue (granted_in p operation object role)
 
 -- some role of the user may do the operation on the object
 abbrev pub UserMay : PolicyValue → ℕ → ℕ → ℕ → Type 0
-UserMay p user operation object = (role : ℕ) × HasRole p user role × RoleMay p role operation object
+UserMay p user operation object = (role : ℕ) × HasRole p user role × RoleMay p operation object role
 
 -- so many commands can be applied, at the least, after room was made
 abbrev pub least_room : ℕ

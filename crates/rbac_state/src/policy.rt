@@ -191,7 +191,7 @@ impl Policy {
     /// Only for want of memory.
     pub fn role_permissions(&self, role: u16) -> Result<Vec<Permission>, AllocError>
         ensures { IfOk result (λ permissions.
-            IsListing permission_cmp (λ p. RoleMay self.now role p.0 p.1) permissions.items) }
+            IsListing permission_cmp (λ p. RoleMay self.now p.0 p.1 role) permissions.items) }
     {
         select::seconds(self.alloc(), self.granted.with_second(), role)
     }
@@ -217,7 +217,7 @@ impl Policy {
     pub fn permissions_of(&self, roles: &[u16]) -> Result<Vec<Permission>, AllocError>
         ensures { IfOk result (λ permissions.
             IsListing permission_cmp
-            (λ p. (role : ℕ) × Contains roles.now role × RoleMay self.now role p.0 p.1) permissions.items) }
+            (λ p. (role : ℕ) × Contains roles.now role × RoleMay self.now p.0 p.1 role) permissions.items) }
     {
         let permissions = select::permissions(self.alloc(), &self.granted, roles)?;
         Ok(ascending(permissions))
@@ -230,7 +230,7 @@ impl Policy {
     /// Only for want of memory.
     pub fn role_operations(&self, role: u16, object: u32) -> Result<Vec<u16>, AllocError>
         ensures { IfOk result (λ operations.
-            IsListing nat_cmp (λ operation. RoleMay self.now role operation object) operations.items) }
+            IsListing nat_cmp (λ operation. RoleMay self.now operation object role) operations.items) }
     {
         self.operations_of(&[role], object)
     }
@@ -251,7 +251,7 @@ impl Policy {
     /// The operations that some role of these may do on the object, in ascending order.
     fn operations_of(&self, roles: &[u16], object: u32) -> Result<Vec<u16>, AllocError>
         ensures { IfOk result (λ operations. IsListing nat_cmp
-            (λ operation. (role : ℕ) × Contains roles.now role × RoleMay self.now role operation object)
+            (λ operation. (role : ℕ) × Contains roles.now role × RoleMay self.now operation object role)
             operations.items) }
     {
         let operations = select::operations(self.alloc(), &self.granted, roles, object)?;

@@ -13,7 +13,7 @@ returns c =
     let object = c.args.object in
     IfOk-weaker c.operations_of.result
     (λ xs. IsListing nat_cmp
-    (λ operation. (role : ℕ) × Contains (c.args.role ∷ []) role × RoleMay value role operation object) xs.items)
-    (λ xs. IsListing nat_cmp (λ operation. RoleMay value c.args.role operation object) xs.items)
-    (λ xs listing. listing_of listing (λ operation. lone c.args.role (λ role. RoleMay value role operation object)))
+    (λ operation. (role : ℕ) × Contains (c.args.role ∷ []) role × RoleMay value operation object role) xs.items)
+    (λ xs. IsListing nat_cmp (λ operation. RoleMay value operation object c.args.role) xs.items)
+    (λ xs listing. listing_of listing (λ operation. lone c.args.role (λ role. RoleMay value operation object role)))
     c.operations_of.ensures

@@ -11,7 +11,7 @@ pub returns : goal.returns
 returns c =
     IfOk-weaker c.seconds.result (λ xs. xs.items ≡ map (λ (p : ℕ × (ℕ × ℕ)). p.1)
     (filter (λ p. eq_by_cmp nat_cmp c.args.role p.0) (items_in c.with_second.result.now)))
-    (λ xs. IsListing permission_cmp (λ p. RoleMay c.args.self.now c.args.role p.0 p.1) xs.items)
+    (λ xs. IsListing permission_cmp (λ p. RoleMay c.args.self.now p.0 p.1 c.args.role) xs.items)
     (λ xs is. rw (is, c.with_second.ensures)
     (permissions_listing c.args.self.now c.self.inside.granted (ap (λ v. v.grants) c.self.view_is)
     c.self.invariant.permissions c.args.role)) c.seconds.ensures

@@ -13,10 +13,10 @@ returns c =
     let roles = c.in_ok-roles.roles.items in
     let object = c.args.object in
     IfOk-weaker c.operations_of.result
-    (λ xs. IsListing nat_cmp (λ operation. (role : ℕ) × Contains roles role × RoleMay value role operation object)
+    (λ xs. IsListing nat_cmp (λ operation. (role : ℕ) × Contains roles role × RoleMay value operation object role)
     xs.items)
     (λ xs. IsListing nat_cmp (λ operation. UserMay value c.args.user operation object) xs.items)
     (λ xs listing. listing_of listing
     (λ operation.
-    of_users_roles value c.args.user roles (λ role. RoleMay value role operation object) c.in_ok-roles.ensures))
+    of_users_roles value c.args.user roles (λ role. RoleMay value operation object role) c.in_ok-roles.ensures))
     (rw (c.deref.ensures.value) at c.operations_of.ensures)
