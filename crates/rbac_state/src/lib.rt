@@ -7,14 +7,11 @@ pub mod laws;
 mod listing;
 mod policy;
 mod relation;
-mod room;
 mod select;
 mod sorted;
 
 pub use laws::law_one_more;
-pub use listing::ascending;
 pub use policy::{Permission, Policy};
-pub use room::push_within_capacity;
 
 #[cfg(test)]
 mod tests;

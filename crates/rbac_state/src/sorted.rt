@@ -1,11 +1,10 @@
 //! Lists in ascending order without repeats: a look-up is a binary search.
 
-ghost use Rattle.std.specs.Prelude.{◌≡◌, ◌<◌, ◌≤◌, ◌+◌, ◌||◌, ◌&&◌, not, filter, vec_len, vec_capacity};
+ghost use Rattle.std.specs.Prelude.{◌≡◌, ◌<◌, ◌≤◌, ◌+◌, ◌||◌, ◌&&◌, not, filter, insert, vec_len, vec_capacity};
 ghost use Rattle.std.specs.List.Sorted.{IsStrictlySortedBy};
 ghost use Rattle.std.specs.Ordering.{eq_by_cmp};
 ghost use Rattle.rbac_state.specs.Relations.{pair_cmp, is_among};
 
-use crate::room::insert_within_capacity;
 use std::cmp::Ord;
 
 /// Whether the item is in the list.
@@ -30,6 +29,17 @@ pub fn put<T: Ord + Drop>(items: &mut Vec<T>, item: T)
     if let Err(place) = items.binary_search(&item) {
         insert_within_capacity(items, place, item);
     }
+}
+
+/// Puts the item at this place. There must be room for it.
+fn insert_within_capacity<T: Drop>(items: &mut Vec<T>, place: usize, item: T)
+    requires place { place ≤ vec_len items.old }
+    requires room { vec_len items.old < vec_capacity items.old }
+    ensures items { items.new.items ≡ insert items.old.items place item }
+    ensures len { vec_len items.new ≡ vec_len items.old + 1 }
+    ensures capacity { vec_capacity items.old ≤ vec_capacity items.new }
+{
+    let _within = items.insert(place, item);
 }
 
 /// Takes the item away, if it is there.

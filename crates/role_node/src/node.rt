@@ -17,7 +17,6 @@ use crate::state::State;
 use bracha_instance::Effect;
 use link_frames::Place;
 use quorum_sizes::NodeName;
-use rbac_state::push_within_capacity;
 use role_commands::Command;
 use role_sessions::Verdict;
 use std::alloc::{AllocError, Global};
@@ -131,7 +130,7 @@ impl Node {
             Err(NodeFault::Memory) => return Err(AllocError),
             Err(_) => unreachable!(),
         };
-        push_within_capacity(&mut self.entries, entry);
+        self.entries.push_reserved(entry);
         Ok(entry)
     }
 

@@ -24,7 +24,7 @@ use bracha_instance::Effect;
 use link_frames::{Kind, Message, Packet, Place};
 use owner_streams::{PLACES, Streams, WINDOW};
 use quorum_sizes::NodeName;
-use rbac_state::{Policy, push_within_capacity};
+use rbac_state::Policy;
 use role_commands::{Command, Items, RoleTable};
 use role_sessions::{ClientEvent, SessionFault, Sessions, Verdict};
 use std::alloc::{AllocError, Global};
@@ -148,7 +148,7 @@ impl State {
     {
         self.issued.try_reserve(1)?;
         let place = self.issued.len() as Place;
-        push_within_capacity(&mut self.issued, command);
+        self.issued.push_reserved(command);
         Ok(Entry::issued(Message {
             kind: Kind::Send,
             owner: me,

@@ -35,11 +35,11 @@ returns-in-Err-Memory-clause-legal c =
 pub invariant_of-self-2 : goal.invariant_of-self-2
 invariant_of-self-2 c =
     let counts = counts_inside c.self.inside c.args.self.now c.args.event.now c.self.view_is c.requires in
-    let pushed = c.push_within_capacity.ensures.items
+    let pushed = c.push_reserved.ensures.items
     ∙ (λ i. c.try_reserve.ensures.items i ++ c.in-Ok.entry ∷ []) in
     inside_grows c.args.event.now c.self.invariant refl refl pushed
     c.in-Ok.ensures.ok counts c.in-Ok.ensures.entry
 
 pub returns-clause-legal : goal.returns-clause-legal
 returns-clause-legal c =
-    legal c.self.inside.config c.self.inside.me c.push_within_capacity.new.items.items (invariant_of-self-2 c).entries
+    legal c.self.inside.config c.self.inside.me c.push_reserved.new.self.items (invariant_of-self-2 c).entries

@@ -4,6 +4,6 @@ use Rattle.role_node.proofs.state.State.issue.Goals as goal
 
 pub returns-clause-ok : goal.returns-clause-ok
 returns-clause-ok c roles history h =
-    let pushed = c.push_within_capacity.ensures.items
+    let pushed = c.push_reserved.ensures.items
     ∙ ap (λ items. items ++ c.args.command ∷ []) c.try_reserve.ensures.items in
     after_issue roles history c.args.command h pushed refl refl refl
