@@ -1,3 +1,5 @@
+//! The name of a node.
+
 ghost use Rattle.std.specs.Prelude.{◌≡◌, ◌<◌};
 ghost use Rattle.quorum_sizes.specs.Sizes.{most_nodes};
 

@@ -1,3 +1,5 @@
+//! Sets of nodes, a bit for each node.
+
 ghost use Rattle.std.specs.Prelude.{◌≡◌, ◌<◌, ◌≤◌, ◌==◌, not};
 ghost use Rattle.std.specs.FinSet as sets;
 ghost use Rattle.quorum_sizes.specs.Sizes.{most_nodes, echo_quorum_of};

@@ -1,3 +1,5 @@
+//! The sizes of a cluster and their quorums.
+
 ghost use Rattle.std.specs.Prelude.{◌≡◌, ◌<◌, ◌↔◌, IsTrue};
 ghost use Rattle.quorum_sizes.specs.Sizes.{AreSizes, echo_quorum_of, amplify_of, deliver_of, name_due};
 ghost use Rattle.quorum_sizes.specs.Refusals.{sizes_due};

@@ -1,3 +1,5 @@
+//! The quorums, sizes that are refused, and sets of nodes.
+
 use super::*;
 use std::test::Fail;
 

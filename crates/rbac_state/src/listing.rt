@@ -1,3 +1,5 @@
+//! Lists of a set: ascending, each member once.
+
 ghost use Rattle.std.specs.Prelude.{◌≡◌, Contains};
 ghost use Rattle.std.specs.declared.cmp.Ordering.TheVariants.{Equal};
 ghost use Rattle.rbac_state.specs.Listings.{IsListing};

@@ -1,3 +1,5 @@
+//! A relation that is looked up from either side.
+
 ghost use Rattle.std.specs.Prelude.{◌≡◌, ◌<◌, ◌≤◌, ◌+◌, ◌||◌, ◌&&◌, not, [], filter, OnOk, OnErr};
 ghost use Rattle.std.specs.Ordering.{eq_by_cmp};
 ghost use Rattle.rbac_state.specs.Blocks.{items_in};

@@ -1,3 +1,5 @@
+//! Commands of owners, and what a policy lists after them.
+
 use super::*;
 use quorum_sizes::Sizes;
 use role_commands::{Command, RoleTable};

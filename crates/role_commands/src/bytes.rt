@@ -1,3 +1,5 @@
+//! A command as nine bytes.
+
 ghost use Rattle.std.specs.Prelude.{◌≡◌, IfSome};
 ghost use Rattle.role_commands.specs.Bytes.{fields_bytes, bytes_of, command_in};
 ghost use Rattle.role_commands.specs.Words.{IsCommand};

@@ -1,3 +1,5 @@
+//! What an owner says of a role.
+
 ghost use Rattle.std.specs.Prelude.{◌≡◌};
 ghost use Rattle.role_commands.specs.Rules.{role_of};
 

@@ -1,3 +1,5 @@
+//! Lists that stay as they are.
+
 ghost use Rattle.std.specs.Prelude.{◌≡◌};
 
 use std::marker::Model;

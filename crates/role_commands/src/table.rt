@@ -1,3 +1,5 @@
+//! Which node owns which role.
+
 ghost use Rattle.std.specs.Prelude.{◌≡◌, ◌<◌, IfSome, IfOk, OnOk, OnErr};
 ghost use Rattle.std.specs.FinMap as map;
 ghost use Rattle.role_commands.specs.Tables.{IsTable, owns, no_roles, with_role};

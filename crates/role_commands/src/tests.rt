@@ -1,3 +1,5 @@
+//! Commands in words and in bytes, numbers of words, and tables of roles.
+
 use super::*;
 use quorum_sizes::Sizes;
 use std::test::Fail;

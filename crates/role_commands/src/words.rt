@@ -1,3 +1,5 @@
+//! A command as a line of words.
+
 ghost use Rattle.std.specs.Prelude.{◌≡◌, IfOk, IfSome, Some, string_bytes};
 ghost use Rattle.role_commands.specs.Words as words;
 ghost use Rattle.role_commands.specs.Words.{spelling, IsCommand};

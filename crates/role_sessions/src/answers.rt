@@ -1,3 +1,5 @@
+//! The answers to checks that a session remembers.
+
 ghost use Rattle.std.specs.Prelude.{◌≡◌, ◌<◌, ℕ, Contains, All, IfSome, slice_set};
 
 use crate::verdict::Verdict;

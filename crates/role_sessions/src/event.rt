@@ -1,3 +1,5 @@
+//! What clients do.
+
 /// What a client did.
 #[derive(Clone, Copy, Debug, PartialEq, Eq, Hash)]
 pub enum ClientEvent {

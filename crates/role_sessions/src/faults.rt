@@ -1,3 +1,5 @@
+//! Why a call of a client is refused.
+
 use std::error::Error;
 use std::fmt;
 

@@ -1,3 +1,5 @@
+//! A session beside the answers that it remembers.
+
 ghost use Rattle.std.specs.Prelude.{◌≡◌, Some, OnOk, OnErr};
 ghost use Rattle.role_sessions.specs.Decisions.{relations_of, verdict};
 ghost use Rattle.role_sessions.specs.Changes.{with_role, without_role};

@@ -1,3 +1,5 @@
+//! A session: its user and its active roles.
+
 ghost use Rattle.std.specs.Prelude.{◌≡◌, ◌++◌, [], ◌∷◌, ◌==◌, ◌&&◌, not, find, Some, OnOk, OnErr, IfOk};
 ghost use Rattle.std.specs.List.{list_any};
 ghost use Rattle.rbac_state.specs.Policies.{permission_cmp};

@@ -1,3 +1,5 @@
+//! The sessions of a node: opened, changed, closed, checked and listed.
+
 ghost use Rattle.std.specs.Prelude.{◌≡◌, ◌+◌, ◌<◌, ◌++◌, [], ◌∷◌, IfOk, IsSomeAnd, OnOk, OnErr};
 ghost use Rattle.std.specs.FinMap as map;
 ghost use Rattle.rbac_state.specs.Policies.{permission_cmp};

@@ -1,3 +1,5 @@
+//! Sessions from their opening on, denials in order, and the most of everything.
+
 use super::*;
 use quorum_sizes::{NodeName, Sizes};
 use rbac_state::Policy;

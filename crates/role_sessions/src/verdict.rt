@@ -1,3 +1,5 @@
+//! The decision on an access, and the rules that deny one.
+
 ghost use Rattle.std.specs.Prelude.{◌≡◌};
 ghost use Rattle.role_sessions.specs.Decisions.{rule_code};
 
