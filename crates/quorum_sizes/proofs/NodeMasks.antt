@@ -13,7 +13,7 @@ use Rattle.std.specs.Cmp.{nat_cmp_total}
 use Rattle.std.specs.FinSet as sets
 use Rattle.quorum_sizes.specs.Sizes.{Counts, most_nodes}
 use Rattle.quorum_sizes.specs.NodeSets.{nodes_among}
-use Rattle.quorum_sizes.specs.NodeWords.{has_bit, names_below, names_in, contains-names_below, bits_more}
+use Rattle.quorum_sizes.specs.inside.NodeWords.{has_bit, names_below, names_in, contains-names_below, bits_more}
 use Rattle.quorum_sizes.proofs.NodeCounts.{len_below, same_names, contains-insert, contains-nodes_among}
 
 contains-names_in : (word name : ℕ) → sets.contains (names_in word) name ≡ (nat_lt name most_nodes && has_bit word name)

@@ -1,5 +1,5 @@
 pub mod Sizes
 pub mod Refusals
 pub mod NodeSets
-pub mod NodeWords
+pub mod inside
 pub mod Laws

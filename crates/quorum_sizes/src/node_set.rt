@@ -4,7 +4,7 @@ ghost use Rattle.std.specs.Prelude.{◌≡◌, ◌<◌, ◌≤◌, ◌==◌, not
 ghost use Rattle.std.specs.FinSet as sets;
 ghost use Rattle.quorum_sizes.specs.Sizes.{most_nodes, echo_quorum_of};
 ghost use Rattle.quorum_sizes.specs.NodeSets.{AreNodes, nodes_among};
-ghost use Rattle.quorum_sizes.specs.NodeWords.{names_in};
+ghost use Rattle.quorum_sizes.specs.inside.NodeWords.{names_in};
 
 use crate::name::NodeName;
 use crate::sizes::{MOST_NODES, Sizes};
@@ -25,7 +25,7 @@ impl Model for NodeSet {
     ghost use Rattle.std.specs.FinSet as sets;
     ghost use Rattle.quorum_sizes.specs.Sizes.{most_nodes};
     ghost use Rattle.quorum_sizes.specs.NodeSets.{Nodes};
-    ghost use Rattle.quorum_sizes.specs.NodeWords.{names_in, word_of, word_of-names_in};
+    ghost use Rattle.quorum_sizes.specs.inside.NodeWords.{names_in, word_of, word_of-names_in};
 
     ghost Value = { Nodes };
 

@@ -11,8 +11,8 @@ use Rattle.std.specs.Cmp.{IsTotalOrder}
 use Rattle.std.proofs.lemmas.List.{take-append-drop, drop_more, drop-drop, get_or-drop, length-drop, length-set}
 use Rattle.std.proofs.lemmas.List.{take-set, drop-set-lt, get_or-set_same, get_or_default}
 use Rattle.std.proofs.lemmas.List.Concat.{flat_map-append}
-use Rattle.rbac_state.specs.Blocks.{begins}
-use Rattle.rbac_state.specs.Relations.{pair_cmp}
+use Rattle.rbac_state.specs.inside.Blocks.{begins}
+use Rattle.rbac_state.specs.inside.Relations.{pair_cmp}
 use Rattle.rbac_state.proofs.EachLemmas.{each_first, each_second, each_at, each_drop, each_map}
 use Rattle.rbac_state.proofs.EachLemmas.{Below, ascends_first, ascends_second, below_from, after_head}
 

@@ -11,7 +11,7 @@ use Rattle.std.proofs.lemmas.Cmp.{eq_by_cmp_equiv}
 use Rattle.std.proofs.lemmas.List.Elements.{All-from_recursion}
 use Rattle.std.proofs.lemmas.List.Folds.{list_any-append, list_any_none}
 use Rattle.std.proofs.lemmas.Map.Steps.{list_any_congr}
-use Rattle.rbac_state.specs.Relations.{is_among}
+use Rattle.rbac_state.specs.inside.Relations.{is_among}
 
 module _ {X : Type 0} (P : X → Type 0) where
   pub each_append : (xs ys : List X) → AllByRecursion P xs → AllByRecursion P ys → AllByRecursion P (xs ++ ys)

@@ -6,7 +6,7 @@ use Rattle.std.specs.Prelude.{vec_len, vec_capacity}
 use Rattle.std.specs.declared.vec.Vec.{Vec}
 use Rattle.std.specs.List.{AllByRecursion, flat_map}
 use Rattle.std.proofs.lemmas.List.Elements.{filter-append}
-use Rattle.rbac_state.specs.Blocks.{AreBlocks, items_in, has_none, without_empty, tidied}
+use Rattle.rbac_state.specs.inside.Blocks.{AreBlocks, items_in, has_none, without_empty, tidied}
 use Rattle.rbac_state.proofs.EachLemmas.{each_append}
 use Rattle.rbac_state.proofs.BlockLemmas.{around, around_set}
 use Rattle.rbac_state.proofs.PlaceLemmas.{are_blocks_taken, same_tidied}

@@ -12,12 +12,12 @@ use Rattle.std.proofs.lemmas.List.{take_more, flat_map_more}
 use Rattle.std.proofs.lemmas.List.Elements.{Contains-append_left, Contains-append_right, Contains-append_cases}
 use Rattle.std.proofs.lemmas.Map.Lookups.{exact_unsigned}
 use Rattle.std.proofs.lemmas.Map.Views.{exact_unsigned_eq}
-use Rattle.rbac_state.specs.Blocks.{items_in}
+use Rattle.rbac_state.specs.inside.Blocks.{items_in}
 use Rattle.rbac_state.specs.declared.relation.Relation.{Relation}
 use Rattle.rbac_state.specs.Listings.{IsListing}
 use Rattle.rbac_state.specs.Policies.{PolicyValue, assignment_cmp, permission_cmp}
 use Rattle.rbac_state.specs.Policies.{grant_cmp, assigned_in, granted_in, RoleMay}
-use Rattle.rbac_state.specs.Relations.{pair_cmp, is_among, IsKeptBothWays}
+use Rattle.rbac_state.specs.inside.Relations.{pair_cmp, is_among, IsKeptBothWays}
 use Rattle.rbac_state.proofs.Members.{contains_head, contains_more, contains_cases}
 use Rattle.rbac_state.proofs.Members.{contains_none, picked_from, picked_into}
 use Rattle.rbac_state.proofs.PairLemmas.{assignments_total, grants_total, permissions_total, permissions_exact}

@@ -12,8 +12,8 @@ use Rattle.std.specs.Ordering.{eq_by_cmp}
 use Rattle.std.specs.List.{AllByRecursion, flat_map, remove}
 use Rattle.std.specs.List.Sorted.{IsStrictlySortedBy}
 use Rattle.std.specs.Cmp.{IsTotalOrder}
-use Rattle.rbac_state.specs.Blocks.{IsRoomy, AreBlocks, items_in, block_size, has_none, without_empty, tidied}
-use Rattle.rbac_state.specs.Relations.{is_among}
+use Rattle.rbac_state.specs.inside.Blocks.{IsRoomy, AreBlocks, items_in, block_size, has_none, without_empty, tidied}
+use Rattle.rbac_state.specs.inside.Relations.{is_among}
 use Rattle.rbac_state.proofs.EachLemmas.{among_part, members_with_part, members_without_part, ascends_with_part}
 use Rattle.rbac_state.proofs.EachLemmas.{or_either, and_second, each_at, each_map, ascends_first, ascends_second}
 use Rattle.rbac_state.proofs.BlockLemmas.{around, around_set}

@@ -12,8 +12,8 @@ use Rattle.std.proofs.lemmas.Cmp.{eq_by_cmp_equiv, then_total, on_total}
 use Rattle.std.proofs.lemmas.List.Kept.{IsStrictlySortedBy-filter}
 use Rattle.std.proofs.lemmas.Map.Lookups.{CmpEqualImpliesEq, exact_pairs}
 use Rattle.std.proofs.lemmas.Map.Views.{any-filter_same, Contains-from_any, list_any-from_Contains, tells_apart}
-use Rattle.rbac_state.specs.Blocks.{AreBlocks, items_in}
-use Rattle.rbac_state.specs.Relations.{pair_cmp, is_among, relates, IsKeptBothWays}
+use Rattle.rbac_state.specs.inside.Blocks.{AreBlocks, items_in}
+use Rattle.rbac_state.specs.inside.Relations.{pair_cmp, is_among, relates, IsKeptBothWays}
 use Rattle.rbac_state.specs.declared.relation.Relation.{Relation}
 use Rattle.rbac_state.proofs.Members.{picked_from, picked_into}
 

@@ -21,7 +21,7 @@ use Rattle.std.proofs.lemmas.List.Sorted.{IsPermutation-insert, IsPermutation-re
 use Rattle.std.proofs.lemmas.Map.Keys.{Less-from_sorted, sorted_from_all_adjacent}
 use Rattle.std.proofs.lemmas.Map.Keys.{IsDistinct-from_sorted, IsDistinct-IsPermutation, IsDistinct-head}
 use Rattle.std.proofs.lemmas.Map.Steps.{list_any_congr}
-use Rattle.rbac_state.specs.Relations.{is_among}
+use Rattle.rbac_state.specs.inside.Relations.{is_among}
 
 or_known : (a b : Bool) → (a ≡ true → b ≡ true) → b ≡ (a || b)
 or_known true b h = h refl

@@ -8,7 +8,7 @@ use Rattle.std.specs.List.{AllByRecursion, insert}
 use Rattle.std.proofs.lemmas.List.{drop_more, get_or_default, length-drop, take-append-drop}
 use Rattle.std.proofs.lemmas.List.Edits.{get_or-insert_below}
 use Rattle.std.proofs.lemmas.List.Concat.{flat_map-append}
-use Rattle.rbac_state.specs.Blocks.{IsRoomy, AreBlocks, IsSplit, items_in, block_size}
+use Rattle.rbac_state.specs.inside.Blocks.{IsRoomy, AreBlocks, IsSplit, items_in, block_size}
 use Rattle.rbac_state.proofs.EachLemmas.{each_append, each_at, each_take, each_drop, each_map}
 use Rattle.rbac_state.proofs.BlockLemmas.{around}
 use Rattle.rbac_state.proofs.PlaceLemmas.{IsFilled}

@@ -1,7 +1,6 @@
 pub mod Says
 pub mod Assignments
-pub mod Blocks
-pub mod Relations
+pub mod inside
 pub mod Policies
 pub mod Listings
 pub mod Laws

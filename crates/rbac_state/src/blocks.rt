@@ -7,8 +7,8 @@ ghost use Rattle.std.specs.List.{AllByRecursion};
 ghost use Rattle.std.specs.List.Sorted.{IsStrictlySortedBy};
 ghost use Rattle.std.specs.Ordering.{eq_by_cmp, is_le};
 ghost use Rattle.std.specs.declared.cmp.Ordering.TheVariants.{Less};
-ghost use Rattle.rbac_state.specs.Blocks.{AreBlocks, IsSplit, block_size, items_in, begins, tidied};
-ghost use Rattle.rbac_state.specs.Relations.{is_among};
+ghost use Rattle.rbac_state.specs.inside.Blocks.{AreBlocks, IsSplit, block_size, items_in, begins, tidied};
+ghost use Rattle.rbac_state.specs.inside.Relations.{is_among};
 
 use crate::sorted;
 use std::alloc::{AllocError, Global};

@@ -40,8 +40,8 @@ impl Model for Policy {
 
     ghost coded = { policy_code };
 
-    ghost use Rattle.rbac_state.specs.Blocks.{items_in};
-    ghost use Rattle.rbac_state.specs.Relations.{AreKept, room_of};
+    ghost use Rattle.rbac_state.specs.inside.Blocks.{items_in};
+    ghost use Rattle.rbac_state.specs.inside.Relations.{AreKept, room_of};
 
     ghost view = { λ a. record {
       table = a.roles;

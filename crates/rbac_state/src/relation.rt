@@ -2,8 +2,8 @@
 
 ghost use Rattle.std.specs.Prelude.{◌≡◌, ◌<◌, ◌≤◌, ◌+◌, ◌||◌, ◌&&◌, not, [], filter, OnOk, OnErr};
 ghost use Rattle.std.specs.Ordering.{eq_by_cmp};
-ghost use Rattle.rbac_state.specs.Blocks.{items_in};
-ghost use Rattle.rbac_state.specs.Relations.{IsKeptBothWays, SamePairs, relates, room_of};
+ghost use Rattle.rbac_state.specs.inside.Blocks.{items_in};
+ghost use Rattle.rbac_state.specs.inside.Relations.{IsKeptBothWays, SamePairs, relates, room_of};
 
 use crate::blocks;
 use std::alloc::{AllocError, Global};

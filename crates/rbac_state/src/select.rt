@@ -5,8 +5,8 @@ ghost use Rattle.std.specs.Ordering.{eq_by_cmp, nat_cmp};
 ghost use Rattle.std.specs.List.{flat_map};
 ghost use Rattle.std.specs.List.Sorted.{IsStrictlySortedBy};
 ghost use Rattle.rbac_state.specs.Policies.{permission_cmp};
-ghost use Rattle.rbac_state.specs.Blocks.{items_in};
-ghost use Rattle.rbac_state.specs.Relations.{IsKeptBothWays, pair_cmp, relates};
+ghost use Rattle.rbac_state.specs.inside.Blocks.{items_in};
+ghost use Rattle.rbac_state.specs.inside.Relations.{IsKeptBothWays, pair_cmp, relates};
 
 use crate::policy::Permission;
 use crate::relation::Relation;

@@ -3,7 +3,7 @@
 ghost use Rattle.std.specs.Prelude.{◌≡◌, ◌<◌, ◌≤◌, ◌+◌, ◌||◌, ◌&&◌, not, filter, insert, vec_len, vec_capacity};
 ghost use Rattle.std.specs.List.Sorted.{IsStrictlySortedBy};
 ghost use Rattle.std.specs.Ordering.{eq_by_cmp};
-ghost use Rattle.rbac_state.specs.Relations.{pair_cmp, is_among};
+ghost use Rattle.rbac_state.specs.inside.Relations.{pair_cmp, is_among};
 
 use std::cmp::Ord;
 

@@ -86,7 +86,8 @@ pair_of (Some a) None n e = cc
 pair_of (Some a) (Some b) n e = let is = same_Some (a, b) n e in (ap (λ m. Some m.0) is, ap (λ m. Some m.1) is)
 
 triple_of : (x : Option ℕ) (y : Option (ℕ × ℕ)) (n : ℕ × ℕ × ℕ)
-    → option_and_then (λ a. option_and_then (λ b. Some (a, b.0, b.1)) y) x ≡ Some n → (x ≡ Some n.0) × (y ≡ Some (n.1, n.2))
+    → option_and_then (λ a. option_and_then (λ b. Some (a, b.0, b.1)) y) x ≡ Some n
+    → (x ≡ Some n.0) × (y ≡ Some (n.1, n.2))
 triple_of None y n e = cc
 triple_of (Some a) None n e = cc
 triple_of (Some a) (Some b) n e = let is =

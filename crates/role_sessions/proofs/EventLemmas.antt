@@ -12,7 +12,7 @@ use Rattle.role_sessions.specs.declared.event.ClientEvent.{ClientEvent}
 use Rattle.role_sessions.specs.declared.event.ClientEvent.TheVariants.{Open, Activate, DropRole, Close}
 use Rattle.role_sessions.specs.Sessions.{Session, Life, is_opening, is_closing, is_about}
 use Rattle.role_sessions.specs.Sessions.{opened_count, life_of, active_roles, while_open, session_in}
-use Rattle.role_sessions.specs.Changes.{with_role, without_role}
+use Rattle.role_sessions.specs.inside.Changes.{with_role, without_role}
 
 -- the life with one more event
 abbrev pub later_by : ClientEvent → Life → Life

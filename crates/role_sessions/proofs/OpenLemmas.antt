@@ -11,7 +11,7 @@ use Rattle.std.proofs.lemmas.Map.Steps.{set_value_same}
 use Rattle.std.specs.Option.{option_map_or}
 use Rattle.std.specs.Ordering.{nat_cmp}
 use Rattle.role_sessions.specs.Sessions.{Session}
-use Rattle.role_sessions.specs.Changes.{changed_at}
+use Rattle.role_sessions.specs.inside.Changes.{changed_at}
 use Rattle.role_sessions.proofs.StateLemmas.{get-inserted, get-removed}
 
 abbrev Entries : Type 0

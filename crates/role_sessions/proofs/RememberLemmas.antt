@@ -6,7 +6,7 @@ use Rattle.role_sessions.specs.declared.answers.Remembered.{Remembered}
 use Rattle.role_sessions.specs.declared.verdict.Verdict.{Verdict}
 use Rattle.role_sessions.specs.Sessions.{Session}
 use Rattle.role_sessions.specs.Decisions.{Relations, verdict}
-use Rattle.role_sessions.specs.Remembered.{last_generation, IsRightFor, IsPast}
+use Rattle.role_sessions.specs.inside.Remembered.{last_generation, IsRightFor, IsPast}
 
 -- an answer to the session's own user
 module _ (relations : Relations) (session : Session) (generation user operation object : ℕ) (answer : Verdict)

@@ -16,7 +16,7 @@ use Rattle.role_commands.specs.Tables.{Table}
 use Rattle.role_sessions.specs.declared.faults.SessionFault.TheVariants as session
 use Rattle.role_sessions.specs.Decisions.{Relations}
 use Rattle.role_sessions.specs.Refusals.{most_active_roles, activate_in, activate_due}
-use Rattle.role_sessions.specs.Changes.{with_role, without_role, changed_at}
+use Rattle.role_sessions.specs.inside.Changes.{with_role, without_role, changed_at}
 use Rattle.role_sessions.proofs.EventLemmas.{opened_count-push, session_in-opened}
 use Rattle.role_sessions.proofs.EventLemmas.{session_in-closed, session_in-activated}
 use Rattle.role_sessions.proofs.EventLemmas.{session_in-dropped, session_in-beyond, session_in-zero}

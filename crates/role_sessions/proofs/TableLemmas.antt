@@ -17,9 +17,9 @@ use Rattle.role_sessions.specs.declared.open_session.OpenSession.{OpenSession}
 use Rattle.role_sessions.specs.Sessions.{Session}
 use Rattle.role_sessions.specs.Decisions.{Relations, verdict}
 use Rattle.role_sessions.specs.Kept.{KeptAnswer, KeptAreRight, KeepsRight}
-use Rattle.role_sessions.specs.Remembered.{last_generation, IsNothing, IsRightFor, IsPast, RemembersNothing}
-use Rattle.role_sessions.specs.Remembered.{RemembersRight, IsOfThePast, kept_in, Entries, sessions_in}
-use Rattle.role_sessions.specs.Remembered.{kept_by, OpenValue, open_value, as_sessions, IsTable}
+use Rattle.role_sessions.specs.inside.Remembered.{last_generation, IsNothing, IsRightFor, IsPast, RemembersNothing}
+use Rattle.role_sessions.specs.inside.Remembered.{RemembersRight, IsOfThePast, kept_in, Entries, sessions_in}
+use Rattle.role_sessions.specs.inside.Remembered.{kept_by, OpenValue, open_value, as_sessions, IsTable}
 use Rattle.role_sessions.proofs.OpenLemmas.{map_of, get-map_of, Gives, IsLong-none}
 use Rattle.role_sessions.proofs.OpenLemmas.{IsLong-insert, IsLong-remove, IsLong-written}
 

@@ -1,7 +1,6 @@
 pub mod Sessions
 pub mod Decisions
-pub mod Changes
+pub mod inside
 pub mod Refusals
 pub mod Kept
-pub mod Remembered
 pub mod Laws

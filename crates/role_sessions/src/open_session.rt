@@ -2,8 +2,8 @@
 
 ghost use Rattle.std.specs.Prelude.{◌≡◌, Some, OnOk, OnErr};
 ghost use Rattle.role_sessions.specs.Decisions.{relations_of, verdict};
-ghost use Rattle.role_sessions.specs.Changes.{with_role, without_role};
-ghost use Rattle.role_sessions.specs.Remembered.{RemembersNothing, RemembersRight, IsOfThePast};
+ghost use Rattle.role_sessions.specs.inside.Changes.{with_role, without_role};
+ghost use Rattle.role_sessions.specs.inside.Remembered.{RemembersNothing, RemembersRight, IsOfThePast};
 
 use crate::answers::Answers;
 use crate::session::Session;

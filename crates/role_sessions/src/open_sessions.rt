@@ -3,10 +3,10 @@
 ghost use Rattle.std.specs.Prelude.{◌≡◌, [], OnOk, OnErr};
 ghost use Rattle.std.specs.FinMap as map;
 ghost use Rattle.std.specs.Option.{option_copied};
-ghost use Rattle.role_sessions.specs.Changes.{changed_at, with_role, without_role};
+ghost use Rattle.role_sessions.specs.inside.Changes.{changed_at, with_role, without_role};
 ghost use Rattle.role_sessions.specs.Decisions.{relations_of, verdict};
 ghost use Rattle.role_sessions.specs.Kept.{KeptAreRight, KeepsRight};
-ghost use Rattle.role_sessions.specs.Remembered.{as_sessions};
+ghost use Rattle.role_sessions.specs.inside.Remembered.{as_sessions};
 
 use crate::open_session::OpenSession;
 use crate::session::Session;
@@ -24,7 +24,7 @@ pub(crate) struct OpenSessions {
 }
 
 impl Model for OpenSessions {
-    ghost use Rattle.role_sessions.specs.Remembered.{OpenValue, open_code, open_value, IsTable};
+    ghost use Rattle.role_sessions.specs.inside.Remembered.{OpenValue, open_code, open_value, IsTable};
 
     ghost Value = { OpenValue };
 

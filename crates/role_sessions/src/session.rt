@@ -6,7 +6,7 @@ ghost use Rattle.rbac_state.specs.Policies.{permission_cmp};
 ghost use Rattle.rbac_state.specs.Listings.{IsListing};
 ghost use Rattle.role_sessions.specs.Decisions.{relations_of, counted_roles, SessionMay, verdict};
 ghost use Rattle.role_sessions.specs.Refusals.{is_active, activate_in, drop_in, close_in, AnswersExactly};
-ghost use Rattle.role_sessions.specs.Changes.{with_role, without_role};
+ghost use Rattle.role_sessions.specs.inside.Changes.{with_role, without_role};
 
 use crate::faults::{EndFault, SessionFault};
 use crate::verdict::{Rule, Verdict};
@@ -26,7 +26,7 @@ pub(crate) struct Session {
 
 impl Model for Session {
     ghost use Rattle.role_sessions.specs.Sessions as seen;
-    ghost use Rattle.role_sessions.specs.Kept.{session_code};
+    ghost use Rattle.role_sessions.specs.inside.Codes.{session_code};
 
     ghost Value = { seen.Session };
 

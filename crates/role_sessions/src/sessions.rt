@@ -32,7 +32,8 @@ pub struct Sessions {
 }
 
 impl Model for Sessions {
-    ghost use Rattle.role_sessions.specs.Kept.{SessionsValue, sessions_code};
+    ghost use Rattle.role_sessions.specs.Kept.{SessionsValue};
+    ghost use Rattle.role_sessions.specs.inside.Codes.{sessions_code};
 
     ghost Value = { SessionsValue };
 

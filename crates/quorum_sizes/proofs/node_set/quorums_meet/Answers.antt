@@ -1,7 +1,7 @@
 use Rattle.std.proofs.Common.{◌∙◌, subst, sym, ◌<◌, ◌≡◌, bit_and}
 use Rattle.std.specs.FinSet as sets
 use Rattle.quorum_sizes.specs.NodeSets.{Nodes}
-use Rattle.quorum_sizes.specs.NodeWords.{names_in}
+use Rattle.quorum_sizes.specs.inside.NodeWords.{names_in}
 use Rattle.quorum_sizes.proofs.NodeMasks.{names_in-and}
 use Rattle.quorum_sizes.proofs.NodeCounts.{quorums_share}
 use Rattle.quorum_sizes.proofs.node_set.quorums_meet.Goals as goal

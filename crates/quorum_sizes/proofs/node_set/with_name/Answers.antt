@@ -1,6 +1,6 @@
 use Rattle.std.proofs.Common.{◌∙◌, ap}
 use Rattle.std.specs.FinSet as sets
-use Rattle.quorum_sizes.specs.NodeWords.{names_in}
+use Rattle.quorum_sizes.specs.inside.NodeWords.{names_in}
 use Rattle.quorum_sizes.proofs.NodeMasks.{names_in-with_bit}
 use Rattle.quorum_sizes.proofs.node_set.with_name.Goals as goal
 

@@ -1,6 +1,6 @@
 use Rattle.std.proofs.Common.{◌≡◌, ◌<◌, length, subst, sym, ◌∙◌, ap, arith}
 use Rattle.std.specs.List.Sorted.{IsStrictlySortedBy}
-use Rattle.rbac_state.specs.Relations.{is_among}
+use Rattle.rbac_state.specs.inside.Relations.{is_among}
 use Rattle.rbac_state.proofs.PlaceLemmas.{block_ascends, has_item}
 use Rattle.rbac_state.proofs.blocks.has.Goals as goal
 

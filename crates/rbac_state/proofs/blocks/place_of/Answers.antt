@@ -2,7 +2,7 @@ use Rattle.std.proofs.Common.{◌≡◌, ◌-◌, length, ap, ◌∙◌, arith, 
 use Rattle.std.specs.Ordering.{is_le}
 use Rattle.std.proofs.lemmas.List.{length-drop}
 use Rattle.std.proofs.lemmas.List.Sorted.{IsPartitionPoint-from_clause}
-use Rattle.rbac_state.specs.Blocks.{begins}
+use Rattle.rbac_state.specs.inside.Blocks.{begins}
 use Rattle.rbac_state.proofs.BlockLemmas.{parted_later, below_item, above_item}
 use Rattle.rbac_state.proofs.blocks.place_of.Goals as goal
 

@@ -1,5 +1,5 @@
 use Rattle.std.proofs.Common.{sym, subst, arith}
-use Rattle.rbac_state.specs.Blocks.{AreBlocks}
+use Rattle.rbac_state.specs.inside.Blocks.{AreBlocks}
 use Rattle.rbac_state.proofs.SplitLemmas.{roomy_short, roomy_split, same_room}
 use Rattle.rbac_state.proofs.blocks.split_long.Goals as goal
 

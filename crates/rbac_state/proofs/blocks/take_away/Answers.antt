@@ -1,7 +1,7 @@
 use Rattle.std.proofs.Common.{sym, ap, ◌∙◌, subst, arith}
 use Rattle.std.specs.List.Sorted.{IsStrictlySortedBy}
-use Rattle.rbac_state.specs.Blocks.{items_in, AreBlocks}
-use Rattle.rbac_state.specs.Relations.{is_among}
+use Rattle.rbac_state.specs.inside.Blocks.{items_in, AreBlocks}
+use Rattle.rbac_state.specs.inside.Relations.{is_among}
 use Rattle.rbac_state.proofs.PlaceLemmas.{block_ascends, ascends_taken, members_taken, are_blocks_taken, same_tidied}
 use Rattle.rbac_state.proofs.blocks.take_away.Goals as goal
 

@@ -2,7 +2,7 @@ use Rattle.std.proofs.Common.{sym, subst}
 use Rattle.std.specs.List.Sorted.{IsStrictlySortedBy}
 use Rattle.std.specs.Ordering.{nat_cmp}
 use Rattle.rbac_state.specs.Policies.{permission_cmp}
-use Rattle.rbac_state.specs.Relations.{pair_cmp}
+use Rattle.rbac_state.specs.inside.Relations.{pair_cmp}
 use Rattle.rbac_state.proofs.PlaceLemmas.{block_ascends}
 use Rattle.rbac_state.proofs.select.add_operations.Goals as goal
 

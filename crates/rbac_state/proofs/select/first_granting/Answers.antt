@@ -1,7 +1,7 @@
 use Rattle.std.proofs.Common.{◌≡◌, ℕ, Bool, true, ◌&&◌, get_or, sym, ap, ◌∙◌}
 use Rattle.std.specs.Ordering.{nat_cmp}
 use Rattle.rbac_state.specs.Policies.{permission_cmp}
-use Rattle.rbac_state.specs.Relations.{relates}
+use Rattle.rbac_state.specs.inside.Relations.{relates}
 use Rattle.rbac_state.proofs.FirstLemmas.{find_more, find_here, and_false}
 use Rattle.rbac_state.proofs.select.first_granting.Goals as goal
 use Rattle.rbac_state.proofs.select.first_granting.Goals.{else-has-via-then-has+else-has-2, else-has-via-else-has}

@@ -2,7 +2,7 @@ use Rattle.std.proofs.Common.{◌≡◌, ◌&&◌, None, take}
 use Rattle.std.specs.List.{find}
 use Rattle.std.specs.Ordering.{nat_cmp}
 use Rattle.rbac_state.specs.Policies.{permission_cmp}
-use Rattle.rbac_state.specs.Relations.{relates}
+use Rattle.rbac_state.specs.inside.Relations.{relates}
 use Rattle.rbac_state.proofs.select.first_granting.Given as goal
 
 abbrev pub invariant-loop-role : goal.invariant-loop-role

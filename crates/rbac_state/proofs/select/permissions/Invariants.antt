@@ -1,7 +1,7 @@
 use Rattle.std.proofs.Common.{◌≡◌, map, filter, take}
 use Rattle.std.specs.List.{flat_map}
 use Rattle.std.specs.Ordering.{eq_by_cmp, nat_cmp}
-use Rattle.rbac_state.specs.Blocks.{items_in}
+use Rattle.rbac_state.specs.inside.Blocks.{items_in}
 use Rattle.rbac_state.proofs.select.permissions.Given as goal
 
 abbrev pub invariant-loop-role : goal.invariant-loop-role

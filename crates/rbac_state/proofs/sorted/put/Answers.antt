@@ -1,5 +1,5 @@
 use Rattle.std.proofs.Common.{◌∙◌, ap}
-use Rattle.rbac_state.specs.Relations.{is_among}
+use Rattle.rbac_state.specs.inside.Relations.{is_among}
 use Rattle.rbac_state.proofs.SortedLemmas.{place_for, ascends_with, members_with, members_as_before, there}
 use Rattle.rbac_state.proofs.sorted.put.Goals as goal
 

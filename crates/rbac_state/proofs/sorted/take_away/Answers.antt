@@ -1,5 +1,5 @@
 use Rattle.std.proofs.Common.{◌∙◌, ap}
-use Rattle.rbac_state.specs.Relations.{is_among}
+use Rattle.rbac_state.specs.inside.Relations.{is_among}
 use Rattle.rbac_state.proofs.SortedLemmas.{place_for, ascends_without, members_without, members_none, not_there}
 use Rattle.rbac_state.proofs.sorted.take_away.Goals as goal
 

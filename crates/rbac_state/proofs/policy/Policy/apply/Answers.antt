@@ -1,6 +1,6 @@
 use Rattle.std.proofs.Common.{◌≡◌, true, refl, sym, ap, ◌∙◌}
 use Rattle.role_commands.specs.Rules.{role_of}
-use Rattle.rbac_state.specs.Blocks.{items_in}
+use Rattle.rbac_state.specs.inside.Blocks.{items_in}
 use Rattle.rbac_state.specs.Assignments.{owns}
 use Rattle.rbac_state.proofs.PairLemmas.{assigned-put, assigned-take_away, assigned-clear}
 use Rattle.rbac_state.proofs.PairLemmas.{granted-put, granted-take_away, granted-clear}

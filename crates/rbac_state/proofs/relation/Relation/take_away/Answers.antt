@@ -1,5 +1,5 @@
 use Rattle.std.proofs.Common.{◌&&◌, not, sym, ap, ◌∙◌}
-use Rattle.rbac_state.specs.Relations.{relates}
+use Rattle.rbac_state.specs.inside.Relations.{relates}
 use Rattle.rbac_state.proofs.RelationLemmas.{pair_tied, turned}
 use Rattle.rbac_state.proofs.relation.Relation.take_away.Goals as goal
 

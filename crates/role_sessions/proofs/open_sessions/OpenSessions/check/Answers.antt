@@ -2,7 +2,7 @@ use Rattle.std.proofs.Common.{Some, None, sym, ap, subst, ◌∙◌, rules}
 use Rattle.std.specs.FinMap as map
 use Rattle.role_sessions.specs.Decisions.{relations_of, verdict}
 use Rattle.role_sessions.specs.Kept.{KeptAreRight}
-use Rattle.role_sessions.specs.Remembered.{RemembersRight, sessions_in, open_value, as_sessions}
+use Rattle.role_sessions.specs.inside.Remembered.{RemembersRight, sessions_in, open_value, as_sessions}
 use Rattle.role_sessions.proofs.OpenLemmas.{get-map_of, map_of-again}
 use Rattle.role_sessions.proofs.TableLemmas.{AllOf-given, the_one, gives-sessions_in, here-sessions_in}
 use Rattle.role_sessions.proofs.TableLemmas.{absent-sessions_in, table-written, kept_at, kept_from}

@@ -1,7 +1,7 @@
 use Rattle.std.proofs.Common.{Some, ap, subst, ◌∙◌, rules}
-use Rattle.role_sessions.specs.Changes.{without_role}
+use Rattle.role_sessions.specs.inside.Changes.{without_role}
 use Rattle.role_sessions.specs.Kept.{KeepsRight}
-use Rattle.role_sessions.specs.Remembered.{RemembersNothing, sessions_in, open_value, as_sessions}
+use Rattle.role_sessions.specs.inside.Remembered.{RemembersNothing, sessions_in, open_value, as_sessions}
 use Rattle.role_sessions.proofs.OpenLemmas.{map_of-written, map_of-absent}
 use Rattle.role_sessions.proofs.TableLemmas.{the_one, gives-sessions_in, here-sessions_in, absent-sessions_in}
 use Rattle.role_sessions.proofs.TableLemmas.{table-written, keeps_given, keeps_same, same_value, nothing_is_past}

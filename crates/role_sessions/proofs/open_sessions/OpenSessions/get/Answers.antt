@@ -1,6 +1,6 @@
 use Rattle.std.proofs.Common.{sym, ap, ◌∙◌}
 use Rattle.std.specs.FinMap as map
-use Rattle.role_sessions.specs.Remembered.{sessions_in}
+use Rattle.role_sessions.specs.inside.Remembered.{sessions_in}
 use Rattle.role_sessions.proofs.OpenLemmas.{get-map_of}
 use Rattle.role_sessions.proofs.TableLemmas.{here-sessions_in, absent-sessions_in}
 use Rattle.role_sessions.proofs.open_sessions.OpenSessions.get.Goals as goal

@@ -1,7 +1,7 @@
 use Rattle.std.proofs.Common.{ap, subst, ◌∙◌, ◌+◌, length, Some, is_some, if◌then◌else◌}
 use Rattle.std.specs.FinMap as map
 use Rattle.role_sessions.specs.Kept.{KeepsRight}
-use Rattle.role_sessions.specs.Remembered.{RemembersNothing, sessions_in, open_value, as_sessions}
+use Rattle.role_sessions.specs.inside.Remembered.{RemembersNothing, sessions_in, open_value, as_sessions}
 use Rattle.role_sessions.proofs.OpenLemmas.{map_of, map_of-insert}
 use Rattle.role_sessions.proofs.TableLemmas.{the_one, gives-sessions_in, table-insert}
 use Rattle.role_sessions.proofs.TableLemmas.{keeps_given, keeps_same, same_value}

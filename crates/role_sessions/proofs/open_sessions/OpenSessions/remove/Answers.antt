@@ -1,7 +1,7 @@
 use Rattle.std.proofs.Common.{sym, ap, subst, ◌∙◌, ◌+◌, length, None, is_some, if◌then◌else◌}
 use Rattle.std.specs.FinMap as map
 use Rattle.role_sessions.specs.Kept.{KeepsRight}
-use Rattle.role_sessions.specs.Remembered.{sessions_in, open_value, as_sessions}
+use Rattle.role_sessions.specs.inside.Remembered.{sessions_in, open_value, as_sessions}
 use Rattle.role_sessions.proofs.OpenLemmas.{map_of-remove}
 use Rattle.role_sessions.proofs.TableLemmas.{gives-sessions_in, table-remove, keeps_given}
 use Rattle.role_sessions.proofs.open_sessions.OpenSessions.remove.Goals as goal

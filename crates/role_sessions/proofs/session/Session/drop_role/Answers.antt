@@ -1,7 +1,7 @@
 use Rattle.std.proofs.Common.{rules, not, ◌==◌, ◌≡◌, List, ℕ, ap, ◌∙◌, filter}
 use Rattle.std.proofs.lemmas.Fn.{filter_same}
 use Rattle.role_sessions.specs.Sessions.{Session}
-use Rattle.role_sessions.specs.Changes.{without_role}
+use Rattle.role_sessions.specs.inside.Changes.{without_role}
 use Rattle.role_sessions.proofs.session.Session.drop_role.Goals as goal
 
 pub returns : goal.returns

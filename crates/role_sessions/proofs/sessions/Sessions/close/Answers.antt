@@ -1,6 +1,6 @@
 use Rattle.std.proofs.Common.{ap, subst}
 use Rattle.role_sessions.specs.Kept.{KeepsRight}
-use Rattle.role_sessions.specs.Remembered.{as_sessions}
+use Rattle.role_sessions.specs.inside.Remembered.{as_sessions}
 use Rattle.role_sessions.proofs.StateLemmas.{then_closed}
 use Rattle.role_sessions.proofs.sessions.Sessions.close.Goals as goal
 

@@ -1,6 +1,6 @@
 use Rattle.std.proofs.Common.{ap, subst}
 use Rattle.role_sessions.specs.Kept.{KeepsRight}
-use Rattle.role_sessions.specs.Remembered.{as_sessions}
+use Rattle.role_sessions.specs.inside.Remembered.{as_sessions}
 use Rattle.role_sessions.proofs.StateLemmas.{then_dropped}
 use Rattle.role_sessions.proofs.sessions.Sessions.drop_role.Goals as goal
 

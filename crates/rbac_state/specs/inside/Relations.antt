@@ -4,7 +4,7 @@ use Rattle.std.specs.List.{list_any}
 use Rattle.std.specs.List.Sorted.{IsStrictlySortedBy}
 use Rattle.std.specs.Ordering.{eq_by_cmp, nat_cmp, ordering_then}
 use Rattle.std.specs.declared.cmp.Ordering.{Ordering}
-use Rattle.rbac_state.specs.Blocks.{AreBlocks, items_in}
+use Rattle.rbac_state.specs.inside.Blocks.{AreBlocks, items_in}
 use Rattle.rbac_state.specs.declared.relation.Relation.{Relation}
 
 -- by the first of a pair, and then by the second

@@ -10,7 +10,8 @@ use Rattle.role_sessions.specs.declared.answers.Remembered.{Remembered}
 use Rattle.role_sessions.specs.declared.open_session.OpenSession.{OpenSession}
 use Rattle.role_sessions.specs.Sessions.{Session}
 use Rattle.role_sessions.specs.Decisions.{Relations, verdict}
-use Rattle.role_sessions.specs.Kept.{KeptAnswer, SessionsValue, session_code, kept_code}
+use Rattle.role_sessions.specs.Kept.{KeptAnswer, SessionsValue}
+use Rattle.role_sessions.specs.inside.Codes.{session_code, kept_code}
 
 -- in the last generation nothing is remembered
 abbrev pub last_generation : ℕ
