@@ -11,6 +11,6 @@ pub use Rattle.rbac_state.proofs.StreamLemmas.{last_said-push, last_said-none, o
 pub use Rattle.rbac_state.proofs.OneListing.{one_list}
 pub use Rattle.rbac_state.proofs.ListingLemmas.{listing_of, iff_trans}
 pub use Rattle.rbac_state.proofs.Members.{contains_head, contains_more, contains_cases, contains_none}
-pub use Rattle.rbac_state.proofs.Members.{in_filter, into_filter, picked_from, picked_into}
+pub use Rattle.rbac_state.proofs.Members.{in_filter, into_filter, filter_none, picked_from, picked_into}
 pub use Rattle.rbac_state.proofs.PairLemmas.{members, assignments_total, assignments_exact, permissions_total}
 pub use Rattle.rbac_state.proofs.PairLemmas.{permissions_exact, grants_total, grants_exact}

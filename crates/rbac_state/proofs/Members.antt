@@ -1,8 +1,9 @@
 -- The members of lists, and of what is picked from a list.
-use Rattle.std.proofs.Common.{◌≡◌, Bool, true, false, ◌⊎◌, inl, inr, cond, zero}
+use Rattle.std.proofs.Common.{◌≡◌, Bool, true, false, ◌⊎◌, inl, inr, cond, zero, All}
 use Rattle.std.proofs.Common.{suc, List, [], ◌∷◌, refl, ap, ◌∙◌, arith, filter, map}
 use Rattle.std.specs.Prelude.{Contains}
-use Rattle.std.proofs.lemmas.List.Elements.{All-contains, All-contains_itself, All-filter, filter_passes}
+use Rattle.std.proofs.lemmas.List.Elements.{All-contains, All-contains_itself, All-filter, All-head, All-tail}
+use Rattle.std.proofs.lemmas.List.Elements.{filter_passes}
 
 pub contains_head : {X : Type 0} (x : X) (xs : List X) (y : X) → x ≡ y → Contains (x ∷ xs) y
 contains_head x xs y e = (0, omega arith, e)
@@ -38,6 +39,19 @@ into_filter p (y ∷ xs) x within passes =
             | false ↦ into_filter p xs x later passes
           ]
     ]
+
+-- of a list of which none passes a filter keeps none, and where each passes all
+pub filter_none : {X : Type 0} (p : X → Bool) (xs : List X) → All (λ x. p x ≡ false) xs → filter p xs ≡ []
+filter_none p [] none = refl
+filter_none p (x ∷ xs) none =
+    ap (λ b. cond b (x ∷ filter p xs) (filter p xs)) (All-head (λ x. p x ≡ false) x xs none)
+    ∙ filter_none p xs (All-tail (λ x. p x ≡ false) x xs none)
+
+pub filter_every : {X : Type 0} (p : X → Bool) (xs : List X) → All (λ x. p x ≡ true) xs → filter p xs ≡ xs
+filter_every p [] every = refl
+filter_every p (x ∷ xs) every =
+    ap (λ b. cond b (x ∷ filter p xs) (filter p xs)) (All-head (λ x. p x ≡ true) x xs every)
+    ∙ ap (λ l. x ∷ l) (filter_every p xs (All-tail (λ x. p x ≡ true) x xs every))
 
 module _ {X Y : Type 0} (p : X → Bool) (f : X → Y) where
   -- y comes of an item that passes

@@ -4,27 +4,15 @@ use Rattle.std.proofs.Common.{length, get_or, take, drop, refl, sym, ap, ◌∙�
 use Rattle.std.specs.declared.cmp.Ordering.{Ordering}
 use Rattle.std.specs.declared.cmp.Ordering.TheVariants.{Less, Equal, Greater}
 use Rattle.std.specs.Ordering.{eq_by_cmp, is_eq, is_lt, ordering_index, ordering_reverse, ordering_then}
-use Rattle.std.specs.List.{All}
 use Rattle.std.specs.List.Sorted.{IsStrictlySortedBy, IsSortedBy, IsNonDecreasingBy, IsPartitionPoint, IsPartitionedBy}
 use Rattle.std.specs.Cmp.{IsTotalOrder}
 use Rattle.std.proofs.lemmas.Cmp.{eq_by_cmp_equiv}
 use Rattle.std.proofs.lemmas.List.{take-append-drop, length-take-le, length-drop, get_or-take, get_or-drop}
-use Rattle.std.proofs.lemmas.List.Elements.{All-head, All-tail, filter-append}
+use Rattle.std.proofs.lemmas.List.Elements.{filter-append}
 use Rattle.std.proofs.lemmas.List.Sorted.{searchable_from_sorted}
 use Rattle.std.proofs.lemmas.Map.Keys.{Less-from_sorted}
 use Rattle.rbac_state.specs.inside.Relations.{pair_cmp}
-
-filter_none : {X : Type 0} (p : X → Bool) (xs : List X) → All (λ x. p x ≡ false) xs → filter p xs ≡ []
-filter_none p [] none = refl
-filter_none p (x ∷ xs) none =
-    ap (λ b. cond b (x ∷ filter p xs) (filter p xs)) (All-head (λ x. p x ≡ false) x xs none)
-    ∙ filter_none p xs (All-tail (λ x. p x ≡ false) x xs none)
-
-filter_every : {X : Type 0} (p : X → Bool) (xs : List X) → All (λ x. p x ≡ true) xs → filter p xs ≡ xs
-filter_every p [] every = refl
-filter_every p (x ∷ xs) every =
-    ap (λ b. cond b (x ∷ filter p xs) (filter p xs)) (All-head (λ x. p x ≡ true) x xs every)
-    ∙ ap (λ l. x ∷ l) (filter_every p xs (All-tail (λ x. p x ≡ true) x xs every))
+use Rattle.rbac_state.proofs.Members.{filter_none, filter_every}
 
 then_less : (u v : Ordering) → ordering_then u v ≡ Less → is_lt (ordering_reverse u) ≡ false
 then_less Less v e = refl

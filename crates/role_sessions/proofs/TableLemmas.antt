@@ -5,6 +5,8 @@ use Rattle.std.proofs.Common.{length, All, Contains, Option, Some, None, is_some
 use Rattle.std.proofs.Common.{OnErr, refl, sym, ap, subst, ◌∙◌, inl, inr, eqb-true, eq-eqb, arith}
 use Rattle.std.proofs.lemmas.Bool.{true≢false}
 use Rattle.std.proofs.lemmas.Bool.Decides.{nat_tests}
+use Rattle.std.proofs.lemmas.List.{length-map}
+use Rattle.std.proofs.lemmas.List.Elements.{All-map}
 use Rattle.std.proofs.lemmas.List.Elements.{All-nil, All-cons, All-head, All-tail, All-append, All-weaker, All-contains}
 use Rattle.std.proofs.lemmas.List.Elements.{All-contains_itself, Contains-append_left, Contains-append_right}
 use Rattle.std.specs.FinMap as finite
@@ -20,14 +22,11 @@ use Rattle.role_sessions.specs.Kept.{KeptAnswer, KeptAreRight, KeepsRight}
 use Rattle.role_sessions.specs.inside.Remembered.{last_generation, IsNothing, IsRightFor, IsPast, RemembersNothing}
 use Rattle.role_sessions.specs.inside.Remembered.{RemembersRight, IsOfThePast, kept_in, Entries, sessions_in}
 use Rattle.role_sessions.specs.inside.Remembered.{kept_by, OpenValue, open_value, as_sessions, IsTable}
+use Rattle.rbac_state.proofs.Exported.{filter_none}
 use Rattle.role_sessions.proofs.OpenLemmas.{map_of, get-map_of, Gives, IsLong-none}
 use Rattle.role_sessions.proofs.OpenLemmas.{IsLong-insert, IsLong-remove, IsLong-written}
 
 -- ---- lists
-
-length-same : {X Y : Type 0} (f : X → Y) (xs : List X) → length (map f xs) ≡ length xs
-length-same f [] = refl
-length-same f (x ∷ xs) = ap suc (length-same f xs)
 
 -- what holds where the test passes holds of what the filter keeps
 All-kept : {X : Type 0} (p : X → Bool) (P : X → Type 0) (xs : List X) → All (λ x. p x ≡ true → P x) xs
@@ -53,12 +52,6 @@ All-unkept {X} p P (x ∷ xs) h = by (p x) refl h (All-unkept p P xs)
         All-cons Passing x xs (λ _. All-head P x (filter p xs) all) (rest (All-tail P x (filter p xs) all))
     by false e all rest = All-cons Passing x xs (λ t. absurd (true≢false (sym t ∙ e))) (rest all)
 
-All-mapped : {X Y : Type 0} (P : Y → Type 0) (f : X → Y) (xs : List X) → All (λ x. P (f x)) xs → All P (map f xs)
-All-mapped P f [] h = All-nil P
-All-mapped P f (x ∷ xs) h =
-    All-cons P (f x) (map f xs) (All-head (λ y. P (f y)) x xs h)
-    (All-mapped P f xs (All-tail (λ y. P (f y)) x xs h))
-
 All-unmapped : {X Y : Type 0} (P : Y → Type 0) (f : X → Y) (xs : List X) → All P (map f xs) → All (λ x. P (f x)) xs
 All-unmapped P f [] h = All-nil (λ x. P (f x))
 All-unmapped P f (x ∷ xs) h =
@@ -83,12 +76,6 @@ right P xs ys h =
 flat-none : {A : Type 0} (f : ℕ → List A) (ids : List ℕ) → ((id : ℕ) → f id ≡ []) → flat_map f ids ≡ []
 flat-none f [] h = refl
 flat-none f (id ∷ ids) h = (λ i. h id i ++ flat-none f ids h i)
-
-filter-none : {X : Type 0} (p : X → Bool) (xs : List X) → All (λ x. p x ≡ false) xs → filter p xs ≡ []
-filter-none p [] h = refl
-filter-none p (x ∷ xs) h =
-    (λ i. cond (All-head (λ y. p y ≡ false) x xs h i) (x ∷ filter p xs) (filter p xs))
-    ∙ filter-none p xs (All-tail (λ y. p y ≡ false) x xs h)
 
 -- ---- look-ups
 
@@ -164,7 +151,7 @@ module _ (relations : Relations) (generation id : ℕ) (es : Entries) (o : OpenS
 
   kept_in-right : RemembersRight relations generation o → All (IsRightIn relations es) (kept_in generation id o)
   kept_in-right h =
-      All-mapped (IsRightIn relations es) (λ (r : Remembered). record {
+      All-map (IsRightIn relations es) (λ (r : Remembered). record {
         session = id;
         operation = r.operation;
         object = r.object;
@@ -269,7 +256,7 @@ is_some-sessions_in es id = ap is_some (lookup-sessions_in id es) ∙ by (lookup
     by (Some o) = refl
 
 length-sessions_in : (es : Entries) → length (sessions_in es) ≡ length es
-length-sessions_in es = length-same (λ (e : ℕ × OpenSession). (e.0, e.1.session)) es
+length-sessions_in es = length-map es (λ e. (e.0, e.1.session))
 
 pub table_of_none : IsTable 1 []
 table_of_none =
@@ -340,7 +327,7 @@ module _ (generation next : ℕ) (is : next ≡ min (generation + 1) last_genera
         object = r.object;
         answer = r.answer;
       }))
-      (filter-none (λ (r : Remembered). r.generation == next) o.answers.places
+      (filter_none (λ (r : Remembered). r.generation == next) o.answers.places
       (All-weaker (IsPast generation) (λ r. (r.generation == next) ≡ false) (λ r p. apart r.generation p.0 p.1)
       o.answers.places past))
     where
