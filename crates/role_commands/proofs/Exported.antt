@@ -7,12 +7,12 @@
 --     same_command-self, same_command_is      `same_command` tells whether two commands are one
 --     length-bytes_of, bytes_of_injective, command_again, command_takes      a command's bytes
 --     get-entries      a table's entries are a finite map
-pub use Rattle.role_commands.proofs.Splitting.{split_word_is, split_word-front, split_word-word}
-pub use Rattle.role_commands.proofs.Splitting.{split_word-decimal, split_word-joined, plain_word, decimal_plain}
+pub use Rattle.role_commands.proofs.SplitWordLemmas.{split_word_is, split_word-front, split_word-word}
+pub use Rattle.role_commands.proofs.SplitWordLemmas.{split_word-decimal, split_word-joined, plain_word, decimal_plain}
 pub use Rattle.role_commands.proofs.NumberLemmas.{number_of-decimal, number_of_spelled, byte_read}
 pub use Rattle.role_commands.proofs.NumberLemmas.{narrow_read, wide_read, long_read, byte_spelled}
 pub use Rattle.role_commands.proofs.NumberLemmas.{narrow_spelled, wide_spelled, long_spelled}
-pub use Rattle.role_commands.proofs.Choosing.{if_else, mapped, behind_name, by_name, by_name_made}
+pub use Rattle.role_commands.proofs.FirstWordLemmas.{if_else, mapped, behind_name, by_name, by_name_made}
 pub use Rattle.role_commands.proofs.WordLemmas.{two_words-grouped, three_words-grouped, command_of-spelling}
 pub use Rattle.role_commands.proofs.WordLemmas.{command_of_spelled, spelling_injective}
 pub use Rattle.role_commands.proofs.PlainText.{Ascii, word_text, number, ◌then◌, space, command_text}

@@ -5,7 +5,7 @@ use Rattle.std.proofs.lemmas.Option.{option_and_then_some, same_Some, none-some}
 use Rattle.std.proofs.lemmas.Slice.Eq.{bytes_eq-Decides}
 use Rattle.std.specs.Str.{bytes_eq}
 use Rattle.role_commands.specs.Numbers.{split_word}
-use Rattle.role_commands.proofs.Splitting.{split_word-joined}
+use Rattle.role_commands.proofs.SplitWordLemmas.{split_word-joined}
 
 -- which branch gave the value
 pub if_else : {A P : Type 0} (b : Bool) (x y : Option A) (c : A) → (if b then x else y) ≡ Some c

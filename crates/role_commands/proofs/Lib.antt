@@ -1,10 +1,10 @@
 pub mod ByteLemmas
 pub mod ByteReading
-pub mod Choosing
 pub mod Exported
+pub mod FirstWordLemmas
 pub mod NumberLemmas
 pub mod PlainText
 pub mod SameLemmas
-pub mod Splitting
+pub mod SplitWordLemmas
 pub mod TableLemmas
 pub mod WordLemmas

@@ -15,10 +15,9 @@ use Rattle.role_commands.specs.Reading.{role_and_permission, kinds, named_comman
 use Rattle.role_commands.specs.Words.{spelling, IsCommand, one_word, two_words, three_words}
 use Rattle.role_commands.specs.declared.command.Command.{Command}
 use Rattle.role_commands.specs.declared.command.Command.TheVariants.{Assign, Deassign, Grant, Revoke, Clear}
-use Rattle.role_commands.proofs.Choosing.{mapped}
+use Rattle.role_commands.proofs.FirstWordLemmas.{mapped}
 use Rattle.role_commands.proofs.NumberLemmas.{wide_read, narrow_read, wide_spelled, narrow_spelled}
-use Rattle.role_commands.proofs.Splitting.{split_word-decimal, split_word-word, split_word-joined}
-pub use Rattle.role_commands.proofs.Splitting.{split_word_is}
+use Rattle.role_commands.proofs.SplitWordLemmas.{split_word-decimal, split_word-word, split_word-joined}
 
 -- ---- reading what was written
 

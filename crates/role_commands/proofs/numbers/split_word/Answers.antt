@@ -1,4 +1,4 @@
-use Rattle.role_commands.proofs.Splitting.{split_word_is}
+use Rattle.role_commands.proofs.SplitWordLemmas.{split_word_is}
 use Rattle.role_commands.proofs.numbers.split_word.Goals as goal
 
 pub returns : goal.returns
