@@ -1,10 +1,10 @@
 -- Lists in blocks: where an item is looked for, and what is left where one block is changed.
 use Rattle.std.proofs.Common.{◌≡◌, ℕ, zero, suc, ◌+◌, ◌-◌, ◌<◌, ◌≤◌, Bool}
-use Rattle.std.proofs.Common.{true, false, ◌⊎◌, inl, inr, List, [], ◌∷◌, ◌++◌}
+use Rattle.std.proofs.Common.{true, false, List, [], ◌∷◌, ◌++◌}
 use Rattle.std.proofs.Common.{min, length, get_or, set, take, drop, refl, sym, ap, ◌∙◌, subst, arith}
 use Rattle.std.specs.declared.cmp.Ordering.{Ordering}
 use Rattle.std.specs.declared.cmp.Ordering.TheVariants.{Less, Equal, Greater}
-use Rattle.std.specs.Ordering.{eq_by_cmp, is_eq, is_le, is_lt, ordering_reverse, ordering_then}
+use Rattle.std.specs.Ordering.{is_le, ordering_reverse}
 use Rattle.std.specs.List.{AllByRecursion, flat_map}
 use Rattle.std.specs.List.Sorted.{IsStrictlySortedBy, IsPartitionPoint, IsPartitionedBy}
 use Rattle.std.specs.Cmp.{IsTotalOrder}
@@ -12,8 +12,7 @@ use Rattle.std.proofs.lemmas.List.{take-append-drop, drop_more, drop-drop, get_o
 use Rattle.std.proofs.lemmas.List.{take-set, drop-set-lt, get_or-set_same, get_or_default}
 use Rattle.std.proofs.lemmas.List.Concat.{flat_map-append}
 use Rattle.rbac_state.specs.inside.Blocks.{begins}
-use Rattle.rbac_state.specs.inside.Relations.{pair_cmp}
-use Rattle.rbac_state.proofs.EachLemmas.{each_first, each_second, each_at, each_drop, each_map}
+use Rattle.rbac_state.proofs.EachLemmas.{each_first, each_second, each_drop, each_map}
 use Rattle.rbac_state.proofs.EachLemmas.{Below, ascends_first, ascends_second, below_from, after_head}
 
 none_begins : {K : Type 0} (p : K → Bool) (xs : List K) → AllByRecursion (λ x. p x ≡ false) xs → begins p xs ≡ false
