@@ -1,5 +1,5 @@
 -- The answers that one session remembers.
-use Rattle.std.proofs.Common.{◌≡◌, ℕ, ◌<◌, ◌≤◌, ◌==◌, true, List, All, Contains}
+use Rattle.std.proofs.Common.{◌≡◌, ℕ, ◌<◌, ◌==◌, true, List, All, Contains}
 use Rattle.std.proofs.Common.{Some, slice_set, refl, sym, ap, ◌∙◌, eqb-true, arith}
 use Rattle.std.proofs.lemmas.List.Elements.{All-same, All-set, All-contains}
 use Rattle.role_sessions.specs.declared.answers.Remembered.{Remembered}

@@ -1,8 +1,8 @@
 -- The code's table of open sessions: what it says of each, and the answers that are kept in it.
-use Rattle.std.proofs.Common.{◌≡◌, ℕ, suc, ◌+◌, ◌<◌, ◌≤◌, min, Bool, true, false, cond, ◌==◌}
-use Rattle.std.proofs.Common.{if◌then◌else◌, ◌⊎◌, nat_eq, List, [], ◌∷◌, ◌++◌, map, filter}
+use Rattle.std.proofs.Common.{◌≡◌, ℕ, ◌+◌, ◌<◌, ◌≤◌, min, Bool, true, false, cond, ◌==◌}
+use Rattle.std.proofs.Common.{if◌then◌else◌, nat_eq, List, [], ◌∷◌, ◌++◌, map, filter}
 use Rattle.std.proofs.Common.{length, All, Contains, Option, Some, None, is_some, Result, Ok, Err}
-use Rattle.std.proofs.Common.{OnErr, refl, sym, ap, subst, ◌∙◌, inl, inr, eqb-true, eq-eqb, arith}
+use Rattle.std.proofs.Common.{OnErr, refl, sym, ap, subst, ◌∙◌, eqb-true, eq-eqb, arith}
 use Rattle.std.proofs.lemmas.Bool.{true≢false}
 use Rattle.std.proofs.lemmas.Bool.Decides.{nat_tests}
 use Rattle.std.proofs.lemmas.List.{length-map}
