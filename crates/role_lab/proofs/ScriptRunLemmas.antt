@@ -6,22 +6,23 @@ use Rattle.std.specs.Io.KnownBytes.{Appends, IsAtEnd, prepend_known}
 use Rattle.link_frames.specs.Blocks.{ReadAhead}
 use Rattle.link_frames.specs.Devices.{WentOn, ReaderFailed, AppendsFront}
 use Rattle.link_frames.specs.LinePrograms.{WroteFront, Moved}
+use Rattle.link_frames.specs.LinesAt.{Lines, devices}
 use Rattle.link_frames.specs.Lines.{ended}
 use Rattle.link_frames.specs.Watching.{Tally}
 use Rattle.link_frames.specs.declared.blocks.AheadFault.{AheadFault}
 use Rattle.link_frames.specs.declared.blocks.AheadFault.TheVariants as ahead
-use Rattle.link_frames.proofs.Exported.{Ran, Ran-start, Ran-moved, Ran-front, Ran-good, Ran-text, Ran-number}
+use Rattle.link_frames.proofs.Exported.{Ran-start, Ran-moved, Ran-front, Ran-good, Ran-text, Ran-number}
 use Rattle.link_frames.proofs.Exported.{Ended, Ended-whole, WentOn-nothing, WentOn-trans, AppendsFront-nothing}
 use Rattle.role_lab.specs.Runs.{ScriptRan, IsEndless}
 use Rattle.role_lab.specs.Scripts.{Script, Unread, next, script_text}
 use Rattle.role_lab.specs.Stages.{Follows}
 use Rattle.role_lab.specs.Statuses.{of_ahead_fault}
-use Rattle.role_lab.specs.Steps.{Holds}
+use Rattle.role_lab.specs.inside.Steps.{Holds, ScriptRuns}
 use Rattle.role_lab.specs.declared.fault.ScriptFault.TheVariants.{BadScript, Device, Memory}
 use Rattle.role_lab.specs.declared.run.Took.{Took}
 use Rattle.role_lab.specs.declared.stage.Stage.{Stage}
 use Rattle.role_lab.specs.declared.stage.Stage.TheVariants.{Start}
-use Rattle.role_lab.proofs.Answering.{starts}
+use Rattle.role_lab.proofs.StageLemmas.{starts}
 
 -- ---- what a line did
 
@@ -41,31 +42,33 @@ Holds-good (Some p) stage old new good holds e = (p, refl, holds.1, holds.2)
 
 -- what is kept follows the lines so far, their text was written or is held, and neither the reader nor the writer
 -- failed
-pub record RunsSoFar (stage : Stage) (known pending out_old out_new : Option (List ℕ)) (held : List ℕ) (number : ℕ)
+pub record RunsSoFar (stage : Stage) (first now : Lines) (held : List ℕ) (number : ℕ)
     (reader_old reader_new writer_old writer_new : Tally) : Type 0 where
   pub script : Script
   pub follows : Follows stage script
-  pub ran : Ran next Unread known pending out_old out_new held script number
+  pub ran : ScriptRuns first now held script number
   pub reader : WentOn reader_old reader_new
   pub writer : WentOn writer_old writer_new
 
-pub run_starts : (stage : Stage) (known out : Option (List ℕ)) (front held : List ℕ) (reader writer : Tally) → stage
-    ≡ Start
-    → front ≡ [] → held ≡ []
-    → RunsSoFar stage known (prepend_known front known) out out held 1 reader reader writer writer
-run_starts stage known out front held reader writer e none empty = record {
-  script = Unread;
-  follows = starts stage e;
-  ran = Ran-start next Unread known out front held none empty;
-  reader = WentOn-nothing reader;
-  writer = WentOn-nothing writer;
-}
+-- nothing was read and nothing is held
+pub run_starts : {stage : Stage} (first now : Lines) (front held : List ℕ) (reader writer : Tally) → stage ≡ Start
+    → now.unread ≡ prepend_known front first.unread → now.written ≡ first.written → front ≡ [] → held ≡ []
+    → RunsSoFar stage first now held 1 reader reader writer writer
+run_starts {stage} first now front held reader writer e ahead same none empty =
+    let ran = Ran-start next Unread first.unread first.written front held none empty in record {
+      script = Unread;
+      follows = starts stage e;
+      ran = rw (ahead, same) ran;
+      reader = WentOn-nothing reader;
+      writer = WentOn-nothing writer;
+    }
 
-module _ {stage : Stage} {known pending a b : Option (List ℕ)} {held : List ℕ} {number : ℕ} {r0 r1 w0 w1 : Tally}
-    (so_far : RunsSoFar stage known pending a b held number r0 r1 w0 w1) where
-  -- some of what is held was written
-  pub run_moves : (c : Option (List ℕ)) (left : List ℕ) (w2 : Tally) → Moved b c held left → WentOn w1 w2
-      → RunsSoFar stage known pending a c left number r0 r1 w0 w2
+module _ {stage : Stage} {first now : Lines} {held : List ℕ} {number : ℕ} {r0 r1 w0 w1 : Tally}
+    (so_far : RunsSoFar stage first now held number r0 r1 w0 w1) where
+  -- some of what is held was written, and nothing was read
+  pub run_moves : (c : Option (List ℕ)) (left : List ℕ) (w2 : Tally) → Moved now.written c held left → WentOn w1 w2
+      → RunsSoFar stage first (record { unread = now.unread; at_device = now.at_device; written = c }) left number
+      r0 r1 w0 w2
   run_moves c left w2 moved on = record {
     script = so_far.script;
     follows = so_far.follows;
@@ -75,10 +78,10 @@ module _ {stage : Stage} {known pending a b : Option (List ℕ)} {held : List �
   }
 
   -- one good line more
-  pub run_goes_on : (after : Stage) (left : Option (List ℕ)) (holds : List ℕ) (r2 : Tally) (script : Script)
-      → Follows after script → Ran next Unread known left a b holds script (number + 1) → WentOn r1 r2
-      → RunsSoFar after known left a b holds (number + 1) r0 r2 w0 w1
-  run_goes_on after left holds r2 script follows ran on = record {
+  pub run_goes_on : (after : Stage) (later : Lines) (holds : List ℕ) (r2 : Tally) (script : Script)
+      → Follows after script → ScriptRuns first later holds script (number + 1) → WentOn r1 r2
+      → RunsSoFar after first later holds (number + 1) r0 r2 w0 w1
+  run_goes_on after later holds r2 script follows ran on = record {
     script = script;
     follows = follows;
     ran = ran;
@@ -87,41 +90,52 @@ module _ {stage : Stage} {known pending a b : Option (List ℕ)} {held : List �
   }
 
   -- a front of what is held was written, and no more
-  pub run_breaks : (c : Option (List ℕ)) → AppendsFront b c held → WroteFront script_text known a c
+  pub run_breaks : (c : Option (List ℕ)) → AppendsFront now.written c held
+      → WroteFront script_text first.unread first.written c
   run_breaks c part = Ran-front so_far.ran c part
 
-  pub run_stops : WroteFront script_text known a b
-  run_stops = Ran-front so_far.ran b (AppendsFront-nothing b held)
+  pub run_stops : WroteFront script_text first.unread first.written now.written
+  run_stops = Ran-front so_far.ran now.written (AppendsFront-nothing now.written held)
 
   -- there is no number for another line
-  pub run_is_endless : (c : Option (List ℕ)) → 2 ^ 64 - 1 ≤ number → Appends b c held → IsEndless known a c
-  run_is_endless c many wrote =
+  pub run_is_endless : (left c : Option (List ℕ)) → 2 ^ 64 - 1 ≤ number → Appends now.written c held
+      → IsEndless first (devices left c)
+  run_is_endless left c many wrote =
       let ran = so_far.ran in (
         ran.done,
-        pending,
+        now.unread,
         ran.read,
         omega (arith, Ran-number ran),
         Ran-good ran,
-        subst (Appends a c) (sym (Ran-text ran)) (Appends-trans a b c ran.sent held ran.wrote wrote),
+        subst (Appends first.written c) (sym (Ran-text ran))
+            (Appends-trans first.written now.written c ran.sent held ran.wrote wrote),
       )
+
+  -- the moments between which it was run
+  abbrev pub first_of : Lines
+  first_of = first
+
+  abbrev pub written_of : Option (List ℕ)
+  written_of = now.written
 
 -- ---- how a script ends
 
-pub ends_bad : {known a b : Option (List ℕ)} {held : List ℕ} {number : ℕ} (reader c : Option (List ℕ))
-    → Ended next Unread known a b held (Some number) → Appends b c held →
-    ScriptRan known reader a c (Err (BadScript number))
-ends_bad reader c end wrote = let whole = Ended-whole end c wrote in (whole.input, whole.has, whole.stops, whole.wrote)
+pub ends_bad : {known a b : Option (List ℕ)} {held : List ℕ} {number : ℕ} (left c : Option (List ℕ))
+    → Ended next Unread known a b held (Some number) → Appends b c held
+    → ScriptRan (devices known a) (devices left c) (Err (BadScript number))
+ends_bad left c end wrote = let whole = Ended-whole end c wrote in (whole.input, whole.has, whole.stops, whole.wrote)
 
-pub ends_good : {known a b : Option (List ℕ)} {held : List ℕ} (reader c : Option (List ℕ))
-    → Ended next Unread known a b held None → IsAtEnd reader → Appends b c held → ScriptRan known reader a c (Ok tt)
-ends_good reader c end at_end wrote = let whole = Ended-whole end c wrote in
-    (whole.input, whole.has, at_end, whole.stops, whole.wrote)
+pub ends_good : {known a b : Option (List ℕ)} {held : List ℕ} (left c : Option (List ℕ))
+    → Ended next Unread known a b held None → IsAtEnd left → Appends b c held
+    → ScriptRan (devices known a) (devices left c) (Ok tt)
+ends_good left c end at_end wrote =
+    let whole = Ended-whole end c wrote in (whole.input, whole.has, at_end, whole.stops, whole.wrote)
 
 -- reading ahead has failed
-pub ends_ahead : (known reader a b : Option (List ℕ)) (f : AheadFault) → WroteFront script_text known a b
-    → ScriptRan known reader a b (Err (of_ahead_fault f))
-ends_ahead known reader a b ahead.Device wrote = wrote
-ends_ahead known reader a b ahead.Memory wrote = wrote
+pub ends_ahead : (known left a b : Option (List ℕ)) (f : AheadFault) → WroteFront script_text known a b
+    → ScriptRan (devices known a) (devices left b) (Err (of_ahead_fault f))
+ends_ahead known left a b ahead.Device wrote = wrote
+ends_ahead known left a b ahead.Memory wrote = wrote
 
 pub ahead_device : (t u : Tally) (f : AheadFault) → ReadAhead {X = Took} t u (Err f) → of_ahead_fault f ≡ Device
     → ReaderFailed t u
