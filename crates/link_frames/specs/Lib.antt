@@ -12,6 +12,7 @@ pub mod Laws
 pub mod Layout
 pub mod LinePrograms
 pub mod Lines
+pub mod LinesAt
 pub mod Nexts
 pub mod Opening
 pub mod Packets

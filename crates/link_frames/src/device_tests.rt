@@ -1,3 +1,5 @@
+//! Tests of readers and writers that go wrong.
+
 use super::*;
 use std::alloc::Global;
 use std::io::{ErrorKind, Read, Write};

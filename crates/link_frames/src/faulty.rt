@@ -1,3 +1,5 @@
+//! Readers and writers that go wrong, for tests.
+
 use std::io;
 use std::io::{ErrorKind, Read, Write};
 

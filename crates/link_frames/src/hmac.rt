@@ -1,3 +1,5 @@
+//! HMAC with SHA-256.
+
 ghost use Rattle.std.specs.Prelude.{◌≡◌, ◌^◌, ◌<◌, List, ℕ, length};
 ghost use Rattle.link_frames.specs.Hmac.{padded_key, xor_each, hmac};
 ghost use Rattle.link_frames.specs.Pads.{AfterPads};
@@ -24,9 +26,9 @@ fn key_block(key: &[u8]) -> [u8; BLOCK_LEN]
 fn padded_by(pad: u8, block: &[u8; BLOCK_LEN]) -> [u8; BLOCK_LEN]
     ensures { result ≡ xor_each pad block.now }
 {
-    let mut padded = [0u8; BLOCK_LEN];
-    for i in 0..BLOCK_LEN {
-        padded[i] = block[i] ^ pad;
+    let mut padded = *block;
+    for byte in &mut padded {
+        *byte ^= pad;
     }
     padded
 }

@@ -1,3 +1,5 @@
+//! The keys that a node shares with each node.
+
 ghost use Rattle.std.specs.Prelude.{◌≡◌, ◌<◌};
 ghost use Rattle.link_frames.specs.KeyRings.{key_with};
 ghost use Rattle.link_frames.specs.Keys.{KeysDue};

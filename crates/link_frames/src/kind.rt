@@ -1,3 +1,5 @@
+//! The three kinds of message.
+
 /// The kinds of message of authenticated double-echo broadcast.
 #[derive(Clone, Copy, Debug, PartialEq, Eq, Hash)]
 pub enum Kind {

@@ -1,3 +1,5 @@
+//! Frames that are opened: the packet, or the first fault.
+
 ghost use Rattle.std.specs.Prelude.{◌≡◌, ◌+◌, ◌<◌, ◌≤◌, length, IfOk};
 ghost use Rattle.std.specs.Str.{bytes_eq};
 ghost use Rattle.link_frames.specs.Frames.{IsFrameFor};
@@ -132,8 +134,8 @@ fn is_same_tag(a: &[u8; TAG_LEN], b: &[u8; TAG_LEN]) -> bool
     ensures { result ≡ bytes_eq a.now b.now }
 {
     let mut differences = 0;
-    for i in 0..TAG_LEN {
-        differences |= a[i] ^ b[i];
+    for (i, byte) in a.iter().enumerate() {
+        differences |= byte ^ b[i];
     }
     differences == 0
 }

@@ -1,3 +1,5 @@
+//! Messages of the broadcast, and packets that carry them from node to node.
+
 ghost use Rattle.std.specs.Prelude.{◌≡◌, ◌≢◌, ◌<◌, ◌≤◌, ◌⊎◌, IfSome, IfNone};
 ghost use Rattle.link_frames.specs.Packets.{IsPacket, place_count, packet_of, message_of, is_relayed, packet_due};
 

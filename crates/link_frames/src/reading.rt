@@ -1,3 +1,5 @@
+//! Frames that are read one by one.
+
 ghost use Rattle.std.specs.Prelude.{◌≡◌};
 ghost use Rattle.link_frames.specs.FrameReads.{FrameRead};
 ghost use Rattle.link_frames.specs.Watching.{watched_inner, watched_tally};

@@ -1,3 +1,5 @@
+//! Frames that are made.
+
 ghost use Rattle.std.specs.Prelude.{◌≡◌, ◌<◌, ◌++◌};
 ghost use Rattle.link_frames.specs.Frames.{header, fields_of, frame};
 ghost use Rattle.link_frames.specs.KeyRings.{key_with};

@@ -1,3 +1,5 @@
+//! Tests of keys, frames, packets and held lines.
+
 ghost use Rattle.std.specs.Prelude.{◌≡◌, ◌<◌, ◌≤◌, IfOk};
 
 use super::*;
@@ -365,4 +367,24 @@ fn cut_frames_are_truncated(rt: HostRuntime) {
         assert!(rt; came == due, "one byte a read, cut after {count}: {came:?}");
     }
     assert!(rt; read_bytewise(&frame) == Ok(Some(frame)));
+}
+
+#[test]
+fn held_lines_are_written_when_none_is_ahead(rt: HostRuntime) -> Result<(), Fail> {
+    let mut reader = Watched::new(b"one\ntwo".as_slice());
+    let mut ahead = Ahead::new(rt.alloc());
+    let mut held = Held::new(rt.alloc());
+    assert!(rt; held.peek(&mut ahead, 8, &mut reader)? == Next::Line(3));
+    held.push_line("first")?;
+    let mut text = Vec::new(rt.alloc());
+    held.write_when_due(&ahead, 8, &mut Watched::new(&mut text))?;
+    assert!(rt; text.is_empty());
+
+    ahead.take(4);
+    let mut later = Held::new(rt.alloc());
+    later.push_line("second")?;
+    held.push_lines(&later)?;
+    held.write_when_due(&ahead, 8, &mut Watched::new(&mut text))?;
+    assert!(rt; text.as_slice() == b"first\nsecond\n".as_slice());
+    Ok(())
 }

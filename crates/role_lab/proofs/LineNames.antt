@@ -11,6 +11,7 @@ use Rattle.quorum_sizes.specs.Sizes.{Counts, AreSizes, name_due}
 use Rattle.role_commands.specs.Numbers.{is_space}
 use Rattle.role_commands.proofs.Exported.{split_word-word, split_word-decimal, split_word-joined}
 use Rattle.role_commands.proofs.Exported.{byte_read, byte_spelled, if_else, mapped}
+use Rattle.link_frames.specs.Lines.{space}
 use Rattle.link_frames.specs.declared.kind.Kind.{Kind}
 use Rattle.link_frames.specs.declared.kind.Kind.TheVariants.{Send, Echo, Ready}
 use Rattle.role_lab.specs.Orders.{node_number, kind_of, then_rest}
@@ -62,30 +63,30 @@ kind_spelled kind word e =
 
 pub then_rest-word : {A : Type 0} (read : List ℕ → Option A) (a : A) (word rest : List ℕ)
     → position_or_len is_space word ≡ length word → read word ≡ Some a
-    → then_rest read (word ++ (32 ∷ rest)) ≡ Some (a, rest)
+    → then_rest read (word ++ (space ∷ rest)) ≡ Some (a, rest)
 unfolding then_rest
 then_rest-word read a word rest plain is = rw (split_word-word word rest plain) (rw is refl)
 
 pub then_rest-decimal : {A : Type 0} (read : List ℕ → Option A) (a : A) (n : ℕ) (rest : List ℕ) → n < 2 ^ 64
-    → read (decimal n) ≡ Some a → then_rest read (decimal n ++ (32 ∷ rest)) ≡ Some (a, rest)
+    → read (decimal n) ≡ Some a → then_rest read (decimal n ++ (space ∷ rest)) ≡ Some (a, rest)
 unfolding then_rest
 then_rest-decimal read a n rest small is = rw (split_word-decimal n rest small) (rw is refl)
 
 pub then_rest_is : {A : Type 0} (read : List ℕ → Option A) (text : List ℕ) (p : A × List ℕ) → then_rest read text
     ≡ Some p
-    → (word : List ℕ) × (text ≡ word ++ (32 ∷ p.1)) × (read word ≡ Some p.0)
+    → (word : List ℕ) × (text ≡ word ++ (space ∷ p.1)) × (read word ≡ Some p.0)
 unfolding then_rest
 then_rest_is {A} read text p e =
     option_and_then_some _ _ _ e
     (λ words cut read_word.
     let (a, is, made) = mapped _ _ _ read_word in
-    subst (λ (q : A × List ℕ). (word : List ℕ) × (text ≡ word ++ (32 ∷ q.1)) × (read word ≡ Some q.0)) made
+    subst (λ (q : A × List ℕ). (word : List ℕ) × (text ≡ word ++ (space ∷ q.1)) × (read word ≡ Some q.0)) made
     (words.0, split_word-joined text words cut, is))
 
 -- a node
 pub node_rest_spelled : (s : Counts) (text : List ℕ) (p : ℕ × List ℕ) → then_rest (node_number s) text ≡ Some p
-    → (text ≡ decimal p.0 ++ (32 ∷ p.1)) × (p.0 < s.nodes)
+    → (text ≡ decimal p.0 ++ (space ∷ p.1)) × (p.0 < s.nodes)
 node_rest_spelled s text p e =
     let (word, cut, is) = then_rest_is (node_number s) text p e in
     let (word_is, within) = node_spelled s p.0 word is in
-    (cut ∙ ap (λ (w : List ℕ). w ++ (32 ∷ p.1)) word_is, within)
+    (cut ∙ ap (λ (w : List ℕ). w ++ (space ∷ p.1)) word_is, within)

@@ -5,9 +5,11 @@ use Rattle.std.proofs.lemmas.Option.{option_and_then_some}
 use Rattle.std.specs.Fmt.{decimal}
 use Rattle.role_commands.specs.Numbers.{number_of, narrow_number, wide_number, long_number}
 use Rattle.role_commands.proofs.Exported.{number_of_spelled, narrow_read, wide_read, long_read}
-use Rattle.role_commands.proofs.Exported.{narrow_spelled, wide_spelled, mapped, Ascii, number, ◌then◌, space}
+use Rattle.role_commands.proofs.Exported.{narrow_spelled, wide_spelled, mapped, Ascii, number, ◌then◌}
+use Rattle.role_commands.proofs.Exported.{space as space_text}
 use Rattle.role_node.specs.declared.question.Question.{Question}
 use Rattle.role_node.specs.declared.question.Question.TheVariants.{Check, RoleOperations, UserOperations}
+use Rattle.link_frames.specs.Lines.{space}
 use Rattle.role_lab.specs.Orders.{then_rest, session_and_user, session_user_and_role}
 use Rattle.role_lab.specs.Orders.{access_of, role_operations_of, user_operations_of}
 use Rattle.role_lab.specs.OrderSpellings.{at_node, two_numbers, three_numbers}
@@ -15,30 +17,33 @@ use Rattle.role_lab.proofs.LineNames.{then_rest-decimal, then_rest_is}
 
 -- where the spaces stand
 
-pub two_numbers-grouped : (a b : ℕ) → two_numbers a b ≡ decimal a ++ (32 ∷ decimal b)
+pub two_numbers-grouped : (a b : ℕ) → two_numbers a b ≡ decimal a ++ (space ∷ decimal b)
 two_numbers-grouped a b = simp append_assoc
 
-pub three_numbers-grouped : (a b c : ℕ) → three_numbers a b c ≡ decimal a ++ (32 ∷ (decimal b ++ (32 ∷ decimal c)))
+pub three_numbers-grouped : (a b c : ℕ)
+    → three_numbers a b c ≡ decimal a ++ (space ∷ (decimal b ++ (space ∷ decimal c)))
 three_numbers-grouped a b c = simp append_assoc
 
 pub four_numbers-grouped : (a b c d : ℕ)
     → decimal a ++ codes " " ++ three_numbers b c d ≡ decimal a
-    ++ (32 ∷ (decimal b ++ (32 ∷ (decimal c ++ (32 ∷ decimal d)))))
+    ++ (space ∷ (decimal b ++ (space ∷ (decimal c ++ (space ∷ decimal d)))))
 four_numbers-grouped a b c d = simp append_assoc
 
 pub at_node-grouped : (name : List ℕ) (node : ℕ) (text : List ℕ)
-    → at_node name node text ≡ name ++ (32 ∷ (decimal node ++ (32 ∷ text)))
+    → at_node name node text ≡ name ++ (space ∷ (decimal node ++ (space ∷ text)))
 at_node-grouped name node text = simp append_assoc
 
 -- reading what was written
 
-session_rest : (n : ℕ) (rest : List ℕ) → n < 2 ^ 64 → then_rest long_number (decimal n ++ (32 ∷ rest)) ≡ Some (n, rest)
+session_rest : (n : ℕ) (rest : List ℕ) → n < 2 ^ 64
+    → then_rest long_number (decimal n ++ (space ∷ rest)) ≡ Some (n, rest)
 session_rest n rest small = then_rest-decimal long_number n n rest small (long_read n small)
 
-pub wide_rest : (n : ℕ) (rest : List ℕ) → n < 2 ^ 32 → then_rest wide_number (decimal n ++ (32 ∷ rest)) ≡ Some (n, rest)
+pub wide_rest : (n : ℕ) (rest : List ℕ) → n < 2 ^ 32
+    → then_rest wide_number (decimal n ++ (space ∷ rest)) ≡ Some (n, rest)
 wide_rest n rest small = then_rest-decimal wide_number n n rest (omega arith) (wide_read n small)
 
-pub narrow_rest : (n : ℕ) (rest : List ℕ) → n < 2 ^ 16 → then_rest narrow_number (decimal n ++ (32 ∷ rest))
+pub narrow_rest : (n : ℕ) (rest : List ℕ) → n < 2 ^ 16 → then_rest narrow_number (decimal n ++ (space ∷ rest))
     ≡ Some (n, rest)
 narrow_rest n rest small = then_rest-decimal narrow_number n n rest (omega arith) (narrow_read n small)
 
@@ -54,7 +59,7 @@ pub session_user_and_role-numbers : (session user role : ℕ) → session < 2 ^ 
 unfolding session_user_and_role
 session_user_and_role-numbers session user role long wide narrow =
     ap session_user_and_role (three_numbers-grouped session user role)
-    ∙ rw (session_rest session (decimal user ++ (32 ∷ decimal role)) long)
+    ∙ rw (session_rest session (decimal user ++ (space ∷ decimal role)) long)
     (rw (wide_rest user (decimal role) wide) (rw (narrow_read role narrow) refl))
 
 pub access_of-numbers : (session user operation object : ℕ)
@@ -64,8 +69,8 @@ pub access_of-numbers : (session user operation object : ℕ)
 unfolding access_of
 access_of-numbers session user operation object long wide narrow fits =
     ap access_of (four_numbers-grouped session user operation object)
-    ∙ rw (session_rest session (decimal user ++ (32 ∷ (decimal operation ++ (32 ∷ decimal object)))) long)
-    (rw (wide_rest user (decimal operation ++ (32 ∷ decimal object)) wide)
+    ∙ rw (session_rest session (decimal user ++ (space ∷ (decimal operation ++ (space ∷ decimal object)))) long)
+    (rw (wide_rest user (decimal operation ++ (space ∷ decimal object)) wide)
     (rw (narrow_rest operation (decimal object) narrow) (rw (wide_read object fits) refl)))
 
 pub role_operations_of-numbers : (role object : ℕ) → role < 2 ^ 16 → object < 2 ^ 32
@@ -85,32 +90,32 @@ user_operations_of-numbers user object wide fits =
 -- writing what was read
 
 pub then_rest_spelled : (most : ℕ) (text : List ℕ) (p : ℕ × List ℕ) → then_rest (number_of most) text ≡ Some p
-    → (text ≡ decimal p.0 ++ (32 ∷ p.1)) × (p.0 ≤ most)
+    → (text ≡ decimal p.0 ++ (space ∷ p.1)) × (p.0 ≤ most)
 then_rest_spelled most text p e =
     let (word, cut, is) = then_rest_is (number_of most) text p e in
     let (word_is, small) = number_of_spelled most p.0 word is in
-    (cut ∙ ap (λ (w : List ℕ). w ++ (32 ∷ p.1)) word_is, small)
+    (cut ∙ ap (λ (w : List ℕ). w ++ (space ∷ p.1)) word_is, small)
 
 -- a number with what stands behind its space
 
 session_rest_spelled : (text : List ℕ) (p : ℕ × List ℕ) → then_rest long_number text ≡ Some p
-    → (text ≡ decimal p.0 ++ (32 ∷ p.1)) × (p.0 < 2 ^ 64)
+    → (text ≡ decimal p.0 ++ (space ∷ p.1)) × (p.0 < 2 ^ 64)
 session_rest_spelled text p e = let s = then_rest_spelled (2 ^ 64 - 1) text p e in (s.0, omega arith)
 
 pub wide_rest_spelled : (text : List ℕ) (p : ℕ × List ℕ) → then_rest wide_number text ≡ Some p
-    → (text ≡ decimal p.0 ++ (32 ∷ p.1)) × (p.0 < 2 ^ 32)
+    → (text ≡ decimal p.0 ++ (space ∷ p.1)) × (p.0 < 2 ^ 32)
 wide_rest_spelled text p e = let s = then_rest_spelled (2 ^ 32 - 1) text p e in (s.0, omega arith)
 
 pub narrow_rest_spelled : (text : List ℕ) (p : ℕ × List ℕ) → then_rest narrow_number text ≡ Some p
-    → (text ≡ decimal p.0 ++ (32 ∷ p.1)) × (p.0 < 2 ^ 16)
+    → (text ≡ decimal p.0 ++ (space ∷ p.1)) × (p.0 < 2 ^ 16)
 narrow_rest_spelled text p e = let s = then_rest_spelled (2 ^ 16 - 1) text p e in (s.0, omega arith)
 
 -- a number, a space and what is written behind it
-pub joined : (text : List ℕ) (a : ℕ) (rest tail : List ℕ) → text ≡ decimal a ++ (32 ∷ rest) → rest ≡ tail
+pub joined : (text : List ℕ) (a : ℕ) (rest tail : List ℕ) → text ≡ decimal a ++ (space ∷ rest) → rest ≡ tail
     → text ≡ decimal a ++ codes " " ++ tail
 joined text a rest tail cut same =
-    let grouped : decimal a ++ codes " " ++ tail ≡ decimal a ++ (32 ∷ tail) = simp append_assoc in
-    cut ∙ ap (λ (w : List ℕ). decimal a ++ (32 ∷ w)) same ∙ sym grouped
+    let grouped : decimal a ++ codes " " ++ tail ≡ decimal a ++ (space ∷ tail) = simp append_assoc in
+    cut ∙ ap (λ (w : List ℕ). decimal a ++ (space ∷ w)) same ∙ sym grouped
 
 pub session_and_user_spelled : (text : List ℕ) (n : ℕ × ℕ) → session_and_user text ≡ Some n
     → (text ≡ two_numbers n.0 n.1) × (n.0 < 2 ^ 64) × (n.1 < 2 ^ 32)
@@ -212,7 +217,7 @@ user_operations_of_spelled text q e =
 -- words and numbers are text
 
 pub two_text : (a b : ℕ) → a < 2 ^ 64 → b < 2 ^ 64 → Ascii (two_numbers a b)
-two_text a b p q = number a p then space then number b q
+two_text a b p q = number a p then space_text then number b q
 
 pub three_text : (a b c : ℕ) → a < 2 ^ 64 → b < 2 ^ 64 → c < 2 ^ 64 → Ascii (three_numbers a b c)
-three_text a b c p q r = number a p then space then two_text b c q r
+three_text a b c p q r = number a p then space_text then two_text b c q r

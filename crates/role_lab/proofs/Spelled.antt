@@ -18,6 +18,7 @@ use Rattle.role_commands.specs.Words.{spelling, IsCommand}
 use Rattle.role_commands.specs.declared.command.Command.{Command}
 use Rattle.role_commands.proofs.Exported.{split_word-word, split_word-decimal, split_word-joined, byte_read}
 use Rattle.role_commands.proofs.Exported.{byte_spelled, if_else, command_of-spelling, command_of_spelled}
+use Rattle.link_frames.specs.Lines.{space}
 use Rattle.link_frames.specs.declared.kind.Kind.{Kind}
 use Rattle.link_frames.specs.declared.kind.Kind.TheVariants.{Send, Echo, Ready}
 use Rattle.bracha_instance.specs.Broadcast.{Take}
@@ -38,10 +39,10 @@ sizes_due-AreSizes s are =
 pub sizes_of_line-spelling : SizesAreRead
 unfolding sizes_of_line sizes_of_numbers
 sizes_of_line-spelling s are =
-    let grouped : sizes_spelling s ≡ codes "instance" ++ (32 ∷ (decimal s.nodes ++ (32 ∷ decimal s.liars))) =
+    let grouped : sizes_spelling s ≡ codes "instance" ++ (space ∷ (decimal s.nodes ++ (space ∷ decimal s.liars))) =
     simp append_assoc in
     ap sizes_of_line grouped
-    ∙ rw (split_word-word (codes "instance") (decimal s.nodes ++ (32 ∷ decimal s.liars)) refl)
+    ∙ rw (split_word-word (codes "instance") (decimal s.nodes ++ (space ∷ decimal s.liars)) refl)
     (rw (split_word-decimal s.nodes (decimal s.liars) (omega arith))
     (rw (byte_read s.nodes (omega arith), byte_read s.liars (omega arith)) (ap result_ok (sizes_due-AreSizes s are))))
 
@@ -53,7 +54,7 @@ module _ (s : Counts) (kind : Kind) (from : ℕ) (c : Command) (within : from < 
   unfolding take_from said
   take_from-spelling = rw (name_due-within s from within, command_of-spelling c is) refl
 
-  vote_of-spelling : from < 2 ^ 8 → vote_of s kind (decimal from ++ (32 ∷ spelling c)) ≡ Some said
+  vote_of-spelling : from < 2 ^ 8 → vote_of s kind (decimal from ++ (space ∷ spelling c)) ≡ Some said
   unfolding vote_of
   vote_of-spelling small =
       rw (split_word-decimal from (spelling c) (omega arith)) (rw (byte_read from small) take_from-spelling)
@@ -63,22 +64,22 @@ named_spelling : (s : Counts) (kind : Kind) (from : ℕ) (c : Command) → AreSi
     → take_of_line s (said_spelling kind from c) ≡ Some (record { kind = kind; from = from; command = c })
 unfolding take_of_line named_take said
 named_spelling s Send from c are within owners is =
-    let grouped : said_spelling Send from c ≡ codes "send" ++ (32 ∷ spelling c) = refl in
+    let grouped : said_spelling Send from c ≡ codes "send" ++ (space ∷ spelling c) = refl in
     ap (λ (l : List ℕ). take_of_line s l) grouped
     ∙ rw (split_word-word (codes "send") (spelling c) refl)
     (subst (λ (i : ℕ). take_from s Send i (spelling c) ≡ Some (said s Send from c within is)) (owners refl)
     (take_from-spelling s Send from c within is))
 named_spelling s Echo from c are within owners is =
-    let grouped : said_spelling Echo from c ≡ codes "echo" ++ (32 ∷ (decimal from ++ (32 ∷ spelling c))) =
+    let grouped : said_spelling Echo from c ≡ codes "echo" ++ (space ∷ (decimal from ++ (space ∷ spelling c))) =
     simp append_assoc in
     ap (λ (l : List ℕ). take_of_line s l) grouped
-    ∙ rw (split_word-word (codes "echo") (decimal from ++ (32 ∷ spelling c)) refl)
+    ∙ rw (split_word-word (codes "echo") (decimal from ++ (space ∷ spelling c)) refl)
     (vote_of-spelling s Echo from c within is (omega arith))
 named_spelling s Ready from c are within owners is =
-    let grouped : said_spelling Ready from c ≡ codes "ready" ++ (32 ∷ (decimal from ++ (32 ∷ spelling c))) =
+    let grouped : said_spelling Ready from c ≡ codes "ready" ++ (space ∷ (decimal from ++ (space ∷ spelling c))) =
     simp append_assoc in
     ap (λ (l : List ℕ). take_of_line s l) grouped
-    ∙ rw (split_word-word (codes "ready") (decimal from ++ (32 ∷ spelling c)) refl)
+    ∙ rw (split_word-word (codes "ready") (decimal from ++ (space ∷ spelling c)) refl)
     (vote_of-spelling s Ready from c within is (omega arith))
 
 pub take_of_line-spelling : TakesAreRead
@@ -133,10 +134,10 @@ sizes_of_line_spelled line s e =
     option_and_then_some (λ (f : ℕ). result_ok (sizes_due n f)) (byte_number numbers.1) s read_n
     (λ f is_f read_f.
     let due = sizes_due_is n f s (ok_of _ _ read_f) in
-    let joined : words.1 ≡ decimal s.nodes ++ (32 ∷ decimal s.liars) =
+    let joined : words.1 ≡ decimal s.nodes ++ (space ∷ decimal s.liars) =
     split_word-joined words.1 numbers cut_numbers
     ∙ rw ((byte_spelled n numbers.0 is_n).0, (byte_spelled f numbers.1 is_f).0, due.0, due.1) refl in
-    let grouped : sizes_spelling s ≡ codes "instance" ++ (32 ∷ (decimal s.nodes ++ (32 ∷ decimal s.liars))) =
+    let grouped : sizes_spelling s ≡ codes "instance" ++ (space ∷ (decimal s.nodes ++ (space ∷ decimal s.liars))) =
     simp append_assoc in
     (split_word-joined line words cut ∙ rw (name, joined) refl ∙ sym grouped, due.2)))))
 
@@ -180,7 +181,7 @@ take_from_spelled s kind index text t e =
 record ReadVote (s : Counts) (kind : Kind) (text : List ℕ) (t : Take) : Type 0 where
   kind_is : t.kind ≡ kind
   within : t.from < s.nodes
-  text_is : text ≡ decimal t.from ++ (32 ∷ spelling t.command)
+  text_is : text ≡ decimal t.from ++ (space ∷ spelling t.command)
   is : IsCommand t.command
 
 vote_of_spelled : (s : Counts) (kind : Kind) (text : List ℕ) (t : Take) → vote_of s kind text ≡ Some t →
@@ -203,7 +204,7 @@ vote_of_spelled s kind text t e =
     }))
 
 Named : Counts → List ℕ → List ℕ → Take → Type 0
-Named s name text t = (name ++ (32 ∷ text) ≡ take_spelling t) × IsTake s t
+Named s name text t = (name ++ (space ∷ text) ≡ take_spelling t) × IsTake s t
 
 named_send : (s : Counts) (name text : List ℕ) (t : Take) → bytes_eq name (codes "send") ≡ true
     → take_from s Send owner text ≡ Some t → Named s name text t
@@ -211,13 +212,13 @@ unfolding Named
 named_send s name text t same e =
     let (said, from) = take_from_spelled s Send owner text t e in
     let is : name ≡ codes "send" = (bytes_eq-Decides name (codes "send")).0 same in
-    let grouped : said_spelling Send t.from t.command ≡ codes "send" ++ (32 ∷ spelling t.command) = refl in (
+    let grouped : said_spelling Send t.from t.command ≡ codes "send" ++ (space ∷ spelling t.command) = refl in (
       rw (is, said.text_is) refl ∙ sym grouped ∙ ap (λ k. said_spelling k t.from t.command) (sym said.kind_is),
       ((said.within, λ _. from), said.is),
     )
 
 named_vote : (s : Counts) (name text word : List ℕ) (kind : Kind) (t : Take) → kind ≢ Send
-    → ((from : ℕ) (c : Command) → said_spelling kind from c ≡ word ++ (32 ∷ (decimal from ++ (32 ∷ spelling c))))
+    → ((from : ℕ) (c : Command) → said_spelling kind from c ≡ word ++ (space ∷ (decimal from ++ (space ∷ spelling c))))
     → bytes_eq name word ≡ true → vote_of s kind text ≡ Some t → Named s name text t
 unfolding Named
 named_vote s name text word kind t other grouped same e =

@@ -6,6 +6,7 @@ use Rattle.std.specs.Fmt.{decimal}
 use Rattle.quorum_sizes.specs.Sizes.{Counts, AreSizes}
 use Rattle.role_commands.proofs.Exported.{split_word-word, split_word-joined, byte_read}
 use Rattle.role_commands.proofs.Exported.{byte_spelled, mapped, behind_name, by_name, by_name_made}
+use Rattle.link_frames.specs.Lines.{space}
 use Rattle.role_lab.specs.Grammar.{sizes_of_numbers, sizes_of_line}
 use Rattle.role_lab.specs.Orders.{node_number, cluster_of_line, role_and_owner, named_setup, setup_of_line}
 use Rattle.role_lab.specs.Spellings.{sizes_spelling}
@@ -19,14 +20,14 @@ use Rattle.role_lab.proofs.Spelled.{sizes_of_line-spelling, sizes_of_line_spelle
 
 -- ---- the first line: `N F` stands behind `cluster` as behind `instance`
 
-numbers_line : (text : List ℕ) → sizes_of_line (codes "instance" ++ (32 ∷ text)) ≡ sizes_of_numbers text
+numbers_line : (text : List ℕ) → sizes_of_line (codes "instance" ++ (space ∷ text)) ≡ sizes_of_numbers text
 unfolding sizes_of_line
 numbers_line text = rw (split_word-word (codes "instance") text refl) refl
 
-sizes-grouped : (s : Counts) → sizes_spelling s ≡ codes "instance" ++ (32 ∷ two_numbers s.nodes s.liars)
+sizes-grouped : (s : Counts) → sizes_spelling s ≡ codes "instance" ++ (space ∷ two_numbers s.nodes s.liars)
 sizes-grouped s = simp append_assoc
 
-cluster-grouped : (s : Counts) → cluster_spelling s ≡ codes "cluster" ++ (32 ∷ two_numbers s.nodes s.liars)
+cluster-grouped : (s : Counts) → cluster_spelling s ≡ codes "cluster" ++ (space ∷ two_numbers s.nodes s.liars)
 cluster-grouped s = simp append_assoc
 
 sizes_of_numbers-numbers : (s : Counts) → AreSizes s → sizes_of_numbers (two_numbers s.nodes s.liars) ≡ Some s
@@ -37,7 +38,7 @@ sizes_of_numbers-numbers s are =
 sizes_of_numbers_spelled : (text : List ℕ) (s : Counts) → sizes_of_numbers text ≡ Some s
     → (text ≡ two_numbers s.nodes s.liars) × AreSizes s
 sizes_of_numbers_spelled text s e =
-    let spelled = sizes_of_line_spelled (codes "instance" ++ (32 ∷ text)) s (numbers_line text ∙ e) in
+    let spelled = sizes_of_line_spelled (codes "instance" ++ (space ∷ text)) s (numbers_line text ∙ e) in
     (ap (drop 9) (spelled.0 ∙ sizes-grouped s), spelled.1)
 
 pub cluster_of_line-spelling : ClustersAreRead
@@ -51,11 +52,11 @@ unfolding cluster_of_line
 cluster_of_line_spelled line s e =
     let (text, line_is, read) = behind_name (codes "cluster") line sizes_of_numbers s e in
     let (numbers, are) = sizes_of_numbers_spelled text s read in
-    (line_is ∙ ap (λ (w : List ℕ). codes "cluster" ++ (32 ∷ w)) numbers ∙ sym (cluster-grouped s), are)
+    (line_is ∙ ap (λ (w : List ℕ). codes "cluster" ++ (space ∷ w)) numbers ∙ sym (cluster-grouped s), are)
 
 -- ---- roles and liars
 
-role-grouped : (role owner : ℕ) → setup_spelling (Owned role owner) ≡ codes "role" ++ (32 ∷ two_numbers role owner)
+role-grouped : (role owner : ℕ) → setup_spelling (Owned role owner) ≡ codes "role" ++ (space ∷ two_numbers role owner)
 role-grouped role owner = simp append_assoc
 
 role_and_owner-numbers : (role owner : ℕ) → role < 2 ^ 16 → owner < 2 ^ 8
@@ -75,7 +76,7 @@ setup_of_line-spelling s (Liar node) are is =
 
 -- of what was read behind the name of a line
 record SetUp (s : Counts) (name text : List ℕ) (setup : Setup) : Type 0 where
-  line_is : name ++ (32 ∷ text) ≡ setup_spelling setup
+  line_is : name ++ (space ∷ text) ≡ setup_spelling setup
   is : IsSetup s setup
 
 role_said : (s : Counts) (text : List ℕ) (setup : Setup) → role_and_owner text ≡ Some setup
@@ -90,7 +91,7 @@ role_said s text setup e =
     let numbers = joined text role.0 role.1 (decimal owner) cut last in
     subst (SetUp s (codes "role") text) made
     (record {
-      line_is = ap (λ (w : List ℕ). codes "role" ++ (32 ∷ w)) numbers ∙ sym (role-grouped role.0 owner);
+      line_is = ap (λ (w : List ℕ). codes "role" ++ (space ∷ w)) numbers ∙ sym (role-grouped role.0 owner);
       is = (narrow, small);
     }))
 
@@ -98,7 +99,7 @@ liar_said : (s : Counts) (text : List ℕ) (node : ℕ) → node_number s text �
     SetUp s (codes "liar") text (Liar node)
 liar_said s text node e =
     let (word, within) = node_spelled s node text e in
-    record { line_is = ap (λ (w : List ℕ). codes "liar" ++ (32 ∷ w)) word; is = within }
+    record { line_is = ap (λ (w : List ℕ). codes "liar" ++ (space ∷ w)) word; is = within }
 
 pub setup_of_line_spelled : SetupsAreSpelled
 unfolding setup_of_line named_setup

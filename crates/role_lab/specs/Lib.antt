@@ -10,8 +10,6 @@ pub mod OrderTexts
 pub mod Scripts
 pub mod Laws
 pub mod Statuses
-pub mod Flags
-pub mod Inside
 pub mod Stages
-pub mod Steps
+pub mod inside
 pub mod Runs

@@ -1,7 +1,7 @@
 -- The lines of a script of a cluster: `cluster N F` first, then `role R OWNER` and `liar I`, and then what is done to
 -- the cluster and what is asked of it. The laws of `one_spelling_of_orders` say that a line has one spelling, but for
 -- the case of the letters among hexadecimal digits.
-use Rattle.std.specs.Prelude.{ℕ, ◌==◌, if◌then◌else◌, List, [], length, codes}
+use Rattle.std.specs.Prelude.{ℕ, ◌==◌, if◌then◌else◌, List, [], ◌∷◌, length, codes}
 use Rattle.std.specs.Prelude.{Option, Some, None, option_and_then, option_map}
 use Rattle.std.specs.Result.{result_ok}
 use Rattle.std.specs.Str.{bytes_eq}
@@ -18,7 +18,7 @@ use Rattle.role_node.specs.declared.question.Question.TheVariants.{Check, Assign
 use Rattle.role_node.specs.declared.question.Question.TheVariants.{RolePermissions, UserPermissions, RoleOperations}
 use Rattle.role_node.specs.declared.question.Question.TheVariants.{UserOperations, SessionRoles, SessionPermissions}
 use Rattle.byz_world.specs.declared.step.Step.TheVariants.{Issue, Give, Lie, Bytes, Client}
-use Rattle.role_lab.specs.Reads.{◌>>=◌}
+use Rattle.role_lab.specs.Reads.{◌>>=◌, by_its_name}
 use Rattle.role_lab.specs.Grammar.{sizes_of_numbers}
 use Rattle.role_lab.specs.declared.orders.Setup.{Setup}
 use Rattle.role_lab.specs.declared.orders.Setup.TheVariants.{Owned, Liar}
@@ -101,18 +101,21 @@ user_operations_of text = do
   user ← then_rest wide_number text
   option_map (λ object. UserOperations user.0 object) (wide_number user.1)
 
--- the listing of a name and the numbers behind it
+-- the listings: the name of each, and how the numbers behind it are read
+abbrev pub listings : List (List ℕ × (List ℕ → Option Question))
+listings =
+    (codes "users", λ text. option_map AssignedUsers (narrow_number text))
+    ∷ (codes "roles", λ text. option_map AssignedRoles (wide_number text))
+    ∷ (codes "permissions", λ text. option_map RolePermissions (narrow_number text))
+    ∷ (codes "user-permissions", λ text. option_map UserPermissions (wide_number text))
+    ∷ (codes "operations", role_operations_of)
+    ∷ (codes "user-operations", user_operations_of)
+    ∷ (codes "session-roles", λ text. option_map SessionRoles (long_number text))
+    ∷ (codes "session-permissions", λ text. option_map SessionPermissions (long_number text))
+    ∷ []
+
 unfoldable pub named_listing : List ℕ → List ℕ → Option Question
-named_listing name text =
-    if bytes_eq name (codes "users") then option_map AssignedUsers (narrow_number text)
-    else (if bytes_eq name (codes "roles") then option_map AssignedRoles (wide_number text)
-    else (if bytes_eq name (codes "permissions") then option_map RolePermissions (narrow_number text)
-    else (if bytes_eq name (codes "user-permissions") then option_map UserPermissions (wide_number text)
-    else (if bytes_eq name (codes "operations") then role_operations_of text
-    else (if bytes_eq name (codes "user-operations") then user_operations_of text
-    else (if bytes_eq name (codes "session-roles") then option_map SessionRoles (long_number text)
-    else (if bytes_eq name (codes "session-permissions") then option_map SessionPermissions (long_number text)
-    else None)))))))
+named_listing name text = by_its_name listings name text
 
 unfoldable pub listing_of : List ℕ → Option Question
 listing_of text = do
@@ -136,22 +139,27 @@ agreement_of s one text = do
   other ← then_rest (node_number s) text
   option_map (λ owner. Agree one other.0 owner) (node_number s other.1)
 
--- what is done or asked at a node, by the name of the line and what stands behind the node
+-- what is asked at a node: the name of the line, and how what stands behind the node is read
+abbrev pub questions_at : Counts → ℕ → List (List ℕ × (List ℕ → Option Order))
+questions_at s node =
+    (codes "check", λ text. option_map (Ask node) (access_of text))
+    ∷ (codes "list", λ text. option_map (Ask node) (listing_of text))
+    ∷ (codes "reach", λ text. option_map (Reach node) (node_number s text))
+    ∷ (codes "agree", agreement_of s node)
+    ∷ []
+
+-- the same of what is done or asked there
+abbrev pub orders_at : Counts → ℕ → List (List ℕ × (List ℕ → Option Order))
+orders_at s node =
+    (codes "issue", λ text. option_map (λ c. Do (Issue node c)) (command_of text))
+    ∷ (codes "open", λ text. option_map (λ user. Do (Client node (Open user))) (wide_number text))
+    ∷ (codes "activate", λ text. option_map (λ n. Do (Client node (Activate n.0 n.1 n.2))) (session_user_and_role text))
+    ∷ (codes "drop", λ text. option_map (λ n. Do (Client node (DropRole n.0 n.1 n.2))) (session_user_and_role text))
+    ∷ (codes "close", λ text. option_map (λ n. Do (Client node (Close n.0 n.1))) (session_and_user text))
+    ∷ questions_at s node
+
 unfoldable pub order_at_node : Counts → List ℕ → ℕ → List ℕ → Option Order
-order_at_node s name node text =
-    if bytes_eq name (codes "issue") then option_map (λ c. Do (Issue node c)) (command_of text)
-    else (if bytes_eq name (codes "open") then option_map (λ user. Do (Client node (Open user))) (wide_number text)
-    else (if bytes_eq name (codes "activate")
-    then option_map (λ n. Do (Client node (Activate n.0 n.1 n.2))) (session_user_and_role text)
-    else (if bytes_eq name (codes "drop")
-    then option_map (λ n. Do (Client node (DropRole n.0 n.1 n.2))) (session_user_and_role text)
-    else (if bytes_eq name (codes "close") then option_map (λ n. Do (Client node (Close n.0 n.1)))
-    (session_and_user text)
-    else (if bytes_eq name (codes "check") then option_map (Ask node) (access_of text)
-    else (if bytes_eq name (codes "list") then option_map (Ask node) (listing_of text)
-    else (if bytes_eq name (codes "reach") then option_map (Reach node) (node_number s text)
-    else (if bytes_eq name (codes "agree") then agreement_of s node text
-    else None))))))))
+order_at_node s name node text = by_its_name (orders_at s node) name text
 
 -- `I ..`, where I is one of the nodes
 unfoldable pub order_of_node : Counts → List ℕ → List ℕ → Option Order

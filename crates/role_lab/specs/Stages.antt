@@ -5,7 +5,7 @@ use Rattle.bracha_instance.specs.States.{state}
 use Rattle.bracha_instance.specs.Taking.{SendsAreFrom}
 use Rattle.byz_world.specs.Worlds.{too_many_lie}
 use Rattle.role_lab.specs.Grammar.{owner}
-use Rattle.role_lab.specs.Inside.{lab_in}
+use Rattle.role_lab.specs.inside.Kept.{lab_in}
 use Rattle.role_lab.specs.Labs.{lab_sizes}
 use Rattle.role_lab.specs.Scripts.{Script, Unread, OfInstance, OfSetup, OfCluster}
 use Rattle.role_lab.specs.declared.stage.Stage.{Stage}

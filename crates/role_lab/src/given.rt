@@ -2,7 +2,7 @@
 
 ghost use Rattle.std.specs.Prelude.{◌≡◌, ℕ, ◌<◌, ◌≤◌, ◌^◌, true, false, not, find, length, OnOk, IfSome};
 ghost use Rattle.std.specs.List.{range_with_len};
-ghost use Rattle.role_lab.specs.Flags.{flagged, AllBelow};
+ghost use Rattle.role_lab.specs.inside.Flags.{flagged, AllBelow};
 ghost use Rattle.role_lab.specs.Labs.{with_number, with_all_below};
 
 use std::alloc::{AllocError, Global};
@@ -19,7 +19,7 @@ pub struct Given {
 }
 
 impl Given {
-    ghost use Rattle.role_lab.specs.Inside.{given_in};
+    ghost use Rattle.role_lab.specs.inside.Kept.{given_in};
 
     /// No number.
     pub fn new(alloc: Global) -> Self

@@ -4,7 +4,7 @@ ghost use Rattle.std.specs.Prelude.{◌≡◌, ◌<◌, IfSome, option_map};
 ghost use Rattle.link_frames.specs.declared.kind.Kind.TheVariants.{Send, Echo, Ready};
 ghost use Rattle.role_lab.specs.Grammar as reading;
 ghost use Rattle.role_lab.specs.Grammar.{IsFromNode};
-ghost use Rattle.role_lab.specs.Inside.{take_said};
+ghost use Rattle.role_lab.specs.inside.Kept.{take_said};
 
 use link_frames::Kind;
 use quorum_sizes::{NodeName, Sizes};

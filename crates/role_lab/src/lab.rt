@@ -7,7 +7,7 @@ ghost use Rattle.byz_world.specs.Worlds.{too_many_lie};
 ghost use Rattle.role_lab.specs.Labs.{lab_sizes, pool_length, new_lab, given_after, after_doing, flush, after_order};
 ghost use Rattle.role_lab.specs.Labs.{settling_adds, after_settling};
 ghost use Rattle.role_lab.specs.Rests.{rests};
-ghost use Rattle.role_lab.specs.Inside.{IsWithinSizes, is_want_of_memory};
+ghost use Rattle.role_lab.specs.inside.Kept.{IsWithinSizes, is_want_of_memory};
 ghost use Rattle.role_lab.specs.OrderTexts as texts;
 
 use crate::given::Given;
@@ -30,7 +30,7 @@ pub struct Lab {
 }
 
 impl Lab {
-    ghost use Rattle.role_lab.specs.Inside.{lab_in, given_in};
+    ghost use Rattle.role_lab.specs.inside.Kept.{lab_in, given_in};
 
     /// The cluster of these roles and liars, before anything happens; `None` where too many lie.
     ///

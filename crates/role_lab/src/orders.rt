@@ -3,8 +3,8 @@
 ghost use Rattle.std.specs.Prelude.{◌≡◌, ◌<◌, IfOk, IfSome, OnErr};
 ghost use Rattle.byz_world.specs.declared.step.Step.TheVariants.{Client};
 ghost use Rattle.role_lab.specs.Orders as reading;
-ghost use Rattle.role_lab.specs.Inside.{IsWithinSizes, NamesBytes, packet_given};
-ghost use Rattle.role_lab.specs.Inside as inside;
+ghost use Rattle.role_lab.specs.inside.Kept.{IsWithinSizes, NamesBytes, packet_given};
+ghost use Rattle.role_lab.specs.inside.Kept as inside;
 
 use crate::fields::{
     bytes_of, kind_then, narrow_then, node_number, node_then, session_then, wide_then,
@@ -181,7 +181,7 @@ fn order_of_node(sizes: &Sizes, name: &str, text: &str) -> Option<Order>
     order_at_node(sizes, name, node, text)
 }
 
-#[tactic(auto, unfolding(crate::specs::Orders::order_at_node, crate::specs::Inside::question_at_node))]
+#[tactic(auto, unfolding(crate::specs::Orders::order_at_node, crate::specs::inside::Kept::question_at_node))]
 fn order_at_node(sizes: &Sizes, name: &str, node: NodeName, text: &str) -> Option<Order>
     ensures value { result ≡ reading.order_at_node sizes.now name.now node text.now }
     ensures within { IfSome result (IsWithinSizes sizes.now) }
@@ -226,7 +226,7 @@ fn order_at_node(sizes: &Sizes, name: &str, node: NodeName, text: &str) -> Optio
 }
 
 /// What is asked at a node.
-#[tactic(auto, unfolding(crate::specs::Inside::question_at_node))]
+#[tactic(auto, unfolding(crate::specs::inside::Kept::question_at_node))]
 fn question_at_node(sizes: &Sizes, name: &str, node: NodeName, text: &str) -> Option<Order>
     ensures value { result ≡ inside.question_at_node sizes.now name.now node text.now }
     ensures within { IfSome result (IsWithinSizes sizes.now) }

@@ -16,7 +16,7 @@ pub fn listing_of(text: &str) -> Option<Question>
     named_listing(name, text)
 }
 
-#[tactic(auto, unfolding(crate::specs::Orders::named_listing))]
+#[tactic(auto, unfolding(crate::specs::Orders::named_listing, crate::specs::Reads::by_its_name))]
 fn named_listing(name: &str, text: &str) -> Option<Question>
     ensures { result ≡ reading.named_listing name.now text.now }
 {

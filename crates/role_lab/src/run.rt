@@ -1,30 +1,25 @@
 //! A script, run line by line.
 
-ghost use Rattle.std.specs.Prelude.{◌≡◌, ◌≢◌, ℕ, ◌<◌, ◌≤◌, ◌++◌, ◌⊎◌, Bool, List, Option, length};
-ghost use Rattle.std.specs.Prelude.{OnOk, OnErr, IfOk, IfErr, Err};
-ghost use Rattle.std.specs.Io.KnownBytes.{Appends};
-ghost use Rattle.link_frames.specs.Aheads.{front_of, pending};
-ghost use Rattle.link_frames.specs.Devices.{WentOn, CallFailed, ReaderFailed, AppendsFront};
+ghost use Rattle.std.specs.Prelude.{◌≡◌, ◌≢◌, ℕ, ◌≤◌, ◌⊎◌, List, Option, length, IfOk, IfErr, Err};
+ghost use Rattle.link_frames.specs.Aheads.{front_of};
+ghost use Rattle.link_frames.specs.Devices.{WentOn, CallFailed, ReaderFailed};
 ghost use Rattle.link_frames.specs.Blocks.{ReadAhead};
 ghost use Rattle.link_frames.specs.Holding.{IsNotDue};
-ghost use Rattle.link_frames.specs.LinePrograms.{Moved};
-ghost use Rattle.link_frames.specs.Watching.{watched_inner, watched_tally};
+ghost use Rattle.link_frames.specs.LinesAt.{Lines, devices_at, lines_at};
+ghost use Rattle.link_frames.specs.Watching.{watched_tally};
 ghost use Rattle.role_lab.specs.Scripts.{Script, most_line_bytes, next};
 ghost use Rattle.role_lab.specs.Stages.{Follows};
 ghost use Rattle.role_lab.specs.Runs.{ScriptRan, IsEndless};
-ghost use Rattle.role_lab.specs.Steps.{Holds, ScriptRuns, IsTaken};
+ghost use Rattle.role_lab.specs.inside.Steps.{Holds, ScriptRuns, IsTaken};
 
 use crate::fault::ScriptFault;
 use crate::stage::{Stage, answer};
-use link_frames::{Ahead, AheadFault, DeviceFault, Next, Watched, write_whole};
+use link_frames::{Ahead, AheadFault, Held, Next, Watched};
 use std::alloc::{AllocError, Global};
 use std::io::{Read, Write};
 
 /// The most bytes of a line, its end not counted.
 const MOST_LINE_BYTES: usize = 4096;
-
-/// How many bytes of lines are held back at most.
-const BLOCK_BYTES: usize = 8192;
 
 /// What the next line was.
 #[derive(Clone, Copy)]
@@ -52,13 +47,13 @@ pub fn run_script<R: Read, W: Write>(
     reader: &mut Watched<R>,
     writer: &mut Watched<W>,
 ) -> Result<(), ScriptFault>
-    ensures ran { ScriptRan (R.remaining (watched_inner reader.old)) (R.remaining (watched_inner reader.new))
-        (W.contents (watched_inner writer.old)) (W.contents (watched_inner writer.new)) result }
+    ensures ran { ScriptRan (devices_at R.remaining W.contents reader.old writer.old)
+        (devices_at R.remaining W.contents reader.new writer.new) result }
     ensures device { IfErr result (λ e. e ≡ ScriptFault.Device →
         ReaderFailed (watched_tally reader.old) (watched_tally reader.new)
         ⊎ (CallFailed (watched_tally writer.old) (watched_tally writer.new)
-        ⊎ IsEndless (R.remaining (watched_inner reader.old)) (W.contents (watched_inner writer.old))
-        (W.contents (watched_inner writer.new)))) }
+        ⊎ IsEndless (devices_at R.remaining W.contents reader.old writer.old)
+        (devices_at R.remaining W.contents reader.new writer.new))) }
     ensures quiet { result ≢ Err ScriptFault.Device →
         WentOn (watched_tally reader.old) (watched_tally reader.new)
         × WentOn (watched_tally writer.old) (watched_tally writer.new) }
@@ -75,34 +70,34 @@ fn run_lines<R: Read, W: Write>(
     writer: &mut Watched<W>,
 ) -> Result<(), ScriptFault>
     requires { stage.old ≡ Stage.Start }
-    ensures ran { ScriptRan (R.remaining (watched_inner reader.old)) (R.remaining (watched_inner reader.new))
-        (W.contents (watched_inner writer.old)) (W.contents (watched_inner writer.new)) result }
+    ensures ran { ScriptRan (devices_at R.remaining W.contents reader.old writer.old)
+        (devices_at R.remaining W.contents reader.new writer.new) result }
     ensures device { IfErr result (λ e. e ≡ ScriptFault.Device →
         ReaderFailed (watched_tally reader.old) (watched_tally reader.new)
         ⊎ (CallFailed (watched_tally writer.old) (watched_tally writer.new)
-        ⊎ IsEndless (R.remaining (watched_inner reader.old)) (W.contents (watched_inner writer.old))
-        (W.contents (watched_inner writer.new)))) }
+        ⊎ IsEndless (devices_at R.remaining W.contents reader.old writer.old)
+        (devices_at R.remaining W.contents reader.new writer.new))) }
     ensures quiet { result ≢ Err ScriptFault.Device →
         WentOn (watched_tally reader.old) (watched_tally reader.new)
         × WentOn (watched_tally writer.old) (watched_tally writer.new) }
 {
     let mut ahead = Ahead::new(alloc);
-    let mut held = Vec::new(alloc);
+    let mut held = Held::new(alloc);
     for number in 1..u64::MAX {
-        write_when_due(&ahead, &mut held, writer)?;
+        held.write_when_due(&ahead, MOST_LINE_BYTES, writer)?;
         match take_next(alloc, stage, &mut ahead, &mut held, reader)? {
             Took::Line => {}
             Took::BadLine => {
-                write_whole(writer, &held)?;
+                held.write_all(writer)?;
                 return Err(ScriptFault::BadScript { line: number });
             }
             Took::All => {
-                write_whole(writer, &held)?;
+                held.write_all(writer)?;
                 return Ok(());
             }
         }
     }
-    write_whole(writer, &held)?;
+    held.write_all(writer)?;
     Err(ScriptFault::Device)
 }
 
@@ -112,20 +107,17 @@ fn take_next<R: Read>(
     alloc: Global,
     stage: &mut Stage,
     ahead: &mut Ahead,
-    held: &mut Vec<u8>,
+    held: &mut Held,
     reader: &mut Watched<R>,
 ) -> Result<Took, AheadFault>
-    requires due { IsNotDue most_line_bytes held.old.items (front_of ahead.old) }
+    requires due { IsNotDue most_line_bytes held.old (front_of ahead.old) }
     ensures taken { IfOk result
-        (λ took. (known writer_old writer_new : Option (List ℕ)) (script : Script) (number : ℕ) →
-        Follows stage.old script →
-        ScriptRuns known (pending (R.remaining (watched_inner reader.old)) ahead.old) writer_old writer_new
-        held.old.items script number →
-        IsTaken took known (pending (R.remaining (watched_inner reader.new)) ahead.new)
-        (R.remaining (watched_inner reader.new)) writer_old writer_new held.new.items stage.new number) }
+        (λ took. (first : Lines) (written : Option (List ℕ)) (script : Script) (number : ℕ) → Follows stage.old script →
+        ScriptRuns first (lines_at R.remaining reader.old ahead.old written) held.old script number →
+        IsTaken took first (lines_at R.remaining reader.new ahead.new written) held.new stage.new number) }
     ensures counts { ReadAhead (watched_tally reader.old) (watched_tally reader.new) result }
 {
-    match ahead.peek(reader, MOST_LINE_BYTES)? {
+    match held.peek(ahead, MOST_LINE_BYTES, reader)? {
         Next::End => Ok(Took::All),
         Next::TooLong => Ok(Took::BadLine),
         Next::Line(count) => {
@@ -149,40 +141,17 @@ fn take_next<R: Read>(
 fn take_line(
     alloc: Global,
     stage: &mut Stage,
-    held: &mut Vec<u8>,
+    held: &mut Held,
     line: &[u8],
 ) -> Result<bool, AllocError>
     requires { length line.now ≤ most_line_bytes }
     ensures { IfOk result
         (λ good. (script : Script) → Follows stage.old script →
-        Holds (next script line.now) stage.new held.old.items held.new.items good) }
+        Holds (next script line.now) stage.new held.old held.new good) }
 {
     let Some(text) = answer(alloc, stage, line)? else {
         return Ok(false);
     };
-    held.extend_from_slice(text.as_bytes())?;
-    held.push(b'\n')?;
+    held.push_line(&text)?;
     Ok(true)
-}
-
-/// Writes what is held if it is much, or if more bytes have to be read for the next line.
-fn write_when_due<W: Write>(
-    ahead: &Ahead,
-    held: &mut Vec<u8>,
-    writer: &mut Watched<W>,
-) -> Result<(), DeviceFault>
-    ensures moved { OnOk result
-        (Moved (W.contents (watched_inner writer.old))
-        (W.contents (watched_inner writer.new)) held.old.items held.new.items) }
-    ensures due { OnOk result (IsNotDue most_line_bytes held.new.items (front_of ahead.now)) }
-    ensures went_on { OnOk result (WentOn (watched_tally writer.old) (watched_tally writer.new)) }
-    ensures part { OnErr result
-        (AppendsFront (W.contents (watched_inner writer.old)) (W.contents (watched_inner writer.new)) held.old.items) }
-    ensures failed { OnErr result (CallFailed (watched_tally writer.old) (watched_tally writer.new)) }
-{
-    if held.len() >= BLOCK_BYTES || ahead.begins(MOST_LINE_BYTES).is_none() {
-        write_whole(writer, held)?;
-        held.clear();
-    }
-    Ok(())
 }

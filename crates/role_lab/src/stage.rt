@@ -9,7 +9,7 @@ ghost use Rattle.bracha_instance.specs.Taking.{SendsAreFrom};
 ghost use Rattle.byz_world.specs.Worlds.{too_many_lie};
 ghost use Rattle.role_lab.specs.Grammar.{owner};
 ghost use Rattle.role_lab.specs.Labs.{lab_sizes};
-ghost use Rattle.role_lab.specs.Inside.{lab_in};
+ghost use Rattle.role_lab.specs.inside.Kept.{lab_in};
 ghost use Rattle.role_lab.specs.OrderTexts as texts;
 ghost use Rattle.role_lab.specs.Scripts.{Script, most_line_bytes, next, after_line, table_after, one_too_many};
 ghost use Rattle.role_lab.specs.Scripts.{liars_after, after_setup, after_cluster_line, Unread, OfInstance, OfSetup};

@@ -1,3 +1,5 @@
+//! Scripts, and what is written for them.
+
 use super::*;
 use std::alloc::Global;
 use std::process::Abort;

@@ -1,5 +1,5 @@
 use Rattle.std.proofs.Common.{◌≡◌, ◌<◌, length, drop, sym, ◌∙◌, arith, length-drop}
-use Rattle.link_frames.proofs.Onto.{Onto-take}
+use Rattle.link_frames.proofs.BlockLemmas.{Onto-take}
 use Rattle.link_frames.proofs.blocks.read_onto.Goals as goal
 
 pub returns-in-Ok-clause-ok : goal.returns-in-Ok-clause-ok

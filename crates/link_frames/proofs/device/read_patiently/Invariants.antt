@@ -1,5 +1,5 @@
 use Rattle.link_frames.specs.Watching.{watched_inner, watched_tally}
-use Rattle.link_frames.proofs.Waiting.{Waited}
+use Rattle.link_frames.proofs.CallLemmas.{Waited}
 use Rattle.link_frames.proofs.device.read_patiently.Given as goal
 
 abbrev pub invariant-loop-tries : goal.invariant-loop-tries

@@ -1,6 +1,6 @@
 use Rattle.std.proofs.Common.{◌≡◌}
 use Rattle.link_frames.specs.Watching.{watched_inner, watched_reads, watched_tally}
-use Rattle.link_frames.proofs.Waiting.{Waited}
+use Rattle.link_frames.proofs.CallLemmas.{Waited}
 use Rattle.link_frames.proofs.device.write_patiently.Given as goal
 
 abbrev pub invariant-loop-tries : goal.invariant-loop-tries

@@ -1,7 +1,7 @@
 use Rattle.std.proofs.Common.{arith, ◌∙◌}
 use Rattle.std.proofs.lemmas.Result.{err_from_is_err_and}
-use Rattle.link_frames.proofs.Waiting.{WentOn-trans}
-use Rattle.link_frames.proofs.Writing.{Appends-more, AppendsFront-kept}
+use Rattle.link_frames.proofs.CallLemmas.{WentOn-trans}
+use Rattle.link_frames.proofs.WriteLemmas.{Appends-more, AppendsFront-kept}
 use Rattle.link_frames.proofs.device.write_whole.Goals as goal
 
 pub returns-in_err-sent-clause-part : goal.returns-in_err-sent-clause-part

@@ -1,6 +1,6 @@
 use Rattle.std.proofs.Common.{◌-◌, length}
 use Rattle.link_frames.specs.Watching.{watched_inner, watched_tally}
-use Rattle.link_frames.proofs.Writing.{Sent}
+use Rattle.link_frames.proofs.WriteLemmas.{Sent}
 use Rattle.link_frames.proofs.device.write_whole.Given as goal
 
 abbrev pub invariant-loop-sent : goal.invariant-loop-sent

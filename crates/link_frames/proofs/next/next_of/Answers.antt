@@ -1,6 +1,6 @@
 use Rattle.std.proofs.Common.{arith, sym, ◌∙◌, ◌+◌}
 use Rattle.link_frames.specs.Nexts.{EndsAt}
-use Rattle.link_frames.proofs.Fronts.{EndsAt-position, NoLineEnd-EndsAt, NoLineEnd-position, NoLineEnd-whole}
+use Rattle.link_frames.proofs.LineEndLemmas.{EndsAt-position, NoLineEnd-EndsAt, NoLineEnd-position, NoLineEnd-whole}
 use Rattle.link_frames.proofs.next.next_of.Goals as goal
 
 pub returns-in-Some-clause-begins : goal.returns-in-Some-clause-begins

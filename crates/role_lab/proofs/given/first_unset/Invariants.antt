@@ -1,4 +1,4 @@
-use Rattle.role_lab.specs.Flags.{AllBelow}
+use Rattle.role_lab.specs.inside.Flags.{AllBelow}
 use Rattle.role_lab.proofs.given.first_unset.Given as goal
 
 abbrev pub invariant-loop-number : goal.invariant-loop-number

@@ -1,5 +1,5 @@
 use Rattle.std.proofs.Common.{arith}
-use Rattle.role_lab.proofs.Flagging.{flagged-resized}
+use Rattle.role_lab.proofs.FlagLemmas.{flagged-resized}
 use Rattle.role_lab.proofs.given.pad.Goals as goal
 
 pub returns-in_ok-resize-clause-same : goal.returns-in_ok-resize-clause-same

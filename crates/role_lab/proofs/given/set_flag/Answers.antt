@@ -1,7 +1,7 @@
 use Rattle.std.proofs.Common.{◌<◌, ◌∙◌, ap, arith, length}
-use Rattle.role_lab.specs.Flags.{flagged}
+use Rattle.role_lab.specs.inside.Flags.{flagged}
 use Rattle.role_lab.specs.Labs.{with_number}
-use Rattle.role_lab.proofs.Flagging.{flagged-set, with_number-kept}
+use Rattle.role_lab.proofs.FlagLemmas.{flagged-set, with_number-kept}
 use Rattle.role_lab.proofs.given.set_flag.Goals as goal
 
 pub returns-in_err-pad-clause-kept : goal.returns-in_err-pad-clause-kept

@@ -1,5 +1,5 @@
 use Rattle.std.proofs.Common.{string_bytes}
-use Rattle.role_lab.proofs.Stepping.{asked_ok}
+use Rattle.role_lab.proofs.StepLemmas.{asked_ok}
 use Rattle.role_lab.proofs.lab.asked_text.Goals as goal
 
 pub returns-in-Ok-clause-text : goal.returns-in-Ok-clause-text

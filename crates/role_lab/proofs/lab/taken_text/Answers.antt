@@ -1,4 +1,4 @@
-use Rattle.role_lab.proofs.Stepping.{refused_leaves, OnOk-from}
+use Rattle.role_lab.proofs.StepLemmas.{refused_leaves, OnOk-from}
 use Rattle.role_lab.proofs.lab.taken_text.Goals as goal
 
 pub returns-in_ok-unless_memory-in-Err-clause-after : goal.returns-in_ok-unless_memory-in-Err-clause-after

@@ -1,4 +1,4 @@
-use Rattle.role_lab.proofs.Leaving.{flush_leaves_none}
+use Rattle.role_lab.proofs.AfterFlushLemmas.{flush_leaves_none}
 use Rattle.role_lab.proofs.laws.flush_leaves_none.Goals as goal
 
 pub returns : goal.returns

@@ -1,4 +1,4 @@
-use Rattle.role_lab.proofs.Resting.{rests_is_rest}
+use Rattle.role_lab.proofs.RestLemmas.{rests_is_rest}
 use Rattle.role_lab.proofs.laws.rests_is_rest.Goals as goal
 
 pub returns : goal.returns

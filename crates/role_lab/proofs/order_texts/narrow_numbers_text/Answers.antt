@@ -1,7 +1,7 @@
 use Rattle.std.proofs.Common.{◌∙◌, ℕ, List, ap, ◌++◌, codes, get_or}
 use Rattle.std.specs.Fmt.{decimal}
 use Rattle.role_lab.specs.OrderTexts.{numbers_text}
-use Rattle.role_lab.proofs.Wording.{written_more}
+use Rattle.link_frames.proofs.Exported.{written_more}
 use Rattle.role_lab.proofs.order_texts.narrow_numbers_text.Goals as goal
 
 pub loop-number-init : goal.loop-number-init

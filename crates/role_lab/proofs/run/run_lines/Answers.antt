@@ -1,13 +1,14 @@
-use Rattle.std.proofs.Common.{arith, inl, inr, None}
+use Rattle.std.proofs.Common.{arith, inl, inr, refl, None}
 use Rattle.std.proofs.lemmas.Result.{err_from_is_err_and}
 use Rattle.link_frames.proofs.Exported.{Ended-front, WentOn-trans, CallFailed-later}
 use Rattle.link_frames.proofs.Exported.{ReaderFailed-later, AppendsFront-whole}
-use Rattle.role_lab.proofs.ScriptRunning.{run_starts, run_moves, run_goes_on, run_breaks, run_stops}
-use Rattle.role_lab.proofs.ScriptRunning.{run_is_endless, ends_bad, ends_good, ends_ahead, ahead_device}
+use Rattle.role_lab.proofs.ScriptRunLemmas.{run_starts, run_moves, run_goes_on, run_breaks, run_stops}
+use Rattle.role_lab.proofs.ScriptRunLemmas.{run_is_endless, first_of, written_of}
+use Rattle.role_lab.proofs.ScriptRunLemmas.{ends_bad, ends_good, ends_ahead, ahead_device}
 use Rattle.role_lab.proofs.run.run_lines.Goals as goal
 
 pub loop-number-init : goal.loop-number-init
-loop-number-init g c = run_starts _ _ _ _ _ _ _ c.requires c.new-ahead.ensures.front c.new-held.ensures.items
+loop-number-init g c = run_starts _ _ _ _ _ _ c.requires refl refl c.new-ahead.ensures.front c.new-held.ensures
 
 pub returns-in_err-write_when_due-clause-ran : goal.returns-in_err-write_when_due-clause-ran
 returns-in_err-write_when_due-clause-ran g c =
@@ -33,81 +34,79 @@ returns-in_err-take_next-clause-device g c =
     rw (p.1, p.2) (λ q. inl (ReaderFailed-later _ _ _ c.loop-number.invariant.reader
     (ahead_device _ _ c.in_err-take_next.field-0.0 c.in_err-take_next.ensures.counts q)))
 
-pub returns-in_err-write_whole-in-BadLine-clause-ran : goal.returns-in_err-write_whole-in-BadLine-clause-ran
-returns-in_err-write_whole-in-BadLine-clause-ran g c =
+pub returns-in_err-write_all-in-BadLine-clause-ran : goal.returns-in_err-write_all-in-BadLine-clause-ran
+returns-in_err-write_all-in-BadLine-clause-ran g c =
     let moved = run_moves c.loop-number.invariant _ _ _ c.in_ok-write_when_due.ensures.moved
     c.in_ok-write_when_due.ensures.went_on in
-    let end = rw c.in-BadLine.is at (c.in_ok-take_next.ensures.taken _ _ _ moved.script _ moved.follows moved.ran) in
-    let part = rw c.deref.ensures.value at c.in_err-write_whole-in-BadLine.ensures.part in
-    let p = err_from_is_err_and c.from_residual-in_err-write_whole-in-BadLine.result
-    c.from_residual-in_err-write_whole-in-BadLine.ensures.1 in
-    rw (p.1, p.2) (Ended-front end _ part)
+    let end = rw c.in-BadLine.is at (c.in_ok-take_next.ensures.taken (first_of moved) (written_of moved) moved.script _
+    moved.follows moved.ran) in
+    let p = err_from_is_err_and c.from_residual-in_err-write_all-in-BadLine.result
+    c.from_residual-in_err-write_all-in-BadLine.ensures.1 in
+    rw (p.1, p.2) (Ended-front end _ c.in_err-write_all-in-BadLine.ensures.part)
 
-pub returns-in_err-write_whole-in-BadLine-clause-device : goal.returns-in_err-write_whole-in-BadLine-clause-device
-returns-in_err-write_whole-in-BadLine-clause-device g c =
+pub returns-in_err-write_all-in-BadLine-clause-device : goal.returns-in_err-write_all-in-BadLine-clause-device
+returns-in_err-write_all-in-BadLine-clause-device g c =
     let on = WentOn-trans c.loop-number.invariant.writer c.in_ok-write_when_due.ensures.went_on in
-    let p = err_from_is_err_and c.from_residual-in_err-write_whole-in-BadLine.result
-    c.from_residual-in_err-write_whole-in-BadLine.ensures.1 in
-    rw (p.1, p.2) (λ q. inr (inl (CallFailed-later _ _ _ on c.in_err-write_whole-in-BadLine.ensures.err)))
+    let p = err_from_is_err_and c.from_residual-in_err-write_all-in-BadLine.result
+    c.from_residual-in_err-write_all-in-BadLine.ensures.1 in
+    rw (p.1, p.2) (λ q. inr (inl (CallFailed-later _ _ _ on c.in_err-write_all-in-BadLine.ensures.failed)))
 
 pub returns-in-BadLine-clause-ran : goal.returns-in-BadLine-clause-ran
 returns-in-BadLine-clause-ran g c =
     let moved = run_moves c.loop-number.invariant _ _ _ c.in_ok-write_when_due.ensures.moved
     c.in_ok-write_when_due.ensures.went_on in
-    let end = rw c.in-BadLine.is at (c.in_ok-take_next.ensures.taken _ _ _ moved.script _ moved.follows moved.ran) in
-    ends_bad None _ end (rw c.deref.ensures.value at c.in_ok-write_whole-in-BadLine.ensures.written)
+    let end = rw c.in-BadLine.is at (c.in_ok-take_next.ensures.taken (first_of moved) (written_of moved) moved.script _
+    moved.follows moved.ran) in
+    ends_bad None _ end c.in_ok-write_all-in-BadLine.ensures.written
 
-pub returns-in_err-write_whole-in-All-clause-ran : goal.returns-in_err-write_whole-in-All-clause-ran
-returns-in_err-write_whole-in-All-clause-ran g c =
+pub returns-in_err-write_all-in-All-clause-ran : goal.returns-in_err-write_all-in-All-clause-ran
+returns-in_err-write_all-in-All-clause-ran g c =
     let moved = run_moves c.loop-number.invariant _ _ _ c.in_ok-write_when_due.ensures.moved
     c.in_ok-write_when_due.ensures.went_on in
-    let end = rw c.in-All.is at (c.in_ok-take_next.ensures.taken _ _ _ moved.script _ moved.follows moved.ran) in
-    let part = rw c.deref-in-All.ensures.value at c.in_err-write_whole-in-All.ensures.part in
-    let p = err_from_is_err_and c.from_residual-in_err-write_whole-in-All.result
-    c.from_residual-in_err-write_whole-in-All.ensures.1 in
-    rw (p.1, p.2) (Ended-front end.0 _ part)
+    let end = rw c.in-All.is at (c.in_ok-take_next.ensures.taken (first_of moved) (written_of moved) moved.script _
+    moved.follows moved.ran) in
+    let p = err_from_is_err_and c.from_residual-in_err-write_all-in-All.result
+    c.from_residual-in_err-write_all-in-All.ensures.1 in
+    rw (p.1, p.2) (Ended-front end.0 _ c.in_err-write_all-in-All.ensures.part)
 
-pub returns-in_err-write_whole-in-All-clause-device : goal.returns-in_err-write_whole-in-All-clause-device
-returns-in_err-write_whole-in-All-clause-device g c =
+pub returns-in_err-write_all-in-All-clause-device : goal.returns-in_err-write_all-in-All-clause-device
+returns-in_err-write_all-in-All-clause-device g c =
     let on = WentOn-trans c.loop-number.invariant.writer c.in_ok-write_when_due.ensures.went_on in
-    let p = err_from_is_err_and c.from_residual-in_err-write_whole-in-All.result
-    c.from_residual-in_err-write_whole-in-All.ensures.1 in
-    rw (p.1, p.2) (λ q. inr (inl (CallFailed-later _ _ _ on c.in_err-write_whole-in-All.ensures.err)))
+    let p = err_from_is_err_and c.from_residual-in_err-write_all-in-All.result
+    c.from_residual-in_err-write_all-in-All.ensures.1 in
+    rw (p.1, p.2) (λ q. inr (inl (CallFailed-later _ _ _ on c.in_err-write_all-in-All.ensures.failed)))
 
 pub returns-in-All-clause-ran : goal.returns-in-All-clause-ran
 returns-in-All-clause-ran g c =
     let moved = run_moves c.loop-number.invariant _ _ _ c.in_ok-write_when_due.ensures.moved
     c.in_ok-write_when_due.ensures.went_on in
-    let end = rw c.in-All.is at (c.in_ok-take_next.ensures.taken _ _ _ moved.script _ moved.follows moved.ran) in
-    ends_good _ _ end.0 end.1 (rw c.deref-in-All.ensures.value at c.in_ok-write_whole-in-All.ensures.written)
+    let end = rw c.in-All.is at (c.in_ok-take_next.ensures.taken (first_of moved) (written_of moved) moved.script _
+    moved.follows moved.ran) in
+    ends_good _ _ end.0 end.1 c.in_ok-write_all-in-All.ensures.written
 
 pub loop-number-preserved : goal.loop-number-preserved
 loop-number-preserved g c =
     let moved = run_moves c.loop-number.invariant _ _ _ c.in_ok-write_when_due.ensures.moved
     c.in_ok-write_when_due.ensures.went_on in
-    let more = rw c.in-Line.is at (c.in_ok-take_next.ensures.taken _ _ _ moved.script _ moved.follows moved.ran) in
+    let more = rw c.in-Line.is at (c.in_ok-take_next.ensures.taken (first_of moved) (written_of moved) moved.script _
+    moved.follows moved.ran) in
     run_goes_on moved _ _ _ _ more.0 more.1 more.2 c.in_ok-take_next.ensures.counts
 
-pub returns-in_err-write_whole-clause-ran : goal.returns-in_err-write_whole-clause-ran
-returns-in_err-write_whole-clause-ran g c =
-    let part = rw c.deref-2.ensures.value at c.in_err-write_whole.ensures.part in
-    let p = err_from_is_err_and c.from_residual-in_err-write_whole.result c.from_residual-in_err-write_whole.ensures.1
-    in
-    rw (p.1, p.2) (run_breaks c.loop-number.invariant _ part)
+pub returns-in_err-write_all-clause-ran : goal.returns-in_err-write_all-clause-ran
+returns-in_err-write_all-clause-ran g c =
+    let p = err_from_is_err_and c.from_residual-in_err-write_all.result c.from_residual-in_err-write_all.ensures.1 in
+    rw (p.1, p.2) (run_breaks c.loop-number.invariant _ c.in_err-write_all.ensures.part)
 
-pub returns-in_err-write_whole-clause-device : goal.returns-in_err-write_whole-clause-device
-returns-in_err-write_whole-clause-device g c =
-    let p = err_from_is_err_and c.from_residual-in_err-write_whole.result c.from_residual-in_err-write_whole.ensures.1
-    in
+pub returns-in_err-write_all-clause-device : goal.returns-in_err-write_all-clause-device
+returns-in_err-write_all-clause-device g c =
+    let p = err_from_is_err_and c.from_residual-in_err-write_all.result c.from_residual-in_err-write_all.ensures.1 in
     rw (p.1, p.2) (λ q. inr
-    (inl (CallFailed-later _ _ _ c.loop-number.invariant.writer c.in_err-write_whole.ensures.err)))
+    (inl (CallFailed-later _ _ _ c.loop-number.invariant.writer c.in_err-write_all.ensures.failed)))
 
 pub returns-clause-ran : goal.returns-clause-ran
 returns-clause-ran g c =
-    let wrote = rw c.deref-2.ensures.value at c.in_ok-write_whole.ensures.written in
-    run_breaks c.loop-number.invariant _ (AppendsFront-whole _ _ _ wrote)
+    run_breaks c.loop-number.invariant _ (AppendsFront-whole _ _ _ c.in_ok-write_all.ensures.written)
 
 pub returns-clause-device : goal.returns-clause-device
 returns-clause-device g c q =
-    let wrote = rw c.deref-2.ensures.value at c.in_ok-write_whole.ensures.written in
-    inr (inr (run_is_endless c.loop-number.invariant _ (omega arith) wrote))
+    inr (inr (run_is_endless c.loop-number.invariant None _ (omega arith) c.in_ok-write_all.ensures.written))

@@ -4,15 +4,15 @@ use Rattle.std.proofs.lemmas.Result.{IfOk-weaker}
 use Rattle.quorum_sizes.specs.Sizes.{Counts, AreSizes}
 use Rattle.role_commands.specs.Tables.{Table}
 use Rattle.byz_world.specs.Worlds.{too_many_lie}
-use Rattle.role_lab.specs.Inside.{lab_in}
+use Rattle.role_lab.specs.inside.Kept.{lab_in}
 use Rattle.role_lab.specs.Labs as labs
 use Rattle.role_lab.specs.Labs.{lab_sizes, new_lab}
 use Rattle.role_lab.specs.Orders.{setup_of_line}
 use Rattle.role_lab.specs.Scripts.{after_cluster_line}
 use Rattle.role_lab.specs.Stages.{Answers}
 use Rattle.role_lab.specs.declared.stage.Stage.TheVariants.{Living}
-use Rattle.role_lab.proofs.Answering.{setting_follows, cluster_follows, setup_line-good, setup_ends}
-use Rattle.role_lab.proofs.Answering.{cluster_goes_on, next-short, no_text-bad, start-bad, start-good, running}
+use Rattle.role_lab.proofs.StageLemmas.{setting_follows, cluster_follows, setup_line-good, setup_ends}
+use Rattle.role_lab.proofs.StageLemmas.{cluster_goes_on, next-short, no_text-bad, start-bad, start-good, running}
 use Rattle.role_lab.proofs.stage.answer.Goals as goal
 
 pub returns-in_default : goal.returns-in_default

@@ -1,8 +1,8 @@
 use Rattle.std.proofs.Common.{◌≡◌, Some, sym, ◌∙◌, subst}
 use Rattle.quorum_sizes.specs.Sizes.{Counts}
-use Rattle.role_lab.specs.Inside.{lab_in}
+use Rattle.role_lab.specs.inside.Kept.{lab_in}
 use Rattle.role_lab.specs.Orders.{order_of_line}
-use Rattle.role_lab.proofs.Answering.{asking-some}
+use Rattle.role_lab.proofs.StageLemmas.{asking-some}
 use Rattle.role_lab.proofs.stage.cluster_line.Goals as goal
 
 pub returns : goal.returns

@@ -1,5 +1,5 @@
 use Rattle.std.proofs.Common.{sym, ◌∙◌}
-use Rattle.role_lab.proofs.Answering.{first_line-bad, first_line-good, first_line-cluster}
+use Rattle.role_lab.proofs.StageLemmas.{first_line-bad, first_line-good, first_line-cluster}
 use Rattle.role_lab.proofs.stage.first_line.Goals as goal
 
 pub returns-in-Some : goal.returns-in-Some

@@ -1,8 +1,8 @@
 use Rattle.std.proofs.Common.{◌≡◌, Some, option_map, refl, sym, ap, ◌∙◌}
 use Rattle.bracha_instance.specs.Broadcast.{Take}
 use Rattle.role_lab.specs.Grammar.{owner, take_of_line}
-use Rattle.role_lab.specs.Inside.{take_said}
-use Rattle.role_lab.proofs.Answering.{SendsAreFrom-push, later_line-bad, later_line-good}
+use Rattle.role_lab.specs.inside.Kept.{take_said}
+use Rattle.role_lab.proofs.StageLemmas.{SendsAreFrom-push, later_line-bad, later_line-good}
 use Rattle.role_lab.proofs.stage.later_line.Goals as goal
 
 pub returns-in_default : goal.returns-in_default

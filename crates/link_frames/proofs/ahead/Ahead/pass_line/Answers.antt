@@ -1,9 +1,9 @@
 use Rattle.std.proofs.Common.{ap, inr, ◌∙◌, arith, length}
 use Rattle.std.proofs.KnownBytes.{Consumes-kept}
 use Rattle.std.proofs.lemmas.Result.{err_from_is_err_and}
-use Rattle.link_frames.proofs.Waiting.{WentOn-trans}
-use Rattle.link_frames.proofs.Passing.{Consumes-front, Consumes-ahead, passed_end}
-use Rattle.link_frames.proofs.Passing.{passed_ahead, passed_last, UsedUp-part, IsAtEnd-prepend}
+use Rattle.link_frames.proofs.CallLemmas.{WentOn-trans}
+use Rattle.link_frames.proofs.PassedLineLemmas.{Consumes-front, Consumes-ahead, passed_end}
+use Rattle.link_frames.proofs.PassedLineLemmas.{passed_ahead, passed_last, UsedUp-part, IsAtEnd-prepend}
 use Rattle.link_frames.proofs.ahead.Ahead.pass_line.Goals as goal
 
 pub returns-then-use_line-clause-ok : goal.returns-then-use_line-clause-ok

@@ -1,7 +1,7 @@
 use Rattle.std.proofs.Common.{◌-◌}
 use Rattle.link_frames.specs.Watching.{most_count, watched_inner, watched_reads, watched_tally}
 use Rattle.link_frames.specs.Aheads.{front_of, held_bytes, pending}
-use Rattle.link_frames.proofs.Passing.{Passing}
+use Rattle.link_frames.proofs.PassedLineLemmas.{Passing}
 use Rattle.link_frames.proofs.ahead.Ahead.pass_line.Given as goal
 
 abbrev pub invariant-loop-self : goal.invariant-loop-self

@@ -1,7 +1,7 @@
 use Rattle.std.proofs.Common.{◌+◌, ◌-◌, length}
 use Rattle.link_frames.specs.Watching.{watched_inner, watched_tally}
 use Rattle.link_frames.specs.Aheads.{front_of, held_bytes, pending}
-use Rattle.link_frames.proofs.Peeking.{Looked}
+use Rattle.link_frames.proofs.AheadLemmas.{Looked}
 use Rattle.link_frames.proofs.ahead.Ahead.peek.Given as goal
 
 abbrev pub invariant-loop-next : goal.invariant-loop-next

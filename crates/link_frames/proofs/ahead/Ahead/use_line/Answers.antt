@@ -2,7 +2,7 @@ use Rattle.std.proofs.Common.{sym, ap, ◌∙◌, arith}
 use Rattle.std.proofs.lemmas.List.{drop_all}
 use Rattle.link_frames.specs.Lines.{is_line_end}
 use Rattle.std.specs.List.{position}
-use Rattle.link_frames.proofs.Fronts.{used_line, NoLineEnd-whole}
+use Rattle.link_frames.proofs.LineEndLemmas.{used_line, NoLineEnd-whole}
 use Rattle.link_frames.proofs.ahead.Ahead.use_line.Goals as goal
 
 pub returns-in-Some-clause-line : goal.returns-in-Some-clause-line

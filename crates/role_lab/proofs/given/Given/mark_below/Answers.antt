@@ -1,7 +1,7 @@
 use Rattle.std.proofs.Common.{◌≡◌, ap, ◌∙◌, arith}
-use Rattle.role_lab.specs.Inside.{given_in}
+use Rattle.role_lab.specs.inside.Kept.{given_in}
 use Rattle.role_lab.specs.Labs.{with_number, with_all_below}
-use Rattle.role_lab.proofs.Settling.{below_none, below_more}
+use Rattle.role_lab.proofs.SettleLemmas.{below_none, below_more}
 use Rattle.role_lab.proofs.given.Given.mark_below.Goals as goal
 
 pub loop-number-init : goal.loop-number-init

@@ -1,5 +1,5 @@
 use Rattle.std.proofs.Common.{◌≡◌, ◌≤◌}
-use Rattle.role_lab.specs.Inside.{given_in}
+use Rattle.role_lab.specs.inside.Kept.{given_in}
 use Rattle.role_lab.specs.Labs.{with_all_below}
 use Rattle.role_lab.proofs.given.Given.mark_below.Given as goal
 

@@ -1,7 +1,7 @@
 use Rattle.std.proofs.Common.{◌∙◌, ℕ, ap, sym, arith, not}
-use Rattle.role_lab.specs.Inside.{given_in}
-use Rattle.role_lab.specs.Flags.{flagged}
-use Rattle.role_lab.proofs.Flagging.{find-range, find-range-none}
+use Rattle.role_lab.specs.inside.Kept.{given_in}
+use Rattle.role_lab.specs.inside.Flags.{flagged}
+use Rattle.role_lab.proofs.FlagLemmas.{find-range, find-range-none}
 use Rattle.role_lab.proofs.given.Given.next.Goals as goal
 
 pub returns-then-least-end-clause-value : goal.returns-then-least-end-clause-value

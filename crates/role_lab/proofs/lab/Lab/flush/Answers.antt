@@ -1,10 +1,10 @@
 use Rattle.std.proofs.Common.{◌∙◌, ap, refl}
 use Rattle.byz_world.specs.declared.step.Step.TheVariants.{Give}
 use Rattle.role_node.specs.Configs.{ConfigValue}
-use Rattle.role_lab.specs.Inside.{lab_in, given_in}
+use Rattle.role_lab.specs.inside.Kept.{lab_in, given_in}
 use Rattle.role_lab.specs.Labs.{Flushed, after_doing}
 use Rattle.role_lab.specs.Labs as labs
-use Rattle.role_lab.proofs.Flushing.{goes-first, goes-on, goes-none, goes-over, next_number-found}
+use Rattle.role_lab.proofs.FlushLemmas.{goes-first, goes-on, goes-none, goes-over, next_number-found}
 use Rattle.role_lab.proofs.lab.Lab.flush.Goals as goal
 
 pub loop-count-init : goal.loop-count-init

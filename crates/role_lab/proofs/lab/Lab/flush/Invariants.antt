@@ -1,5 +1,5 @@
-use Rattle.role_lab.specs.Inside.{lab_in}
-use Rattle.role_lab.proofs.Flushing.{Goes}
+use Rattle.role_lab.specs.inside.Kept.{lab_in}
+use Rattle.role_lab.proofs.FlushLemmas.{Goes}
 use Rattle.role_lab.proofs.lab.Lab.flush.Given as goal
 
 abbrev pub invariant-loop-count : goal.invariant-loop-count

@@ -1,4 +1,4 @@
-use Rattle.role_lab.proofs.Resting.{same_truth, rests_is_rest}
+use Rattle.role_lab.proofs.RestLemmas.{same_truth, rests_is_rest}
 use Rattle.role_lab.specs.Rests.{rests}
 use Rattle.role_lab.proofs.lab.Lab.rests.Goals as goal
 

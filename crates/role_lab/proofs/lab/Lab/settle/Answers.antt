@@ -1,5 +1,5 @@
-use Rattle.role_lab.specs.Inside.{lab_in}
-use Rattle.role_lab.proofs.Settling.{settled_lab, settled_count}
+use Rattle.role_lab.specs.inside.Kept.{lab_in}
+use Rattle.role_lab.proofs.SettleLemmas.{settled_lab, settled_count}
 use Rattle.role_lab.proofs.lab.Lab.settle.Goals as goal
 
 pub returns-clause-count : goal.returns-clause-count

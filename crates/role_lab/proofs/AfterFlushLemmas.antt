@@ -22,8 +22,8 @@ use Rattle.byz_world.proofs.Exported.{messages-push}
 use Rattle.byz_world.proofs.Exported.{pool-length}
 use Rattle.role_lab.specs.Labs.{Lab, pool_length, with_number, given_after, after_doing, next_number, flush_within}
 use Rattle.role_lab.specs.Laws.{IsWithinLimit, FlushLeavesNone}
-use Rattle.role_lab.proofs.Flagging.{find-range-none}
-use Rattle.role_lab.proofs.Stepping.{given-found}
+use Rattle.role_lab.proofs.FlagLemmas.{find-range-none}
+use Rattle.role_lab.proofs.StepLemmas.{given-found}
 
 -- ---- the pool stays within its limit
 

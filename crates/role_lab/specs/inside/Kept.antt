@@ -1,7 +1,6 @@
--- How the code keeps a cluster, and what is asked of a line that was read. Serves the code, and no public contract.
-use Rattle.std.specs.Prelude.{◌≡◌, ℕ, ◌<◌, Bool, true, false, if◌then◌else◌}
-use Rattle.std.specs.Prelude.{⊤, List, codes, Option, Some, None, option_map}
-use Rattle.std.specs.Str.{bytes_eq}
+-- How the code keeps a cluster, and what is asked of a line that was read.
+use Rattle.std.specs.Prelude.{◌≡◌, ℕ, ◌<◌, Bool, true, false}
+use Rattle.std.specs.Prelude.{⊤, List, codes, Option, Some, None}
 use Rattle.quorum_sizes.specs.Sizes.{Counts}
 use Rattle.role_commands.specs.Numbers.{split_word}
 use Rattle.bracha_instance.specs.Broadcast.{Take}
@@ -9,9 +8,10 @@ use Rattle.byz_world.specs.declared.faults.WorldFault.{WorldFault}
 use Rattle.byz_world.specs.declared.faults.WorldFault.TheVariants as fault
 use Rattle.byz_world.specs.declared.step.Step.{Step}
 use Rattle.byz_world.specs.declared.step.Step.TheVariants.{Issue, Give, Lie, Bytes, Client}
-use Rattle.role_lab.specs.Flags.{flagged}
+use Rattle.role_lab.specs.inside.Flags.{flagged}
 use Rattle.role_lab.specs.Labs as labs
-use Rattle.role_lab.specs.Orders.{node_number, access_of, listing_of, agreement_of}
+use Rattle.role_lab.specs.Orders.{questions_at}
+use Rattle.role_lab.specs.Reads.{by_its_name}
 use Rattle.role_lab.specs.declared.given.Given.{Given}
 use Rattle.role_lab.specs.declared.grammar.Said.{Said}
 use Rattle.role_lab.specs.declared.lab.Lab.{Lab}
@@ -47,14 +47,9 @@ IsWithinSizes s (Agree one other owner) = ⊤
 abbrev pub NamesBytes : List ℕ → Type 0
 NamesBytes line = (text : List ℕ) × (split_word line ≡ Some (codes "bytes", text))
 
--- what is asked at a node: `order_at_node` at the last four of its names
+-- what is asked at a node, by the name of the line
 unfoldable pub question_at_node : Counts → List ℕ → ℕ → List ℕ → Option Order
-question_at_node s name node text =
-    if bytes_eq name (codes "check") then option_map (Ask node) (access_of text)
-    else (if bytes_eq name (codes "list") then option_map (Ask node) (listing_of text)
-    else (if bytes_eq name (codes "reach") then option_map (Reach node) (node_number s text)
-    else (if bytes_eq name (codes "agree") then agreement_of s node text
-    else None)))
+question_at_node s name node text = by_its_name (questions_at s node) name text
 
 -- the message that was said
 abbrev pub take_said : Said → Take

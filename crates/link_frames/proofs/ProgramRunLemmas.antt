@@ -7,8 +7,9 @@ use Rattle.std.specs.Io.KnownBytes.{Consumes, Appends, Keeps, prepend_known}
 use Rattle.link_frames.specs.Lines.{line_end, lines_of, NoLineEnd, ended}
 use Rattle.link_frames.specs.Nexts.{EndsAt, PassedLine}
 use Rattle.link_frames.specs.LinePrograms.{text_by, bad_by, Moved}
+use Rattle.link_frames.specs.LinesAt.{Lines}
 use Rattle.link_frames.proofs.LineLemmas.{lines_of-nil, lines_of-line}
-use Rattle.link_frames.proofs.Passing.{Consumes-front}
+use Rattle.link_frames.proofs.PassedLineLemmas.{Consumes-front}
 use Rattle.link_frames.proofs.TextLemmas.{text_by-nil, text_by-good, bad_by-nil, bad_by-good}
 
 -- Of the known bytes, `pending` are left. `sent` was written, and `held` is to be. Whatever comes next, its lines go
@@ -23,6 +24,12 @@ pub record Ran {S : Type 0} (next : S → List ℕ → Option (S × List ℕ)) (
       → text_by next start (lines_of (done ++ rest)) ≡ (sent ++ held) ++ text_by next state (lines_of rest)
   pub stops : (rest : List ℕ) → bad_by next 1 start (lines_of (done ++ rest)) ≡ bad_by next number state (lines_of rest)
   pub counted : (rest : List ℕ) → length (lines_of (done ++ rest)) + 1 ≡ number + length (lines_of rest)
+
+-- the same between two moments
+abbrev pub RanBetween : {S : Type 0} → (S → List ℕ → Option (S × List ℕ)) → S → Lines → Lines → List ℕ → S → ℕ
+    → Type 0
+RanBetween next start first now held state number =
+    Ran next start first.unread now.unread first.written now.written held state number
 
 -- nothing was read and nothing is held
 pub Ran-start : {S : Type 0} (next : S → List ℕ → Option (S × List ℕ)) (start : S) (known out : Option (List ℕ))

@@ -17,7 +17,7 @@ use Rattle.bracha_instance.specs.States.{State, state}
 use Rattle.bracha_instance.specs.Taking.{SendsAreFrom}
 use Rattle.byz_world.specs.Worlds.{too_many_lie}
 use Rattle.role_lab.specs.Grammar.{owner, IsFromNode, sizes_of_line, take_of_line}
-use Rattle.role_lab.specs.Inside.{lab_in}
+use Rattle.role_lab.specs.inside.Kept.{lab_in}
 use Rattle.role_lab.specs.Labs as labs
 use Rattle.role_lab.specs.Labs.{lab_sizes, new_lab, after_order}
 use Rattle.role_lab.specs.OrderTexts.{order_text}

@@ -1,4 +1,4 @@
--- Flags of the numbers that were given. Serves the code, and no public contract.
+-- Flags of the numbers that were given.
 use Rattle.std.specs.Prelude.{◌≡◌, ℕ, ◌<◌, Bool, true, false, List, slice_index_or}
 
 -- the numbers whose flag is set

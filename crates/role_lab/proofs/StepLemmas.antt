@@ -19,7 +19,7 @@ use Rattle.byz_world.specs.declared.step.Step.{Step}
 use Rattle.byz_world.specs.declared.step.Step.TheVariants.{Give}
 use Rattle.role_lab.specs.Labs.{Lab, pool_length, with_number, given_after}
 use Rattle.role_lab.specs.OrderTexts.{answer_text, asked_text}
-use Rattle.role_lab.specs.Inside.{is_want_of_memory}
+use Rattle.role_lab.specs.inside.Kept.{is_want_of_memory}
 use Rattle.byz_world.proofs.Exported.{refused_after}
 
 -- ---- answers

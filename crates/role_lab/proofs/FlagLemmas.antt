@@ -5,7 +5,7 @@ use Rattle.std.proofs.Common.{refl, sym, ap, ◌∙◌, arith, get_or-set_same, 
 use Rattle.std.proofs.lemmas.Bool.{eqb-true, eqb-false, cases_lt}
 use Rattle.std.proofs.lemmas.List.{take_all}
 use Rattle.std.specs.List.{range_with_len}
-use Rattle.role_lab.specs.Flags.{flagged}
+use Rattle.role_lab.specs.inside.Flags.{flagged}
 use Rattle.role_lab.specs.Labs.{with_number}
 
 -- one flag more

@@ -8,9 +8,10 @@ use Rattle.link_frames.specs.Lines.{line_end, lines_of, NoLineEnd, ended}
 use Rattle.link_frames.specs.Nexts.{Begins, EndsAt, PassedLine}
 use Rattle.link_frames.specs.declared.next.Next.TheVariants.{TooLong, Last}
 use Rattle.link_frames.specs.LinePrograms.{text_by, bad_by, HasBytes, WroteFront}
+use Rattle.link_frames.specs.LinesAt.{Lines}
 use Rattle.link_frames.proofs.LineLemmas.{lines_of-nil, lines_of-line, lines_of-last, lines_of-begun}
 use Rattle.link_frames.proofs.TextLemmas.{text_by-nil, text_by-good, text_by-bad, bad_by-nil, bad_by-good, bad_by-bad}
-use Rattle.link_frames.proofs.Running.{Ran}
+use Rattle.link_frames.proofs.ProgramRunLemmas.{Ran}
 
 -- ---- what the input is
 
@@ -24,12 +25,13 @@ pub some_tail : (p : Option (List ℕ)) → (tail : List ℕ) × HasBytes p tail
 some_tail None = ([], tt)
 some_tail (Some ys) = (ys, refl)
 
-tail_of : (known : Option (List ℕ)) (front : List ℕ)
+pub tail_of : (known : Option (List ℕ)) (front : List ℕ)
     → (rest : List ℕ) × HasBytes (prepend_known front known) (front ++ rest)
 tail_of None front = ([], tt)
 tail_of (Some ys) front = (ys, refl)
 
-tail_at_end : (known : Option (List ℕ)) (front : List ℕ) → IsAtEnd known → HasBytes (prepend_known front known) front
+pub tail_at_end : (known : Option (List ℕ)) (front : List ℕ) → IsAtEnd known
+    → HasBytes (prepend_known front known) front
 tail_at_end None front end = tt
 tail_at_end (Some ys) front end = ap (λ l. front ++ l) end ∙ append-nil front
 
@@ -49,6 +51,11 @@ pub record Ended {S : Type 0} (next : S → List ℕ → Option (S × List ℕ))
   pub wrote : Appends out_old out_new sent
   pub goes : text_by next start (lines_of input) ≡ sent ++ held
   pub stops : bad_by next 1 start (lines_of input) ≡ bad
+
+-- the same between two moments
+abbrev pub EndedBetween : {S : Type 0} → (S → List ℕ → Option (S × List ℕ)) → S → Lines → Lines → List ℕ → Option ℕ
+    → Type 0
+EndedBetween next start first now held bad = Ended next start first.unread first.written now.written held bad
 
 -- the text of an input was written
 pub record Whole {S : Type 0} (next : S → List ℕ → Option (S × List ℕ)) (start : S)
