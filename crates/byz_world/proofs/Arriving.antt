@@ -1,5 +1,5 @@
 -- What comes to a node, as the code finds it: the tests one after another say where a step arrives.
-use Rattle.std.proofs.Common.{◌≡◌, ℕ, Bool, true, false, ◌&&◌, List, Some, None, Ok, Err, refl, ap, ◌∙◌}
+use Rattle.std.proofs.Common.{◌≡◌, ℕ, Bool, true, false, ◌&&◌, List, Some, None, Ok, Err, refl, sym, ap, ◌∙◌}
 use Rattle.std.specs.Prelude.{if◌then◌else◌, not, nat_lt, slice_get}
 use Rattle.link_frames.specs.Packets.{PacketValue}
 use Rattle.link_frames.specs.declared.opening.LinkFault.{LinkFault}
@@ -114,3 +114,13 @@ pub recorded_told : (w : WorldValue) (step : Step) (at : ℕ) (e : Event) (entry
     IsStepAnswer w step (told_of w (Ok (came.Recorded entry)))
 recorded_told w step at e entry arrives' counts due =
     recorded_answer w step at e (Ok (of_reply w entry.reply)) arrives' counts (ap (of_reply w) due) tt
+
+-- what nothing refuses comes to its node
+pub comes : (w : WorldValue) (step : Step) (p : PacketValue) (to : ℕ) → to ≡ p.to → arrival w step ≡ arrives w p →
+    is_correct_in w p.to ≡ true → is_pool_full w ≡ false → arrival w step ≡ Ok (Some (to, event.Take p))
+comes w step p to here at correct room = at ∙ rw (here, correct, room) refl
+
+-- what was looked up in a world stands in the pool of the same world
+pub stands_in : (v w : WorldValue) (k : ℕ) (p : PacketValue) → v ≡ w → Some p ≡ slice_get (pool w.config w.run) k →
+    slice_get (pool v.config v.run) k ≡ Some p
+stands_in v w k p same at = ap (λ u. slice_get (pool u.config u.run) k) same ∙ sym at

@@ -8,7 +8,8 @@ use Rattle.byz_world.specs.declared.world.World.TheInside.{Inside}
 abbrev pub world_value : Inside → WorldValue
 world_value a = world_in a.config a.liars a.members.items a.order.items
 
--- the fields show a world, and each correct node has laboratory keys
+-- the fields show a world, each correct node has laboratory keys, and the cursor counts all nodes
 pub record IsWorld (a : Inside) : Type 0 where
   pub world : IsWorldIn a.config a.liars a.members.items a.order.items a.sent.items
   pub keys : a.keys.items ≡ rings_due a.config.roles.sizes a.liars
+  pub cursor : a.cursor.nodes ≡ a.config.roles.sizes.nodes

@@ -26,6 +26,7 @@ ghost use Rattle.byz_world.specs.Worlds.{IsClusterRunOf};
 ghost use Rattle.byz_world.specs.declared.step.Step.{Step};
 ghost use Rattle.byz_world.specs.declared.step.Step.TheVariants.{Issue, Give, Lie, Bytes, Client};
 
+use crate::cursor::PacketCursor;
 use crate::faults::WorldFault;
 use crate::keys::{keys_of, new_keys};
 use crate::members::{ask_at, check_at, has_sent, has_taken_all, member, new_members, record_at};
@@ -52,6 +53,7 @@ pub struct World {
     keys: Vec<Option<PairKeys>>,
     order: Vec<NodeName>,
     sent: Vec<(NodeName, Message)>,
+    cursor: PacketCursor,
 }
 
 impl Model for World {
@@ -93,6 +95,7 @@ impl World {
             keys,
             order: Vec::new(alloc),
             sent: Vec::new(alloc),
+            cursor: PacketCursor::new(sizes.n()),
         })
     }
 
@@ -129,7 +132,51 @@ impl World {
         ensures memory { OnErr result (IsTrue (adds self.old step.now)) }
         ensures run { IsClusterRunOf self.new }
     {
+        if let Step::Give { packet } = step {
+            return self.pass_packet(*packet);
+        }
         let Err(fault) = self.answer(step) else {
+            return Ok(());
+        };
+        match fault {
+            WorldFault::Memory => Err(AllocError),
+            _ => Ok(()),
+        }
+    }
+
+    /// As `pass`. Packets of the pool come by the million: this hands on no answer.
+    #[inline(never)]
+    fn pass_packet(&mut self, number: u32) -> Result<(), AllocError>
+        ensures after { OnOk result (self.new ≡ after_step self.old (Give number)) }
+        ensures err { OnErr result (self.new ≡ self.old) }
+        ensures memory { OnErr result (IsTrue (adds self.old (Give number))) }
+        ensures run { IsClusterRunOf self.new }
+    {
+        match self.seek(number) {
+            Some(packet) => self.pass_on(packet),
+            None => Ok(()),
+        }
+    }
+
+    /// A packet that may be taken comes to its receiver, and nobody asks what comes of it.
+    #[inline(always)]
+    fn pass_on(&mut self, packet: Packet) -> Result<(), AllocError>
+        requires { MayArrive self.old (arrives self.old packet) }
+        ensures after { (step : Step) → arrival self.old step ≡ arrives self.old packet →
+            OnOk result (self.new ≡ after_step self.old step) }
+        ensures err { OnErr result (self.new ≡ self.old) }
+        ensures memory { (step : Step) → arrival self.old step ≡ arrives self.old packet →
+            OnErr result (IsTrue (adds self.old step)) }
+        ensures run { IsClusterRunOf self.new }
+    {
+        let to = packet.to();
+        if !self.is_correct(to) {
+            return Ok(());
+        }
+        if self.is_full() {
+            return Ok(());
+        }
+        let Err(fault) = self.happen(to, &Event::Take(packet)) else {
             return Ok(());
         };
         match fault {
@@ -157,22 +204,7 @@ impl World {
         Ok(told(&came, first, nodes))
     }
 
-    #[inline(always)]
     fn answer(&mut self, step: &Step) -> Result<Came, WorldFault>
-        ensures due { IsStepAnswer self.old step.now (told_of self.old result) }
-        ensures ok { OnOk result (self.new ≡ after_step self.old step.now) }
-        ensures err { OnErr result (self.new ≡ self.old) }
-        ensures run { IsClusterRunOf self.new }
-    {
-        match step {
-            Step::Give { packet } => self.give(*packet),
-            _ => self.answer_other(step),
-        }
-    }
-
-    /// As `answer`. Packets of the pool come by the million, and the other steps would have each pay for their room.
-    #[inline(never)]
-    fn answer_other(&mut self, step: &Step) -> Result<Came, WorldFault>
         ensures due { IsStepAnswer self.old step.now (told_of self.old result) }
         ensures ok { OnOk result (self.new ≡ after_step self.old step.now) }
         ensures err { OnErr result (self.new ≡ self.old) }
@@ -188,7 +220,6 @@ impl World {
     }
 
     /// A correct node publishes a command.
-    #[inline(never)]
     fn issue(&mut self, name: NodeName, command: Command) -> Result<Came, WorldFault>
         ensures due { IsStepAnswer self.old (Issue name command) (told_of self.old result) }
         ensures ok { OnOk result (self.new ≡ after_step self.old (Issue name command)) }
@@ -205,7 +236,6 @@ impl World {
     }
 
     /// The packet of this number comes to its receiver.
-    #[inline(always)]
     fn give(&mut self, number: u32) -> Result<Came, WorldFault>
         ensures due { IsStepAnswer self.old (Give number) (told_of self.old result) }
         ensures ok { OnOk result (self.new ≡ after_step self.old (Give number)) }
@@ -219,7 +249,6 @@ impl World {
     }
 
     /// A packet comes to its receiver that anybody may have sent.
-    #[inline(never)]
     fn lie(&mut self, packet: &Packet) -> Result<Came, WorldFault>
         ensures due { IsStepAnswer self.old (Lie packet.now) (told_of self.old result) }
         ensures ok { OnOk result (self.new ≡ after_step self.old (Lie packet.now)) }
@@ -233,7 +262,6 @@ impl World {
     }
 
     /// Bytes come to a correct node.
-    #[inline(never)]
     fn receive(&mut self, to: NodeName, bytes: &[u8]) -> Result<Came, WorldFault>
         ensures due { IsStepAnswer self.old (Bytes to bytes.now) (told_of self.old result) }
         ensures ok { OnOk result (self.new ≡ after_step self.old (Bytes to bytes.now)) }
@@ -247,7 +275,6 @@ impl World {
     }
 
     /// A client acts at a correct node.
-    #[inline(never)]
     fn act(&mut self, name: NodeName, act: ClientEvent) -> Result<Came, WorldFault>
         ensures due { IsStepAnswer self.old (Client name act) (told_of self.old result) }
         ensures ok { OnOk result (self.new ≡ after_step self.old (Client name act)) }
@@ -261,7 +288,6 @@ impl World {
     }
 
     /// A packet comes to its receiver, unless it is forged.
-    #[inline(never)]
     fn unless_forged(&mut self, packet: Packet) -> Result<Came, WorldFault>
         ensures due { (step : Step) → arrival self.old step ≡ unless_forged self.old packet →
             IsStepAnswer self.old step (told_of self.old result) }
@@ -277,7 +303,6 @@ impl World {
     }
 
     /// A packet that may be taken comes to its receiver. A liar absorbs it.
-    #[inline(always)]
     fn arrive(&mut self, packet: Packet) -> Result<Came, WorldFault>
         requires { MayArrive self.old (arrives self.old packet) }
         ensures due { (step : Step) → arrival self.old step ≡ arrives self.old packet →
@@ -472,6 +497,21 @@ impl World {
         let to = self.sizes().name((number % nodes) as u8).unwrap();
         match self.sent.get((number / nodes) as usize) {
             Some((from, message)) => Packet::new(*from, to, *message),
+            None => None,
+        }
+    }
+
+    /// As `sent`, where the packet before it was the last to be looked up by a few instructions.
+    #[inline(always)]
+    fn seek(&mut self, number: u32) -> Option<Packet>
+        ensures value { result ≡ slice_get (pool self.old.config self.old.run) number }
+        ensures same { self.new ≡ self.old }
+        ensures run { IsClusterRunOf self.new }
+    {
+        let (message, to) = self.cursor.seek(number);
+        let to = self.sizes().name(to).unwrap();
+        match self.sent.get(message as usize) {
+            Some(sent) => Packet::new(sent.0, to, sent.1),
             None => None,
         }
     }

@@ -15,8 +15,8 @@ ghost use Rattle.owner_streams.specs.Kept.{reach_in, held, IsOwnerStream, AreSta
 
 use crate::steps::{Again, StreamFault, StreamStep};
 use bracha_instance::{Effect, Instance, Record, Taken};
-use link_frames::{Packet, Place};
-use quorum_sizes::Sizes;
+use link_frames::{Kind, Packet, Place};
+use quorum_sizes::{NodeName, Sizes};
 use role_commands::Command;
 use std::alloc::{AllocError, Global};
 
@@ -397,25 +397,36 @@ fn take_in(
     if let Some(instance) = slot {
         return instance.take_new(sizes, packet.kind(), packet.from(), packet.command());
     }
-    take_first(slot, alloc, sizes, packet)
+    take_first(
+        slot,
+        alloc,
+        sizes,
+        packet.kind(),
+        packet.from(),
+        packet.command(),
+    )
 }
 
-/// Takes a packet in a slot that has no instance. It is made.
+/// Takes a message in a slot that has no instance. It is made.
 #[inline(never)]
 fn take_first(
     slot: &mut Option<Instance>,
     alloc: Global,
     sizes: &Sizes,
-    packet: &Packet,
+    kind: Kind,
+    from: NodeName,
+    command: Command,
 ) -> Result<Taken, AllocError>
-    requires from { packet.now.from < sizes.now.nodes }
+    requires from { from < sizes.now.nodes }
     requires none { slot.old ≡ None }
-    ensures state { OnOk result (GoesOn sizes.now slot.old slot.new (take_of packet.now)) }
-    ensures taken { IfOk result (λ taken. IsAnswerAt sizes.now slot.old (take_of packet.now) taken) }
+    ensures state { let t : Take = record { kind = kind; from = from; command = command } in
+        OnOk result (GoesOn sizes.now slot.old slot.new t) }
+    ensures taken { let t : Take = record { kind = kind; from = from; command = command } in
+        IfOk result (λ taken. IsAnswerAt sizes.now slot.old t taken) }
     ensures err { OnErr result (slot.new ≡ slot.old) }
 {
     let mut instance = Instance::new(alloc);
-    let taken = instance.take(sizes, packet.kind(), packet.from(), packet.command())?;
+    let taken = instance.take(sizes, kind, from, command)?;
     *slot = Some(instance);
     Ok(taken)
 }

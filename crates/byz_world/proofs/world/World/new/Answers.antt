@@ -22,6 +22,7 @@ invariant_of-result c =
           (new_is_world c.args.config c.args.liars c.in_ok-members.members.items sizes few c.roles.ensures.limit
           c.in_ok-members.ensures);
       keys = c.in_ok-keys.ensures ∙ ap (λ s. rings_due s c.args.liars) same;
+      cursor = c.new-3.ensures ∙ c.n.ensures.value ∙ ap (λ s. s.nodes) same;
     }
 
 pub returns-clause-ok : goal.returns-clause-ok

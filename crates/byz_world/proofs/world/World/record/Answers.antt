@@ -23,7 +23,11 @@ recorded c =
     ++ listed (option_map (λ m. (c.args.name, m)) ((c.message.ensures ∙ ap sent_by c.reply.ensures) i))))
 
 pub invariant_of-self-2 : goal.invariant_of-self-2
-invariant_of-self-2 c = record { world = (recorded c).grown.is; keys = c.self.invariant.keys }
+invariant_of-self-2 c = record {
+  world = (recorded c).grown.is;
+  keys = c.self.invariant.keys;
+  cursor = c.self.invariant.cursor;
+}
 
 pub returns-clause-reply : goal.returns-clause-reply
 returns-clause-reply c = (recorded c).reply_is
