@@ -10,9 +10,9 @@ use Rattle.bracha_instance.specs.declared.instance.Effect.{Effect}
 use Rattle.bracha_instance.specs.declared.instance.Effect.TheVariants as effect
 use Rattle.role_sessions.specs.declared.event.ClientEvent.TheVariants.{Open, Activate, DropRole, Close}
 use Rattle.role_node.specs.Configs.{ConfigValue}
-use Rattle.role_node.specs.Answers.{EntryValue, outlook, outlook_with_room, unless_full, reply_to}
+use Rattle.role_node.specs.Answers.{EntryValue, event_of, outlook, outlook_with_room, unless_full, reply_to}
 use Rattle.role_node.specs.Answers.{answered, answer_due, is_recorded, IsLegal, AreReplies}
-use Rattle.role_node.specs.Kept.{event_of, events, AreEntries}
+use Rattle.role_node.specs.inside.Kept.{events, AreEntries}
 use Rattle.role_node.specs.declared.event.Event.{Event}
 use Rattle.role_node.specs.declared.event.Event.TheVariants.{Issue, Take, Client}
 use Rattle.role_node.specs.declared.event.Reply.{Reply}

@@ -54,10 +54,8 @@ kept_value k = record { event = kept_event k; reply = kept_reply k }
 
 -- the end of the new places is a number of 32 bits
 abbrev pub IsKept : Kept → Type 0
-IsKept (kept.Issued send) = ⊤
 IsKept (kept.Taken p from grown send delivered) = from + grown < 2 ^ 32
-IsKept (kept.Opened user session) = ⊤
-IsKept (kept.Acted act) = ⊤
+IsKept k = ⊤
 
 -- what is kept of an event and a reply that go together
 abbrev pub kept_of : Event → Reply → Kept
