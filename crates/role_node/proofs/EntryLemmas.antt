@@ -95,9 +95,7 @@ reply_is_recorded : (roles : Table) (me : ℕ) (history : List Event) (event : E
 reply_is_recorded roles me history (Issue c) = refl
 reply_is_recorded roles me history (Take p) = refl
 reply_is_recorded roles me history (Client (Open user)) = refl
-reply_is_recorded roles me history (Client (Activate session user role)) = refl
-reply_is_recorded roles me history (Client (DropRole session user role)) = refl
-reply_is_recorded roles me history (Client (Close session user)) = refl
+reply_is_recorded roles me history (Client act) = refl
 
 pub counted_is_due : (config : ConfigValue) (me : ℕ) (history : List Event) (event : Event) (r : Reply) →
     outlook config me history event ≡ Ok effect.Counted → r ≡ reply_to config.roles me history event →

@@ -82,6 +82,4 @@ kept_of-value (kept.Taken p from grown send delivered) = λ i.
     kept.Taken p from (add-sub_cancel_left from grown i) (kind_said p send i) (was_delivered p.command delivered i)
 kept_of-value (kept.Opened user session) = refl
 kept_of-value (kept.Acted (Open user)) = refl
-kept_of-value (kept.Acted (Activate session user role)) = refl
-kept_of-value (kept.Acted (DropRole session user role)) = refl
-kept_of-value (kept.Acted (Close session user)) = refl
+kept_of-value (kept.Acted act) = refl
