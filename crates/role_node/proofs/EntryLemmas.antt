@@ -8,7 +8,7 @@ use Rattle.std.proofs.lemmas.Option.{slice_get-map}
 use Rattle.role_commands.specs.Tables.{Table}
 use Rattle.bracha_instance.specs.declared.instance.Effect.{Effect}
 use Rattle.bracha_instance.specs.declared.instance.Effect.TheVariants as effect
-use Rattle.role_sessions.specs.declared.event.ClientEvent.TheVariants.{Open, Activate, DropRole, Close}
+use Rattle.role_sessions.specs.declared.event.ClientEvent.TheVariants.{Open}
 use Rattle.role_node.specs.Configs.{ConfigValue}
 use Rattle.role_node.specs.Answers.{EntryValue, event_of, outlook, outlook_with_room, unless_full, reply_to}
 use Rattle.role_node.specs.Answers.{answered, answer_due, is_recorded, IsLegal, AreReplies}

@@ -8,7 +8,7 @@ use Rattle.link_frames.specs.Packets.{PacketValue}
 use Rattle.link_frames.specs.declared.kind.Kind.{Kind}
 use Rattle.link_frames.specs.declared.packet.Message.{Message}
 use Rattle.owner_streams.specs.declared.steps.StreamStep.{StreamStep}
-use Rattle.role_sessions.specs.declared.event.ClientEvent.TheVariants.{Open, Activate, DropRole, Close}
+use Rattle.role_sessions.specs.declared.event.ClientEvent.TheVariants.{Open}
 use Rattle.role_node.specs.Answers.{EntryValue}
 use Rattle.role_node.specs.contracts.event.Event as event_contract
 use Rattle.role_node.specs.contracts.event.Reply as reply_contract
