@@ -4,9 +4,8 @@ use Rattle.std.proofs.Common.{map, Option, Some, None, Result, Ok, Err, refl, sy
 use Rattle.std.specs.Prelude.{slice_get, option_map, IsTrue}
 use Rattle.std.proofs.lemmas.List.{take_more}
 use Rattle.std.proofs.lemmas.Option.{slice_get-map, slice_get_within, get_or_from_slice_get}
-use Rattle.role_node.specs.Answers.{EntryValue, is_recorded}
+use Rattle.role_node.specs.Answers.{EntryValue, event_of, is_recorded}
 use Rattle.role_node.specs.Nodes.{NodeValue, due_at, with_event, IsLegalNode, AreRepliesOf}
-use Rattle.role_node.specs.Kept.{event_of}
 use Rattle.role_node.specs.declared.event.Event.{Event}
 use Rattle.role_node.specs.declared.event.Reply.{Reply}
 use Rattle.role_node.specs.declared.faults.NodeFault.{NodeFault}

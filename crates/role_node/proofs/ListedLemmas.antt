@@ -1,6 +1,6 @@
 -- That the answer to a question is the one list that it is said to be.
 use Rattle.std.proofs.Common.{◌≡◌, ℕ, ◌^◌, ◌<◌, Bool, true, false, List, [], filter}
-use Rattle.std.proofs.Common.{Option, Some, None, is_some, refl, sym, ap, ◌∙◌}
+use Rattle.std.proofs.Common.{Option, Some, None, is_some, refl, sym, ap, subst, ◌∙◌}
 use Rattle.std.specs.Prelude.{IsTrue, IsSomeAnd, ◌↔◌, Contains}
 use Rattle.std.specs.FinMap as finite
 use Rattle.std.specs.FinMap.{is_sorted}
@@ -32,8 +32,8 @@ use Rattle.role_node.specs.declared.question.Question.{Question}
 use Rattle.role_node.specs.declared.question.Question.TheVariants.{Check, AssignedUsers, AssignedRoles}
 use Rattle.role_node.specs.declared.question.Question.TheVariants.{RolePermissions, UserPermissions, RoleOperations}
 use Rattle.role_node.specs.declared.question.Question.TheVariants.{UserOperations, SessionRoles, SessionPermissions}
-use Rattle.role_node.proofs.Ascending.{picked, those_members, those_sorted, keys_ascend, told}
-use Rattle.role_node.proofs.Pairs.{pairs_members, permissions_sorted}
+use Rattle.role_node.proofs.AscendingLemmas.{picked, those_members, those_sorted, keys_ascend, told}
+use Rattle.role_node.proofs.PairLemmas.{pairs_members, permissions_sorted}
 
 -- The one list of each kind.
 
@@ -138,33 +138,29 @@ module _ (roles : Table) (relations : Relations)
   pub one_under : (sessions : SessionState) (question : Question) (answer : Answer) →
       IsAnswerUnder relations sessions question answer → IsWithin answer
       → answer ≡ answer_under roles relations sessions question
-  one_under sessions (Check id user operation object) (Verdict decision) is within = ap Verdict is
-  one_under sessions (Check id user operation object) answer is within = absurd is
-  one_under sessions (AssignedUsers role) (Users users) is within =
-      ap Users (one_of_numbers (2 ^ 32) (λ user. relations.assigned user role) users is within)
-  one_under sessions (AssignedUsers role) answer is within = absurd is
-  one_under sessions (AssignedRoles user) (Roles rs) is within =
-      ap Roles (one_of_keys roles.owners (relations.assigned user) rs (known user) is)
-  one_under sessions (AssignedRoles user) answer is within = absurd is
-  one_under sessions (RolePermissions role) (Permissions ps) is within =
-      ap Permissions
-      (one_of_permissions (2 ^ 16) (2 ^ 32) (λ operation object. relations.granted operation object role) ps is within)
-  one_under sessions (RolePermissions role) answer is within = absurd is
-  one_under sessions (UserPermissions user) (Permissions ps) is within =
-      ap Permissions (user_permissions user ps is within)
-  one_under sessions (UserPermissions user) answer is within = absurd is
-  one_under sessions (RoleOperations role object) (Operations os) is within =
-      ap Operations (one_of_numbers (2 ^ 16) (λ operation. relations.granted operation object role) os is within)
-  one_under sessions (RoleOperations role object) answer is within = absurd is
-  one_under sessions (UserOperations user object) (Operations os) is within =
-      ap Operations (user_operations user object os is within)
-  one_under sessions (UserOperations user object) answer is within = absurd is
-  one_under sessions (SessionRoles id) (Roles rs) is within =
-      ap Roles (session_roles relations (finite.get sessions.open_sessions id) rs is)
-  one_under sessions (SessionRoles id) answer is within = absurd is
-  one_under sessions (SessionPermissions id) (Permissions ps) is within =
-      ap Permissions (session_permissions relations (finite.get sessions.open_sessions id) ps is within)
-  one_under sessions (SessionPermissions id) answer is within = absurd is
+  one_under sessions (Check id user operation object) answer (decision, same, is) within = same ∙ ap Verdict is
+  one_under sessions (AssignedUsers role) answer (users, same, is) within =
+      same ∙ ap Users
+      (one_of_numbers (2 ^ 32) (λ user. relations.assigned user role) users is (subst IsWithin same within))
+  one_under sessions (AssignedRoles user) answer (rs, same, is) within =
+      same ∙ ap Roles (one_of_keys roles.owners (relations.assigned user) rs (known user) is)
+  one_under sessions (RolePermissions role) answer (ps, same, is) within =
+      same ∙ ap Permissions
+      (one_of_permissions (2 ^ 16) (2 ^ 32) (λ operation object. relations.granted operation object role) ps is
+      (subst IsWithin same within))
+  one_under sessions (UserPermissions user) answer (ps, same, is) within =
+      same ∙ ap Permissions (user_permissions user ps is (subst IsWithin same within))
+  one_under sessions (RoleOperations role object) answer (os, same, is) within =
+      same ∙ ap Operations
+      (one_of_numbers (2 ^ 16) (λ operation. relations.granted operation object role) os is
+      (subst IsWithin same within))
+  one_under sessions (UserOperations user object) answer (os, same, is) within =
+      same ∙ ap Operations (user_operations user object os is (subst IsWithin same within))
+  one_under sessions (SessionRoles id) answer (rs, same, is) within =
+      same ∙ ap Roles (session_roles relations (finite.get sessions.open_sessions id) rs is)
+  one_under sessions (SessionPermissions id) answer (ps, same, is) within =
+      same ∙ ap Permissions
+      (session_permissions relations (finite.get sessions.open_sessions id) ps is (subst IsWithin same within))
 
 -- After a history.
 

@@ -79,9 +79,8 @@ outlook_with_room roles me history (Client act) =
 
 -- where the history is full, what would count is refused
 abbrev pub unless_full : Bool → Result Effect NodeFault → Result Effect NodeFault
-unless_full full (Ok effect.Idle) = Ok effect.Idle
 unless_full full (Ok effect.Counted) = if full then Err fault.Full else Ok effect.Counted
-unless_full full (Err f) = Err f
+unless_full full due = due
 
 -- the first refusal of the event that holds, or whether it counts
 abbrev pub outlook : ConfigValue → ℕ → List Event → Event → Result Effect NodeFault
@@ -102,17 +101,13 @@ reply_to roles me history (Issue command) =
     reply.Issued (record { kind = Send; owner = me; place = length (issued history); command = command })
 reply_to roles me history (Take p) = counted_reply p (step_of roles.sizes (packets history) p)
 reply_to roles me history (Client (Open user)) = reply.Session ((sessions_at history).opened + 1)
-reply_to roles me history (Client (Activate session user role)) = reply.Done
-reply_to roles me history (Client (DropRole session user role)) = reply.Done
-reply_to roles me history (Client (Close session user)) = reply.Done
+reply_to roles me history (Client act) = reply.Done
 
 -- the message that a reply has the node send to all
 abbrev pub sent_by : Reply → Option Message
-sent_by reply.Idle = None
 sent_by (reply.Issued message) = Some message
 sent_by (reply.Counted send delivered from to) = send
-sent_by (reply.Session id) = None
-sent_by reply.Done = None
+sent_by r = None
 
 -- a refusal has it send none
 abbrev pub sent_by_answer : Result Reply NodeFault → Option Message
@@ -131,10 +126,7 @@ answer_due config me history event = answered (outlook config me history event) 
 -- an event is recorded where its answer is neither a refusal nor that it is idle
 abbrev pub is_recorded : Result Reply NodeFault → Bool
 is_recorded (Ok reply.Idle) = false
-is_recorded (Ok (reply.Issued message)) = true
-is_recorded (Ok (reply.Counted send delivered from to)) = true
-is_recorded (Ok (reply.Session id)) = true
-is_recorded (Ok reply.Done) = true
+is_recorded (Ok r) = true
 is_recorded (Err f) = false
 
 -- A history is legal where the answer due to each event after those before it has it recorded.
@@ -145,21 +137,16 @@ IsLegal config me history =
 
 -- the answer is the one that is due; want of memory comes last, where the event would be recorded
 abbrev pub IsAnswer : Result Reply NodeFault → Result Reply NodeFault → Type 0
-IsAnswer due (Ok r) = due ≡ Ok r
-IsAnswer due (Err fault.NotMine) = due ≡ Err fault.NotMine
-IsAnswer due (Err fault.StreamFull) = due ≡ Err fault.StreamFull
-IsAnswer due (Err fault.Busy) = due ≡ Err fault.Busy
-IsAnswer due (Err fault.Full) = due ≡ Err fault.Full
-IsAnswer due (Err fault.Misrouted) = due ≡ Err fault.Misrouted
-IsAnswer due (Err (fault.Beyond place end)) = due ≡ Err (fault.Beyond place end)
-IsAnswer due (Err (fault.Session f)) = due ≡ Err (fault.Session f)
-IsAnswer due (Err (fault.End f)) = due ≡ Err (fault.End f)
 IsAnswer due (Err fault.Memory) = IsTrue (is_recorded due)
+IsAnswer due result = due ≡ result
 
 -- an event that a node recorded, and its reply
 pub record EntryValue : Type 0 where
   pub event : Event
   pub reply : Reply
+
+abbrev pub event_of : EntryValue → Event
+event_of entry = entry.event
 
 -- each reply is the one that was due at its place
 abbrev pub AreReplies : ConfigValue → ℕ → List Event → List EntryValue → Type 0

@@ -34,11 +34,5 @@ of_stream_fault stream.Memory = Memory
 
 -- the fault of a client's act
 abbrev pub of_session_fault : SessionFault → NodeFault
-of_session_fault session.NoSession = Session session.NoSession
-of_session_fault session.NotYours = Session session.NotYours
-of_session_fault session.TooManySessions = Session session.TooManySessions
-of_session_fault session.NoSuchRole = Session session.NoSuchRole
-of_session_fault session.NotAssigned = Session session.NotAssigned
-of_session_fault session.AlreadyActive = Session session.AlreadyActive
-of_session_fault session.TooManyRoles = Session session.TooManyRoles
 of_session_fault session.Memory = Memory
+of_session_fault fault = Session fault

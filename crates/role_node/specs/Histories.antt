@@ -9,18 +9,15 @@ use Rattle.role_node.specs.declared.event.Event.TheVariants.{Issue, Take, Client
 
 abbrev pub command_in : Event → Option Command
 command_in (Issue command) = Some command
-command_in (Take packet) = None
-command_in (Client act) = None
+command_in event = None
 
 abbrev pub packet_in : Event → Option PacketValue
-packet_in (Issue command) = None
 packet_in (Take packet) = Some packet
-packet_in (Client act) = None
+packet_in event = None
 
 abbrev pub act_in : Event → Option ClientEvent
-act_in (Issue command) = None
-act_in (Take packet) = None
 act_in (Client act) = Some act
+act_in event = None
 
 -- the commands that the node published, each at the place that is its number here
 unfoldable pub issued : List Event → List Command

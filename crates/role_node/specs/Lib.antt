@@ -3,9 +3,7 @@ pub mod Faults
 pub mod Histories
 pub mod Access
 pub mod Answers
-pub mod Entries
 pub mod Nodes
-pub mod Kept
 pub mod Questions
-pub mod Inside
 pub mod Listed
+pub mod inside

@@ -70,11 +70,10 @@ answer_after roles history = answer_under roles (relations_at roles history) (se
 
 -- the users, operations and objects of an answer are within their widths
 abbrev pub IsWithin : Answer → Type 0
-IsWithin (Verdict decision) = ⊤
 IsWithin (Users users) = AllByRecursion (λ user. user < 2 ^ 32) users
-IsWithin (Roles roles) = ⊤
 IsWithin (Permissions permissions) = AllByRecursion (λ p. (p.0 < 2 ^ 16) × (p.1 < 2 ^ 32)) permissions
 IsWithin (Operations operations) = AllByRecursion (λ operation. operation < 2 ^ 16) operations
+IsWithin answer = ⊤
 
 -- there is one answer to a question
 abbrev pub HasOneAnswer : Type 0

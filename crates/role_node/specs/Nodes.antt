@@ -40,10 +40,7 @@ with_event node event = record node { history = node.history ++ event ∷ [] }
 -- the node after it gave this reply to the event: what is idle is not recorded
 abbrev pub after_reply : NodeValue → Event → Reply → NodeValue
 after_reply node event reply.Idle = node
-after_reply node event (reply.Issued message) = with_event node event
-after_reply node event (reply.Counted send delivered from to) = with_event node event
-after_reply node event (reply.Session id) = with_event node event
-after_reply node event reply.Done = with_event node event
+after_reply node event r = with_event node event
 
 abbrev pub IsLegalNode : NodeValue → Type 0
 IsLegalNode node = IsLegal node.config node.me node.history

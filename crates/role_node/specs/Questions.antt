@@ -25,40 +25,23 @@ use Rattle.role_node.specs.declared.question.Question.TheVariants.{UserOperation
 
 -- the answer is a decision, of which this holds
 abbrev pub IsVerdict : Answer → (verdicts.Verdict → Type 0) → Type 0
-IsVerdict (Verdict decision) P = P decision
-IsVerdict (Users users) P = ⊥
-IsVerdict (Roles roles) P = ⊥
-IsVerdict (Permissions permissions) P = ⊥
-IsVerdict (Operations operations) P = ⊥
+IsVerdict answer P = (decision : verdicts.Verdict) × (answer ≡ Verdict decision) × P decision
 
 -- it is a list of users, of which this holds
 abbrev pub AreUsers : Answer → (List ℕ → Type 0) → Type 0
-AreUsers (Verdict decision) P = ⊥
-AreUsers (Users users) P = P users
-AreUsers (Roles roles) P = ⊥
-AreUsers (Permissions permissions) P = ⊥
-AreUsers (Operations operations) P = ⊥
+AreUsers answer P = (users : List ℕ) × (answer ≡ Users users) × P users
 
+-- .. of roles
 abbrev pub AreRoles : Answer → (List ℕ → Type 0) → Type 0
-AreRoles (Verdict decision) P = ⊥
-AreRoles (Users users) P = ⊥
-AreRoles (Roles roles) P = P roles
-AreRoles (Permissions permissions) P = ⊥
-AreRoles (Operations operations) P = ⊥
+AreRoles answer P = (roles : List ℕ) × (answer ≡ Roles roles) × P roles
 
+-- .. of permissions, each an operation and an object
 abbrev pub ArePermissions : Answer → (List (ℕ × ℕ) → Type 0) → Type 0
-ArePermissions (Verdict decision) P = ⊥
-ArePermissions (Users users) P = ⊥
-ArePermissions (Roles roles) P = ⊥
-ArePermissions (Permissions permissions) P = P permissions
-ArePermissions (Operations operations) P = ⊥
+ArePermissions answer P = (permissions : List (ℕ × ℕ)) × (answer ≡ Permissions permissions) × P permissions
 
+-- .. of operations
 abbrev pub AreOperations : Answer → (List ℕ → Type 0) → Type 0
-AreOperations (Verdict decision) P = ⊥
-AreOperations (Users users) P = ⊥
-AreOperations (Roles roles) P = ⊥
-AreOperations (Permissions permissions) P = ⊥
-AreOperations (Operations operations) P = P operations
+AreOperations answer P = (operations : List ℕ) × (answer ≡ Operations operations) × P operations
 
 -- some role of the user may do the operation on the object
 abbrev pub SomeRoleMay : Relations → ℕ → ℕ → ℕ → Type 0
@@ -101,27 +84,14 @@ session_needed sessions id = if map.contains_key sessions.open_sessions id then 
 
 -- the fault that is due
 abbrev pub ask_due : SessionState → Question → Option AskFault
-ask_due sessions (Check id user operation object) = None
-ask_due sessions (AssignedUsers role) = None
-ask_due sessions (AssignedRoles user) = None
-ask_due sessions (RolePermissions role) = None
-ask_due sessions (UserPermissions user) = None
-ask_due sessions (RoleOperations role object) = None
-ask_due sessions (UserOperations user object) = None
 ask_due sessions (SessionRoles id) = session_needed sessions id
 ask_due sessions (SessionPermissions id) = session_needed sessions id
+ask_due sessions question = None
 
 -- a decision takes no memory, a listing does
 abbrev pub takes_memory : Question → Bool
 takes_memory (Check id user operation object) = false
-takes_memory (AssignedUsers role) = true
-takes_memory (AssignedRoles user) = true
-takes_memory (RolePermissions role) = true
-takes_memory (UserPermissions user) = true
-takes_memory (RoleOperations role object) = true
-takes_memory (UserOperations user object) = true
-takes_memory (SessionRoles id) = true
-takes_memory (SessionPermissions id) = true
+takes_memory question = true
 
 -- the fault that is due is answered; where none is, only memory can be wanting, and for a listing alone
 abbrev pub IsAsked : Option AskFault → Question → Result Answer AskFault → Type 0
@@ -132,10 +102,4 @@ IsAsked due question (Err ask.Memory) = (due ≡ None) × IsTrue (takes_memory q
 -- a listing's fault
 abbrev pub of_listing_fault : SessionFault → AskFault
 of_listing_fault session.NoSession = ask.NoSession
-of_listing_fault session.NotYours = ask.Memory
-of_listing_fault session.TooManySessions = ask.Memory
-of_listing_fault session.NoSuchRole = ask.Memory
-of_listing_fault session.NotAssigned = ask.Memory
-of_listing_fault session.AlreadyActive = ask.Memory
-of_listing_fault session.TooManyRoles = ask.Memory
-of_listing_fault session.Memory = ask.Memory
+of_listing_fault fault = ask.Memory

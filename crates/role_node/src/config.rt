@@ -1,3 +1,5 @@
+//! What a node is told at its start.
+
 ghost use Rattle.std.specs.Prelude.{◌≡◌, ◌≤◌, IfOk};
 ghost use Rattle.role_node.specs.Configs.{most_events, config_due};
 

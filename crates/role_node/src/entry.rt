@@ -1,8 +1,10 @@
+//! The entries of a history, kept small.
+
 ghost use Rattle.std.specs.Prelude.{◌≡◌, ◌≤◌, ◌+◌, option_map};
 ghost use Rattle.owner_streams.specs.Places.{window};
 ghost use Rattle.role_sessions.specs.declared.event.ClientEvent.{ClientEvent};
 ghost use Rattle.role_node.specs.Answers.{counted_reply};
-ghost use Rattle.role_node.specs.Entries.{IsOwn, said_for};
+ghost use Rattle.role_node.specs.inside.Entries.{IsOwn, said_for};
 ghost use Rattle.role_node.specs.declared.event.Event.{Event};
 ghost use Rattle.role_node.specs.declared.event.Reply.{Reply};
 
@@ -46,7 +48,7 @@ const _: () = prove!(size_of::<Entry>() == 32);
 
 impl Model for Entry {
     ghost use Rattle.role_node.specs.Answers.{EntryValue};
-    ghost use Rattle.role_node.specs.Entries.{entry_code, kept_value, IsKept, kept_of, kept_of-value};
+    ghost use Rattle.role_node.specs.inside.Entries.{entry_code, kept_value, IsKept, kept_of, kept_of-value};
 
     ghost Value = { EntryValue };
 

@@ -1,3 +1,5 @@
+//! What happens at a node, and what it answers.
+
 ghost use Rattle.std.specs.Prelude.{◌≡◌};
 ghost use Rattle.role_node.specs.Answers.{sent_by};
 

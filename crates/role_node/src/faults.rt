@@ -1,3 +1,5 @@
+//! Why an event is refused, and why a question has no answer.
+
 use link_frames::Place;
 use owner_streams::StreamFault;
 use role_sessions::{EndFault, SessionFault};

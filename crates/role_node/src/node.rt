@@ -1,12 +1,13 @@
+//! A node, with its history.
+
 ghost use Rattle.std.specs.Prelude.{◌≡◌, ◌<◌, ◌≤◌, length, map, slice_get, IfOk, OnOk, OnErr, Ok};
 ghost use Rattle.bracha_instance.specs.declared.instance.Effect.TheVariants.{Counted};
 ghost use Rattle.role_node.specs.Configs.{most_events};
 ghost use Rattle.role_node.specs.Access.{stream_at, reach_at, sessions_at, verdict_at, sent_at};
 ghost use Rattle.role_node.specs.Listed.{IsWithin};
 ghost use Rattle.role_node.specs.Questions.{ask_due, IsAsked, IsAnswerTo};
-ghost use Rattle.role_node.specs.Answers.{outlook, reply_to, is_recorded, IsAnswer};
+ghost use Rattle.role_node.specs.Answers.{outlook, reply_to, is_recorded, IsAnswer, event_of};
 ghost use Rattle.role_node.specs.Nodes.{new_node, due_at, with_event, after_reply, IsLegalNode, AreRepliesOf};
-ghost use Rattle.role_node.specs.Kept.{event_of};
 
 use crate::config::Config;
 use crate::entry::Entry;
@@ -39,7 +40,7 @@ impl Model for Node {
 
     ghost coded = { node_code };
 
-    ghost use Rattle.role_node.specs.Inside.{node_value, IsNode};
+    ghost use Rattle.role_node.specs.inside.Fields.{node_value, IsNode};
 
     ghost view = { node_value };
 

@@ -1,3 +1,5 @@
+//! What can be asked of a node, and the answers.
+
 ghost use Rattle.std.specs.Prelude.{◌<◌, ◌^◌, All};
 ghost use Rattle.role_node.specs.Listed.{IsWithin};
 

@@ -1,3 +1,5 @@
+//! What a node keeps beside its history, and how an event changes it.
+
 ghost use Rattle.std.specs.Prelude.{◌≡◌, ℕ, ◌<◌, ◌≤◌, ◌+◌, List, [], IfOk, IfErr, OnOk, OnErr, vec_len};
 ghost use Rattle.role_commands.specs.Tables.{Table};
 ghost use Rattle.link_frames.specs.Packets.{PacketValue};
@@ -11,8 +13,8 @@ ghost use Rattle.role_node.specs.Access.{verdict_at, sent_at};
 ghost use Rattle.role_node.specs.Answers.{issue_fault, take_outlook, act_fault, or_counted, outlook_with_room};
 ghost use Rattle.role_node.specs.Questions.{ask_due, IsAsked, IsAnswerUnder, of_listing_fault};
 ghost use Rattle.role_node.specs.Configs.{most_events};
-ghost use Rattle.role_node.specs.Kept.{obeyed, IsStateAfter, Follows, Stays, IsReached};
-ghost use Rattle.role_node.specs.Kept.{IsEntryFor, FailsForMemory, IsInRange};
+ghost use Rattle.role_node.specs.inside.Kept.{obeyed, IsStateAfter, Follows, Stays, IsReached};
+ghost use Rattle.role_node.specs.inside.Kept.{IsEntryFor, FailsForMemory, IsInRange};
 ghost use Rattle.role_node.specs.declared.event.Event.{Event};
 ghost use Rattle.role_node.specs.declared.event.Event.TheVariants.{Issue, Take, Client};
 

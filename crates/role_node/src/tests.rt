@@ -1,3 +1,5 @@
+//! What no clause says: answers by example, printed faults, and each allocation that fails.
+
 ghost use Rattle.std.specs.Prelude.{◌≡◌, ◌<◌, IfOk};
 
 use super::*;

@@ -1,5 +1,5 @@
 use Rattle.std.proofs.Common.{ap, ◌∙◌, arith}
-use Rattle.role_node.proofs.Growing.{policy_more, policy_past}
+use Rattle.role_node.proofs.StreamLemmas.{policy_more, policy_past}
 use Rattle.role_node.proofs.state.obey.Goals as goal
 use Rattle.role_node.proofs.state.obey.Goals.{in-Some, in_default}
 

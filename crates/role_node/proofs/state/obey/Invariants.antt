@@ -2,7 +2,7 @@ use Rattle.std.proofs.Common.{◌≡◌, ◌+◌, ◌≤◌, List}
 use Rattle.link_frames.specs.Packets.{PacketValue}
 use Rattle.owner_streams.specs.Values.{IsStateOf}
 use Rattle.rbac_state.specs.Policies.{IsPolicyOf}
-use Rattle.role_node.specs.Kept.{obeyed}
+use Rattle.role_node.specs.inside.Kept.{obeyed}
 use Rattle.role_node.proofs.state.obey.Given as goal
 
 abbrev pub invariant-loop-place : goal.invariant-loop-place

@@ -1,6 +1,6 @@
 use Rattle.std.proofs.Common.{sym}
 use Rattle.std.proofs.lemmas.Result.{err_from_is_err_and}
-use Rattle.role_node.proofs.Refused.{refused_is_due}
+use Rattle.role_node.proofs.RefusalLemmas.{refused_is_due}
 use Rattle.role_node.proofs.node.Node.apply.Goals as goal
 
 pub returns-in_err-look-clause-due : goal.returns-in_err-look-clause-due

@@ -1,6 +1,6 @@
 use Rattle.std.proofs.Common.{Ok}
-use Rattle.role_node.specs.Kept.{events}
-use Rattle.role_node.proofs.Relations.{answered_after}
+use Rattle.role_node.specs.inside.Kept.{events}
+use Rattle.role_node.proofs.KeptLemmas.{answered_after}
 use Rattle.role_node.proofs.node.Node.ask.Goals as goal
 
 pub returns-clause-answer : goal.returns-clause-answer

@@ -1,6 +1,6 @@
 use Rattle.std.proofs.Common.{length, ap, sym, ◌∙◌}
-use Rattle.role_node.proofs.Entries.{events-length}
-use Rattle.role_node.proofs.Relations.{legal_inside}
+use Rattle.role_node.proofs.EntryLemmas.{events-length}
+use Rattle.role_node.proofs.KeptLemmas.{legal_inside}
 use Rattle.role_node.proofs.node.Node.events.Goals as goal
 
 pub returns-clause-count : goal.returns-clause-count

@@ -1,4 +1,4 @@
-use Rattle.role_node.proofs.Relations.{legal_inside}
+use Rattle.role_node.proofs.KeptLemmas.{legal_inside}
 use Rattle.role_node.proofs.node.Node.history.Goals as goal
 
 pub returns-clause-legal : goal.returns-clause-legal

@@ -1,4 +1,4 @@
-use Rattle.role_node.proofs.Relations.{legal_inside}
+use Rattle.role_node.proofs.KeptLemmas.{legal_inside}
 use Rattle.role_node.proofs.node.Node.look.Goals as goal
 
 pub returns-in-Ok-Counted-clause-legal : goal.returns-in-Ok-Counted-clause-legal

@@ -1,7 +1,7 @@
 use Rattle.std.proofs.Common.{[], ◌∷◌, ◌++◌, refl, ◌∙◌}
-use Rattle.role_node.specs.Kept.{events}
-use Rattle.role_node.proofs.Entries.{legal, counted_with_room}
-use Rattle.role_node.proofs.Recording.{inside_stays, inside_grows, counts_inside, in_range, events_are_few}
+use Rattle.role_node.specs.inside.Kept.{events}
+use Rattle.role_node.proofs.EntryLemmas.{legal, counted_with_room}
+use Rattle.role_node.proofs.FieldLemmas.{inside_stays, inside_grows, counts_inside, in_range, events_are_few}
 use Rattle.role_node.proofs.node.Node.record.Goals as goal
 
 pub invariant_of-self : goal.invariant_of-self

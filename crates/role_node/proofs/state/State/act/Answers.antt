@@ -1,5 +1,5 @@
 use Rattle.std.proofs.Common.{refl}
-use Rattle.role_node.proofs.After.{after_act}
+use Rattle.role_node.proofs.StateLemmas.{after_act}
 use Rattle.role_node.proofs.state.State.act.Goals as goal
 
 pub returns-in_ok-open-in-Open-clause-ok : goal.returns-in_ok-open-in-Open-clause-ok

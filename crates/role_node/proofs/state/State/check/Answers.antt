@@ -2,7 +2,7 @@ use Rattle.std.proofs.Common.{ap, ◌∙◌}
 use Rattle.std.specs.FinMap as map
 use Rattle.role_sessions.specs.Decisions.{verdict}
 use Rattle.role_node.specs.Access.{relations_at}
-use Rattle.role_node.proofs.Relations.{relations_are}
+use Rattle.role_node.proofs.KeptLemmas.{relations_are}
 use Rattle.role_node.proofs.state.State.check.Goals as goal
 
 pub returns-clause-verdict : goal.returns-clause-verdict

@@ -1,5 +1,5 @@
 use Rattle.std.proofs.Common.{[], ◌∷◌, ◌++◌, refl, ap, ◌∙◌}
-use Rattle.role_node.proofs.After.{after_issue}
+use Rattle.role_node.proofs.StateLemmas.{after_issue}
 use Rattle.role_node.proofs.state.State.issue.Goals as goal
 
 pub returns-clause-ok : goal.returns-clause-ok

@@ -1,5 +1,5 @@
 use Rattle.std.proofs.Common.{◌∙◌}
-use Rattle.role_node.proofs.After.{parts_of_nothing}
+use Rattle.role_node.proofs.StateLemmas.{parts_of_nothing}
 use Rattle.role_node.proofs.state.State.new.Goals as goal
 
 pub returns : goal.returns

@@ -3,11 +3,11 @@ use Rattle.owner_streams.specs.Steps.{step_of, step_due}
 use Rattle.owner_streams.specs.declared.steps.StreamStep.{StreamStep}
 use Rattle.role_sessions.specs.Decisions.{relations_of}
 use Rattle.role_node.specs.Answers.{EntryValue, counted_reply}
-use Rattle.role_node.specs.Entries.{IsOwn}
+use Rattle.role_node.specs.inside.Entries.{IsOwn}
 use Rattle.role_node.specs.Histories.{packets}
 use Rattle.role_node.specs.declared.event.Event.TheVariants.{Take}
-use Rattle.role_node.proofs.After.{after_take, stays_on_err, step_is_due, policy_grown, policy_stays, kept_with_room}
-use Rattle.role_node.proofs.Owning.{step_is_own}
+use Rattle.role_node.proofs.StateLemmas.{after_take, stays_on_err, step_is_due, policy_grown, policy_stays, kept_with_room}
+use Rattle.role_node.proofs.CauseLemmas.{step_is_own}
 use Rattle.role_node.proofs.state.State.take.Goals as goal
 use Rattle.role_node.proofs.state.State.take.Goals.{then-step, else-step}
 

@@ -15,9 +15,9 @@ use Rattle.role_node.specs.declared.event.Event.{Event}
 use Rattle.role_node.specs.declared.event.Event.TheVariants.{Issue, Take, Client}
 use Rattle.role_node.specs.declared.event.Reply.{Reply}
 use Rattle.role_node.specs.declared.faults.NodeFault.{NodeFault}
-use Rattle.role_node.proofs.Parts.{issued-Issue, issued-Take, issued-Client, issued-none}
-use Rattle.role_node.proofs.Entries.{counted_with_room}
-use Rattle.role_node.proofs.Recording.{second_test}
+use Rattle.role_node.proofs.HistoryLemmas.{issued-Issue, issued-Take, issued-Client, issued-none}
+use Rattle.role_node.proofs.EntryLemmas.{counted_with_room}
+use Rattle.role_node.proofs.FieldLemmas.{second_test}
 
 at_seam : (past rest : List Event) (e : Event) → slice_get (past ++ e ∷ rest) (length past) ≡ Some e
 at_seam [] rest e = refl

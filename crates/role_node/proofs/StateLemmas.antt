@@ -25,16 +25,16 @@ use Rattle.role_sessions.specs.declared.event.ClientEvent.{ClientEvent}
 use Rattle.role_node.specs.Histories.{packets, client_events}
 use Rattle.role_node.specs.Faults.{of_stream_fault}
 use Rattle.role_node.specs.Answers.{EntryValue, of_effect_due}
-use Rattle.role_node.specs.Kept.{ArePartsOf, IsStateAfter, Stays, obeyed}
+use Rattle.role_node.specs.inside.Kept.{ArePartsOf, IsStateAfter, Stays, obeyed}
 use Rattle.role_node.specs.declared.event.Event.{Event}
 use Rattle.role_node.specs.declared.event.Event.TheVariants.{Issue, Take, Client}
 use Rattle.role_node.specs.declared.faults.NodeFault.{NodeFault}
 use Rattle.role_node.specs.declared.faults.NodeFault.TheVariants as fault
 use Rattle.role_node.specs.declared.state.State.{State}
-use Rattle.role_node.proofs.Parts.{issued-Issue, issued-Take, issued-Client, packets-Issue, packets-Take}
-use Rattle.role_node.proofs.Parts.{packets-Client, client_events-Issue, client_events-Take}
-use Rattle.role_node.proofs.Parts.{client_events-Client, issued-none, packets-none, client_events-none}
-use Rattle.role_node.proofs.Growing.{obeyed_none, obeyed_all, policy_same, stream_same}
+use Rattle.role_node.proofs.HistoryLemmas.{issued-Issue, issued-Take, issued-Client, packets-Issue, packets-Take}
+use Rattle.role_node.proofs.HistoryLemmas.{packets-Client, client_events-Issue, client_events-Take}
+use Rattle.role_node.proofs.HistoryLemmas.{client_events-Client, issued-none, packets-none, client_events-none}
+use Rattle.role_node.proofs.StreamLemmas.{obeyed_none, obeyed_all, policy_same, stream_same}
 
 parts_same : {roles : Table} {commands commands' : List Command} {taken taken' : List PacketValue}
     {acts acts' : List ClientEvent} {a : State} → commands ≡ commands' → taken ≡ taken' → acts ≡ acts' →

@@ -13,7 +13,7 @@ use Rattle.bracha_instance.proofs.Exported.{echoed_push, readies_its_own, delive
 use Rattle.owner_streams.specs.Places.{take_of, takes_at}
 use Rattle.owner_streams.specs.Steps.{step_of}
 use Rattle.owner_streams.proofs.Exported.{takes_at-own}
-use Rattle.role_node.specs.Entries.{IsOwn}
+use Rattle.role_node.specs.inside.Entries.{IsOwn}
 
 abbrev IsOnly : Command → Option Command → Type 0
 IsOnly c o = IfSome o (λ d. d ≡ c)

@@ -13,8 +13,8 @@ use Rattle.std.proofs.lemmas.List.Elements.{recursion_from_All, All-from_recursi
 use Rattle.rbac_state.specs.Policies.{permission_cmp}
 use Rattle.rbac_state.proofs.Exported.{contains_head, contains_cases, contains_none}
 use Rattle.role_node.specs.Listed.{those_below, pairs_below}
-use Rattle.role_node.proofs.Ascending.{all_by_members, range_sorted, range_members}
-use Rattle.role_node.proofs.Ascending.{those_members, those_sorted, sorted_append}
+use Rattle.role_node.proofs.AscendingLemmas.{all_by_members, range_sorted, range_members}
+use Rattle.role_node.proofs.AscendingLemmas.{those_members, those_sorted, sorted_append}
 
 -- pairs of one number with each of these
 abbrev pairs_with : ℕ → List ℕ → List (ℕ × ℕ)

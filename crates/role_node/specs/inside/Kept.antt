@@ -16,7 +16,7 @@ use Rattle.role_sessions.specs.Kept.{KeptAreRight}
 use Rattle.role_sessions.specs.declared.event.ClientEvent.{ClientEvent}
 use Rattle.role_node.specs.Configs.{ConfigValue, most_events}
 use Rattle.role_node.specs.Histories.{issued, packets, client_events}
-use Rattle.role_node.specs.Answers.{EntryValue, outlook_with_room, reply_to, answer_due, is_recorded}
+use Rattle.role_node.specs.Answers.{EntryValue, event_of, outlook_with_room, reply_to, answer_due, is_recorded}
 use Rattle.role_node.specs.declared.event.Event.{Event}
 use Rattle.role_node.specs.declared.event.Event.TheVariants.{Issue, Take, Client}
 use Rattle.role_node.specs.declared.faults.NodeFault.{NodeFault}
@@ -74,9 +74,6 @@ IsInRange a (Client act) = a.sessions.state.opened ≤ most_events
 -- the streams' commands, of one owner's only so many
 abbrev pub obeyed : Counts → List PacketValue → ℕ → ℕ → ℕ → List Command
 obeyed s taken owner count node = if node == owner then take count (stream s owner taken) else stream s node taken
-
-abbrev pub event_of : EntryValue → Event
-event_of entry = entry.event
 
 -- the events of the entries
 abbrev pub events : List EntryValue → List Event

@@ -12,13 +12,13 @@ use Rattle.role_node.specs.declared.faults.AskFault.{AskFault}
 use Rattle.role_node.specs.declared.question.Answer.{Answer}
 use Rattle.role_node.specs.declared.question.Question.{Question}
 use Rattle.role_node.specs.Histories.{packets}
-use Rattle.role_node.specs.Kept.{IsStateAfter}
-use Rattle.role_node.specs.Inside.{IsNode, node_value}
+use Rattle.role_node.specs.inside.Kept.{IsStateAfter}
+use Rattle.role_node.specs.inside.Fields.{IsNode, node_value}
 use Rattle.role_node.specs.Nodes.{NodeValue, IsLegalNode}
 use Rattle.role_node.specs.declared.event.Event.{Event}
 use Rattle.role_node.specs.declared.node.Node.TheInside.{Inside}
 use Rattle.role_node.specs.declared.state.State.{State}
-use Rattle.role_node.proofs.Entries.{legal}
+use Rattle.role_node.proofs.EntryLemmas.{legal}
 
 -- the policy's relations are the history's
 pub relations_are : (roles : Table) (history : List Event) (a : State) → IsStateAfter roles history a

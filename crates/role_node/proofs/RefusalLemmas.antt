@@ -43,14 +43,8 @@ issue_other false false false e = cc
 
 session_other : (o : Option SessionFault) → (o ≡ Some session.Memory → ⊥) → IsOther (option_map of_session_fault o)
 session_other None h e = cc
-session_other (Some session.NoSession) h e = cc
-session_other (Some session.NotYours) h e = cc
-session_other (Some session.TooManySessions) h e = cc
-session_other (Some session.NoSuchRole) h e = cc
-session_other (Some session.NotAssigned) h e = cc
-session_other (Some session.AlreadyActive) h e = cc
-session_other (Some session.TooManyRoles) h e = cc
 session_other (Some session.Memory) h e = h refl
+session_other (Some f) h e = cc
 
 open_other : (b : Bool)
     → ◌≡◌ {A = Option SessionFault} (if b then Some session.TooManySessions else None) (Some session.Memory)
@@ -130,15 +124,8 @@ not_memory config me history event e =
 
 is_refusal : (due : Result Reply NodeFault) (f : NodeFault) → due ≡ Err f → (f ≡ fault.Memory → ⊥)
     → IsAnswer due (Err f)
-is_refusal due fault.NotMine e h = e
-is_refusal due fault.StreamFull e h = e
-is_refusal due fault.Busy e h = e
-is_refusal due fault.Full e h = e
-is_refusal due fault.Misrouted e h = e
-is_refusal due (fault.Beyond place end) e h = e
-is_refusal due (fault.Session f) e h = e
-is_refusal due (fault.End f) e h = e
 is_refusal due fault.Memory e h = absurd (h refl)
+is_refusal due f e h = e
 
 -- a refusal is the answer that is due
 pub refused_is_due : (config : ConfigValue) (me : ℕ) (history : List Event) (event : Event) (f : NodeFault) →

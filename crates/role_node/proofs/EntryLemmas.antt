@@ -8,11 +8,11 @@ use Rattle.std.proofs.lemmas.Option.{slice_get-map}
 use Rattle.role_commands.specs.Tables.{Table}
 use Rattle.bracha_instance.specs.declared.instance.Effect.{Effect}
 use Rattle.bracha_instance.specs.declared.instance.Effect.TheVariants as effect
-use Rattle.role_sessions.specs.declared.event.ClientEvent.TheVariants.{Open, Activate, DropRole, Close}
+use Rattle.role_sessions.specs.declared.event.ClientEvent.TheVariants.{Open}
 use Rattle.role_node.specs.Configs.{ConfigValue}
-use Rattle.role_node.specs.Answers.{EntryValue, outlook, outlook_with_room, unless_full, reply_to}
+use Rattle.role_node.specs.Answers.{EntryValue, event_of, outlook, outlook_with_room, unless_full, reply_to}
 use Rattle.role_node.specs.Answers.{answered, answer_due, is_recorded, IsLegal, AreReplies}
-use Rattle.role_node.specs.Kept.{event_of, events, AreEntries}
+use Rattle.role_node.specs.inside.Kept.{events, AreEntries}
 use Rattle.role_node.specs.declared.event.Event.{Event}
 use Rattle.role_node.specs.declared.event.Event.TheVariants.{Issue, Take, Client}
 use Rattle.role_node.specs.declared.event.Reply.{Reply}
@@ -95,9 +95,7 @@ reply_is_recorded : (roles : Table) (me : ℕ) (history : List Event) (event : E
 reply_is_recorded roles me history (Issue c) = refl
 reply_is_recorded roles me history (Take p) = refl
 reply_is_recorded roles me history (Client (Open user)) = refl
-reply_is_recorded roles me history (Client (Activate session user role)) = refl
-reply_is_recorded roles me history (Client (DropRole session user role)) = refl
-reply_is_recorded roles me history (Client (Close session user)) = refl
+reply_is_recorded roles me history (Client act) = refl
 
 pub counted_is_due : (config : ConfigValue) (me : ℕ) (history : List Event) (event : Event) (r : Reply) →
     outlook config me history event ≡ Ok effect.Counted → r ≡ reply_to config.roles me history event →

@@ -15,7 +15,7 @@ use Rattle.owner_streams.proofs.Exported.{takes_at-other, stream_is_exact_lem, s
 use Rattle.rbac_state.specs.Assignments.{with_command}
 use Rattle.rbac_state.specs.Policies.{PolicyValue, IsApplied, IsPolicyOf}
 use Rattle.rbac_state.proofs.Exported.{applied_is_of_one_more}
-use Rattle.role_node.specs.Kept.{obeyed}
+use Rattle.role_node.specs.inside.Kept.{obeyed}
 
 not_both : (b c : Bool) → b ≡ false → (b && c) ≡ false
 not_both b c e = ap (λ x. x && c) e

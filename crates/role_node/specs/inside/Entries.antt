@@ -8,7 +8,7 @@ use Rattle.link_frames.specs.Packets.{PacketValue}
 use Rattle.link_frames.specs.declared.kind.Kind.{Kind}
 use Rattle.link_frames.specs.declared.packet.Message.{Message}
 use Rattle.owner_streams.specs.declared.steps.StreamStep.{StreamStep}
-use Rattle.role_sessions.specs.declared.event.ClientEvent.TheVariants.{Open, Activate, DropRole, Close}
+use Rattle.role_sessions.specs.declared.event.ClientEvent.TheVariants.{Open}
 use Rattle.role_node.specs.Answers.{EntryValue}
 use Rattle.role_node.specs.contracts.event.Event as event_contract
 use Rattle.role_node.specs.contracts.event.Reply as reply_contract
@@ -54,10 +54,8 @@ kept_value k = record { event = kept_event k; reply = kept_reply k }
 
 -- the end of the new places is a number of 32 bits
 abbrev pub IsKept : Kept → Type 0
-IsKept (kept.Issued send) = ⊤
 IsKept (kept.Taken p from grown send delivered) = from + grown < 2 ^ 32
-IsKept (kept.Opened user session) = ⊤
-IsKept (kept.Acted act) = ⊤
+IsKept k = ⊤
 
 -- what is kept of an event and a reply that go together
 abbrev pub kept_of : Event → Reply → Kept
@@ -84,6 +82,4 @@ kept_of-value (kept.Taken p from grown send delivered) = λ i.
     kept.Taken p from (add-sub_cancel_left from grown i) (kind_said p send i) (was_delivered p.command delivered i)
 kept_of-value (kept.Opened user session) = refl
 kept_of-value (kept.Acted (Open user)) = refl
-kept_of-value (kept.Acted (Activate session user role)) = refl
-kept_of-value (kept.Acted (DropRole session user role)) = refl
-kept_of-value (kept.Acted (Close session user)) = refl
+kept_of-value (kept.Acted act) = refl

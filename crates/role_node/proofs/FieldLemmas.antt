@@ -15,9 +15,9 @@ use Rattle.role_node.specs.Configs.{most_events}
 use Rattle.role_node.specs.Histories.{issued, packets, client_events}
 use Rattle.role_node.specs.Answers.{EntryValue, outlook, outlook_with_room, or_counted, is_routed, of_effect_due}
 use Rattle.role_node.specs.Answers.{reply_to}
-use Rattle.role_node.specs.Inside.{IsNode, node_value}
+use Rattle.role_node.specs.inside.Fields.{IsNode, node_value}
 use Rattle.role_node.specs.Nodes.{NodeValue}
-use Rattle.role_node.specs.Kept.{IsStateAfter, Stays, Follows, IsEntryFor, IsInRange, events}
+use Rattle.role_node.specs.inside.Kept.{IsStateAfter, Stays, Follows, IsEntryFor, IsInRange, events}
 use Rattle.role_node.specs.declared.event.Event.{Event}
 use Rattle.role_node.specs.declared.event.Event.TheVariants.{Issue, Take, Client}
 use Rattle.role_node.specs.declared.event.Reply.{Reply}
@@ -25,9 +25,9 @@ use Rattle.role_node.specs.declared.faults.NodeFault.{NodeFault}
 use Rattle.role_node.specs.declared.faults.NodeFault.TheVariants as fault
 use Rattle.role_node.specs.declared.node.Node.TheInside.{Inside}
 use Rattle.role_node.specs.declared.state.State.{State}
-use Rattle.role_node.proofs.Parts.{client_events-length}
-use Rattle.role_node.proofs.Entries.{entries_push, events-push, events-length}
-use Rattle.role_node.proofs.Entries.{counted_is_due, counted_is_recorded, counted_with_room}
+use Rattle.role_node.proofs.HistoryLemmas.{client_events-length}
+use Rattle.role_node.proofs.EntryLemmas.{entries_push, events-push, events-length}
+use Rattle.role_node.proofs.EntryLemmas.{counted_is_due, counted_is_recorded, counted_with_room}
 
 -- room that was made changes nothing of this
 pub inside_stays : {a b : Inside} → IsNode a → b.config ≡ a.config → b.me ≡ a.me → b.entries.items ≡ a.entries.items

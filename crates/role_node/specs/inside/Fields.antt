@@ -2,7 +2,7 @@
 use Rattle.std.specs.Prelude.{◌<◌, ◌≤◌, length}
 use Rattle.role_node.specs.Configs.{most_events}
 use Rattle.role_node.specs.Nodes.{NodeValue}
-use Rattle.role_node.specs.Kept.{IsStateAfter, AreEntries, events}
+use Rattle.role_node.specs.inside.Kept.{IsStateAfter, AreEntries, events}
 use Rattle.role_node.specs.declared.node.Node.TheInside.{Inside}
 
 abbrev pub node_value : Inside → NodeValue

@@ -1,0 +1,4 @@
+-- What serves the code and no public contract.
+pub mod Entries
+pub mod Kept
+pub mod Fields
