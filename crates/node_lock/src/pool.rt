@@ -42,16 +42,12 @@ pub fn run_pool<G: Gate, R: Threads + Wait + Sync>(
     ensures { IfOk result (IsReport config me calls.items workers) }
 {
     let mut slots = vacant(alloc, calls.len())?;
-    let node = run_new(
-        rt,
+    let pool = Pool {
         alloc,
-        &config,
-        me,
-        workers,
-        calls.as_slice(),
+        calls: calls.as_slice(),
         gate,
-        &mut slots,
-    )?;
+    };
+    let node = pool.run_at_new_node(rt, &config, me, workers, slots.as_mut_slice())?;
     report(
         alloc,
         config,
@@ -63,46 +59,94 @@ pub fn run_pool<G: Gate, R: Threads + Wait + Sync>(
     )
 }
 
-/// The node that made the calls. Their receipts go into the slots.
-fn run_new<G: Gate, R: Threads + Wait + Sync>(
-    rt: &R,
+/// What stays the same in all rounds of a pool: its allocator, all its calls, and its gate.
+#[derive(Drop)]
+struct Pool<'a, G> {
     alloc: Global,
-    config: &Config,
-    me: NodeName,
-    workers: u8,
-    calls: &[Call],
-    gate: &G,
-    slots: &mut Vec<Slot>,
-) -> Result<Node, PoolFault>
-    requires me { me < config.now.roles.sizes.nodes }
-    requires workers { (1 ≤ workers) × (workers ≤ most_seats) }
-    requires calls { length calls.now ≤ 65536 }
-{
-    let node = Node::new(alloc, config.copy(alloc)?, me)?;
-    let blank = Blank::new(workers as u64);
-    run_at::<Brand, G, R>(rt, alloc, blank, node, workers, calls, gate, slots)
+    calls: &'a [Call],
+    gate: &'a G,
 }
 
-/// The same at a new node, and a ledger with one part for each worker.
-fn run_at<L: Ledger + Send + Sync, G: Gate, R: Threads + Wait + Sync>(
-    rt: &R,
-    alloc: Global,
-    blank: Blank,
-    node: Node,
-    workers: u8,
-    calls: &[Call],
-    gate: &G,
-    slots: &mut Vec<Slot>,
-) -> Result<Node, PoolFault>
-    requires name { blank.name ≡ L.name }
-    requires parts { (blank.parts ≡ L.parts) × (workers ≡ L.parts) }
-    requires empty { node.history ≡ [] }
-    requires workers { (1 ≤ workers) × (workers ≤ most_seats) }
-    requires calls { length calls.now ≤ 65536 }
-{
-    let (shared, seats) = SharedNode::<L>::new(alloc, blank, node, workers)?;
-    let seats = run_rounds(rt, alloc, &shared, seats, calls, gate, slots)?;
-    Ok(closed(shared, seats))
+impl<'a, G: Gate> Pool<'a, G> {
+    /// The node that made the calls. Their receipts go into the slots.
+    fn run_at_new_node<R: Threads + Wait + Sync>(
+        &self,
+        rt: &R,
+        config: &Config,
+        me: NodeName,
+        workers: u8,
+        slots: &mut [Slot],
+    ) -> Result<Node, PoolFault>
+        requires me { me < config.now.roles.sizes.nodes }
+        requires workers { (1 ≤ workers) × (workers ≤ most_seats) }
+        requires calls { length self.now.calls.now ≤ 65536 }
+    {
+        let node = Node::new(self.alloc, config.copy(self.alloc)?, me)?;
+        let blank = Blank::new(workers as u64);
+        self.run_with_seats::<Brand, R>(rt, blank, node, workers, slots)
+    }
+
+    /// The same at this node, by a ledger with one part for each worker's seat.
+    fn run_with_seats<L: Ledger + Send + Sync, R: Threads + Wait + Sync>(
+        &self,
+        rt: &R,
+        blank: Blank,
+        node: Node,
+        workers: u8,
+        slots: &mut [Slot],
+    ) -> Result<Node, PoolFault>
+        requires name { blank.name ≡ L.name }
+        requires parts { (blank.parts ≡ L.parts) × (workers ≡ L.parts) }
+        requires empty { node.history ≡ [] }
+        requires workers { (1 ≤ workers) × (workers ≤ most_seats) }
+        requires calls { length self.now.calls.now ≤ 65536 }
+    {
+        let (shared, seats) = SharedNode::<L>::new(self.alloc, blank, node, workers)?;
+        let seats = self.run_rounds(rt, &shared, seats, slots)?;
+        Ok(closed(shared, seats))
+    }
+
+    /// Runs the calls, as many at a time as an inbox takes.
+    fn run_rounds<L: Ledger + Send + Sync, R: Threads + Wait + Sync>(
+        &self,
+        rt: &R,
+        shared: &SharedNode<L>,
+        mut seats: Vec<Seat<L>>,
+        slots: &mut [Slot],
+    ) -> Result<Vec<Seat<L>>, PoolFault>
+        requires seats { (1 ≤ vec_len seats) × (vec_len seats ≤ most_seats) }
+        requires calls { length self.now.calls.now ≤ 65536 }
+        ensures { IfOk result (λ back. vec_len back ≡ vec_len seats) }
+    {
+        let mut start = 0;
+        while start < self.calls.len() {
+            seats = self.run_round(rt, shared, seats, start, slots)?;
+            start += INBOX_CAPACITY;
+        }
+        Ok(seats)
+    }
+
+    /// Runs the calls from `start` on that an inbox takes.
+    fn run_round<L: Ledger + Send + Sync, R: Threads + Wait + Sync>(
+        &self,
+        rt: &R,
+        shared: &SharedNode<L>,
+        seats: Vec<Seat<L>>,
+        start: usize,
+        slots: &mut [Slot],
+    ) -> Result<Vec<Seat<L>>, PoolFault>
+        requires seats { (1 ≤ vec_len seats) × (vec_len seats ≤ most_seats) }
+        requires start { start ≤ length self.now.calls.now }
+        requires calls { length self.now.calls.now ≤ 65536 }
+        ensures { IfOk result (λ back. vec_len back ≡ vec_len seats) }
+    {
+        let end = self.calls.len().min(start + INBOX_CAPACITY);
+        let (inbox, passes) = Inbox::new(self.alloc, seats.len() as u8)?;
+        let passes = filled(rt, &inbox, passes, self.calls, start, end)?;
+        let desks = paired(self.alloc, &inbox, seats, passes)?;
+        let done = at_desks(rt, self.alloc, shared, &inbox, self.gate, desks)?;
+        collected(self.alloc, done, slots)
+    }
 }
 
 /// The node of a shared node, with all its seats.
@@ -122,52 +166,6 @@ fn vacant(alloc: Global, count: usize) -> Result<Vec<Slot>, AllocError> {
         slots.push(Slot::Vacant)?;
     }
     Ok(slots)
-}
-
-/// Runs the calls, as many at a time as an inbox takes.
-fn run_rounds<L: Ledger + Send + Sync, G: Gate, R: Threads + Wait + Sync>(
-    rt: &R,
-    alloc: Global,
-    shared: &SharedNode<L>,
-    mut seats: Vec<Seat<L>>,
-    calls: &[Call],
-    gate: &G,
-    slots: &mut Vec<Slot>,
-) -> Result<Vec<Seat<L>>, PoolFault>
-    requires seats { (1 ≤ vec_len seats) × (vec_len seats ≤ most_seats) }
-    requires calls { length calls.now ≤ 65536 }
-    ensures { IfOk result (λ back. vec_len back ≡ vec_len seats) }
-{
-    let mut start = 0;
-    while start < calls.len() {
-        seats = run_round(rt, alloc, shared, seats, calls, start, gate, slots)?;
-        start += INBOX_CAPACITY;
-    }
-    Ok(seats)
-}
-
-/// Runs the calls from `start` on that an inbox takes.
-fn run_round<L: Ledger + Send + Sync, G: Gate, R: Threads + Wait + Sync>(
-    rt: &R,
-    alloc: Global,
-    shared: &SharedNode<L>,
-    seats: Vec<Seat<L>>,
-    calls: &[Call],
-    start: usize,
-    gate: &G,
-    slots: &mut Vec<Slot>,
-) -> Result<Vec<Seat<L>>, PoolFault>
-    requires seats { (1 ≤ vec_len seats) × (vec_len seats ≤ most_seats) }
-    requires start { start ≤ length calls.now }
-    requires calls { length calls.now ≤ 65536 }
-    ensures { IfOk result (λ back. vec_len back ≡ vec_len seats) }
-{
-    let end = calls.len().min(start + INBOX_CAPACITY);
-    let (inbox, passes) = Inbox::new(alloc, seats.len() as u8)?;
-    let passes = filled(rt, &inbox, passes, calls, start, end)?;
-    let desks = paired(alloc, &inbox, seats, passes)?;
-    let done = at_desks(rt, alloc, shared, &inbox, gate, desks)?;
-    collected(alloc, done, slots)
 }
 
 /// Puts the calls from `start` to `end` into an inbox, each with its index as the job's number.
@@ -243,7 +241,7 @@ fn at_desks<L: Ledger + Send + Sync, G: Gate, R: Threads + Wait + Sync>(
 fn collected<L: Ledger>(
     alloc: Global,
     mut done: Vec<Done<L>>,
-    slots: &mut Vec<Slot>,
+    slots: &mut [Slot],
 ) -> Result<Vec<Seat<L>>, PoolFault>
     ensures { IfOk result (λ seats. vec_len seats ≡ vec_len done) }
 {
@@ -264,7 +262,7 @@ fn collected<L: Ledger>(
 }
 
 /// Puts each receipt into its call's slot.
-fn place(slots: &mut Vec<Slot>, mut told: Vec<Told>) {
+fn place(slots: &mut [Slot], mut told: Vec<Told>) {
     while let Some(one) = told.pop() {
         let Told { number, receipt } = one;
         let index = number as usize;
