@@ -1,24 +1,15 @@
--- What is due at a place of a legal history, and which receipts are true there.
-use Rattle.std.proofs.Common.{◌≡◌, ℕ, ◌+◌, ◌<◌, true, false, List, [], ◌∷◌, ◌++◌, length, take}
-use Rattle.std.proofs.Common.{map, Option, Some, None, Result, Ok, Err, refl, sym, ap, ◌∙◌, subst}
-use Rattle.std.specs.Prelude.{slice_get, option_map, IsTrue}
+-- What is due at a place of a legal history.
+use Rattle.std.proofs.Common.{◌≡◌, ℕ, ◌+◌, ◌<◌, List, [], ◌∷◌, ◌++◌, length, take}
+use Rattle.std.proofs.Common.{map, Some, sym, ap, ◌∙◌}
+use Rattle.std.specs.Prelude.{slice_get, option_map}
 use Rattle.std.proofs.lemmas.List.{take_more}
 use Rattle.std.proofs.lemmas.Option.{slice_get-map, slice_get_within, get_or_from_slice_get}
-use Rattle.bracha_instance.specs.declared.instance.Effect.{Effect}
-use Rattle.bracha_instance.specs.declared.instance.Effect.TheVariants as effect
-use Rattle.role_node.specs.Answers.{EntryValue, is_recorded, answered}
+use Rattle.role_node.specs.Answers.{EntryValue, is_recorded}
 use Rattle.role_node.specs.Nodes.{NodeValue, due_at, with_event, IsLegalNode, AreRepliesOf}
 use Rattle.role_node.specs.Kept.{event_of}
 use Rattle.role_node.specs.declared.event.Event.{Event}
-use Rattle.role_node.specs.declared.event.Reply.{Reply}
-use Rattle.role_node.specs.declared.faults.NodeFault.{NodeFault}
-use Rattle.node_lock.specs.Receipts.{outcome_from, outcome_due, is_recorded_outcome}
-use Rattle.node_lock.specs.Audits.{node_at, IsEventOf}
-use Rattle.node_lock.specs.inside.Walks.{event_in, IsNext, IsEntryOf, IsTrueHere}
-use Rattle.node_lock.specs.declared.receipt.Call.{Call}
-use Rattle.node_lock.specs.declared.receipt.Call.TheVariants.{Step}
-use Rattle.node_lock.specs.declared.receipt.Outcome.TheVariants.{Reply as Replied}
-use Rattle.node_lock.specs.declared.receipt.Receipt.{Receipt}
+use Rattle.node_lock.specs.Audits.{node_at}
+use Rattle.node_lock.specs.inside.Walks.{IsNext}
 
 -- the entry at a place is the one that was due there
 pub next_entry : (node : NodeValue) (entries : List EntryValue) (place : ℕ) (entry : EntryValue) → map event_of entries
