@@ -1,4 +1,4 @@
-pub mod Dues
+pub mod DueOutcomes
 pub mod Places
-pub mod Audited
-pub mod Hauls
+pub mod AuditLemmas
+pub mod InboxMoves

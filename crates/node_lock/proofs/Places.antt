@@ -14,7 +14,7 @@ use Rattle.std.proofs.lemmas.List.Sorted.{sum_by-IsPermutation, IsNonDecreasingB
 use Rattle.std.proofs.lemmas.List.Sums.{sum_by-cons, sum_by-append}
 use Rattle.node_lock.specs.Receipts.{is_recorded_outcome}
 use Rattle.node_lock.specs.Audits.{recorded_at}
-use Rattle.node_lock.specs.Walks.{receipts_of, IsRest, recorded_in}
+use Rattle.node_lock.specs.inside.Walks.{receipts_of, IsRest, recorded_in}
 use Rattle.node_lock.specs.declared.receipt.Receipt.{Receipt}
 
 abbrev pub place_of : Receipt → ℕ

@@ -5,8 +5,7 @@ pub mod Views
 pub mod Texts
 pub mod Closes
 pub mod Audits
-pub mod Walks
-pub mod Hands
+pub mod inside
 pub mod Inboxes
 pub mod InboxFaults
 pub mod Laws

@@ -8,6 +8,10 @@ use Rattle.node_lock.specs.declared.receipt.Call.{Call}
 use Rattle.node_lock.specs.declared.receipt.Receipt.{Receipt}
 use Rattle.node_lock.specs.declared.report.PoolReport.{PoolReport}
 
+-- the most calls of a pool
+abbrev pub most_calls : ℕ
+most_calls = 65536
+
 abbrev pub call_of : Receipt → Call
 call_of r = r.call
 

@@ -1,15 +1,18 @@
+//! The audit of receipts against a replay of a node's history.
+
 ghost use Rattle.std.specs.Prelude.{◌≡◌, ◌<◌, ◌≤◌, ◌++◌, length, slice_get, IsTrue, ◌↔◌, All, Some, IfOk, IfErr, OnOk};
 ghost use Rattle.std.specs.List.Sorted.{IsNonDecreasingBy};
 ghost use Rattle.role_node.specs.Answers.{is_recorded};
 ghost use Rattle.role_node.specs.Nodes.{new_node, due_at, with_event};
 ghost use Rattle.node_lock.specs.Audits.{node_at, AreTrue, IsAuditFault};
-ghost use Rattle.node_lock.specs.Walks.{receipts_of, IsRest, event_in, IsNext, IsEntryOf};
-ghost use Rattle.node_lock.specs.Walks.{IsTrueHere, recorded_in, AreRightHere, IsFaultHere};
+ghost use Rattle.node_lock.specs.inside.Walks.{receipts_of, IsRest, event_in, IsNext, IsEntryOf};
+ghost use Rattle.node_lock.specs.inside.Walks.{IsTrueHere, recorded_in, AreRightHere, IsFaultHere};
 ghost use Rattle.node_lock.specs.declared.receipt.Receipt.{Receipt as ReceiptValue};
 
-use crate::asked::asked;
+use crate::questions::ask_outcome;
 use crate::receipt::{Call, Outcome, Receipt};
-use role_node::{Entry, Event, Node};
+use bracha_instance::Effect;
+use role_node::{Entry, Event, Node, Reply};
 use std::alloc::{AllocError, Global};
 use std::error::Error;
 use std::fmt;
@@ -68,11 +71,11 @@ pub fn audit(alloc: Global, node: &Node, receipts: &[Receipt]) -> Result<(), Aud
     ensures err { IfErr result (IsAuditFault node.now receipts.now) }
 {
     let mut replay = Node::new(alloc, node.config().copy(alloc)?, node.me())?;
-    replayed(alloc, node, receipts, &mut replay)
+    check_all_places(alloc, node, receipts, &mut replay)
 }
 
 /// Applies the node's events to a new node, and checks the receipts for each place on the way.
-fn replayed(
+fn check_all_places(
     alloc: Global,
     node: &Node,
     receipts: &[Receipt],
@@ -89,16 +92,12 @@ fn replayed(
     for place in 0..end {
         let (here, _) = split_at_place(&sorted[done..], place);
         let entry = entry_at(node, place);
-        if let Err(fault) = check_place(replay, &Some(entry), here, place) {
-            return Err(fault);
-        }
-        advance(replay, entry.event())?;
+        check_place(replay, &Some(entry), here, place)?;
+        advance(replay, &entry.event())?;
         done += here.len();
     }
     let (here, past) = split_at_place(&sorted[done..], end);
-    if let Err(fault) = check_place(replay, &None, here, end) {
-        return Err(fault);
-    }
+    check_place(replay, &None, here, end)?;
     match past.first() {
         Some(receipt) => Err(AuditFault::Differs(receipt.place)),
         None => Ok(()),
@@ -115,7 +114,7 @@ fn entry_at(node: &Node, place: u32) -> Entry
 }
 
 /// The receipts in the order of their places.
-fn by_place<'a>(alloc: Global, receipts: &'a [Receipt]) -> Result<Vec<&'a Receipt>, AllocError>
+fn by_place(alloc: Global, receipts: &[Receipt]) -> Result<Vec<&Receipt>, AllocError>
     ensures { IfOk result (λ sorted. IsRest receipts.now 0 (receipts_of sorted.items)) }
 {
     let mut sorted = Vec::new(alloc);
@@ -206,13 +205,12 @@ fn is_true(replay: &mut Node, entry: &Option<Entry>, receipt: &Receipt) -> Resul
     ensures same { replay.new ≡ replay.old }
 {
     match receipt.call {
-        Call::Ask(question) => Ok(asked(replay, question)?.equals(&receipt.outcome)),
-        Call::Step(event) => {
-            if replay.records(&event) {
-                return Ok(is_recorded_here(entry, &event, &receipt.outcome));
-            }
-            Ok(Outcome::from_reply(replay.apply(event)).equals(&receipt.outcome))
-        }
+        Call::Ask(question) => Ok(ask_outcome(replay, question)?.equals(&receipt.outcome)),
+        Call::Step(event) => Ok(match replay.look(&event) {
+            Ok(Effect::Counted) => is_recorded_here(entry, &event, &receipt.outcome),
+            Ok(Effect::Idle) => Outcome::Reply(Reply::Idle).equals(&receipt.outcome),
+            Err(fault) => Outcome::Refused(fault).equals(&receipt.outcome),
+        }),
     }
 }
 
@@ -226,13 +224,11 @@ fn is_recorded_here(entry: &Option<Entry>, event: &Event, outcome: &Outcome) -> 
     }
 }
 
-/// Applies an event that is recorded.
-fn advance(replay: &mut Node, event: Event) -> Result<(), AllocError>
-    requires { IsTrue (is_recorded (due_at replay.old event)) }
-    ensures { OnOk result (replay.new ≡ with_event replay.old event) }
+/// Has the node record an event that counts.
+fn advance(replay: &mut Node, event: &Event) -> Result<(), AllocError>
+    requires { IsTrue (is_recorded (due_at replay.old event.now)) }
+    ensures { OnOk result (replay.new ≡ with_event replay.old event.now) }
 {
-    match replay.apply(event) {
-        Ok(_) => Ok(()),
-        Err(_) => Err(AllocError),
-    }
+    replay.record(event)?;
+    Ok(())
 }

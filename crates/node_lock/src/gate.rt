@@ -1,3 +1,5 @@
+//! What a pool's workers pass through at each job.
+
 /// What a pool's workers pass through at each job. It must return, and can change no receipt.
 pub trait Gate: Sync {
     /// A worker has the job, and its call has not yet taken the lock.

@@ -1,8 +1,10 @@
+//! A bounded queue of jobs, and the passes to it.
+
 ghost use Rattle.std.specs.Prelude.{◌≡◌, ◌≢◌, ◌+◌, ◌<◌, ◌≤◌, ◌==◌, [], ◌∷◌, ◌++◌, Bool, All};
 ghost use Rattle.std.specs.Prelude.{sum_by, count_by, IfOk, IfErr, OnOk, MatchOption, vec_len};
 ghost use Rattle.std.specs.Vec.{vec_capacity};
 ghost use Rattle.crossbeam_queue.specs.Passes.{view, IsPassOf, ruled_capacity};
-ghost use Rattle.node_lock.specs.Hands.{put_in, taken_in, IsEven};
+ghost use Rattle.node_lock.specs.inside.InboxRule.{put_in, taken_in, IsEven};
 ghost use Rattle.node_lock.specs.Inboxes.{Passing, inbox_capacity, inbox_parts, most_passes, parts_of, after_put};
 ghost use Rattle.node_lock.specs.Inboxes.{after_take, IsPassTo, IsNewPassTo, AreAllPasses, AreSettled};
 ghost use Rattle.node_lock.specs.InboxFaults.{inbox_in, passes_in, IsInboxFault};
@@ -28,56 +30,56 @@ pub const MOST_PASSES: u8 = 160;
 const INBOX_PARTS: u16 = 256;
 
 /// What a pass holds, put and took. No value of it is made.
-pub struct Hand {
+pub struct PassCounts {
     pub parts: u64,
     pub put: LinkedList<Job>,
     pub taken: LinkedList<Job>,
 }
 
 /// The rule of the queue: jobs put are jobs taken and jobs left.
-struct Fair;
+struct InboxRule;
 
-impl Protocol<Job, Hand> for Fair {
+impl Protocol<Job, PassCounts> for InboxRule {
     ghost use Rattle.std.specs.Prelude.{[]};
-    ghost use Rattle.node_lock.specs.Hands.{hand, IsFair};
+    ghost use Rattle.node_lock.specs.inside.InboxRule.{pass_counts, IsBalanced};
     ghost use Rattle.node_lock.specs.Inboxes.{inbox_parts};
 
-    ghost holds = { IsFair };
+    ghost holds = { IsBalanced };
 
-    ghost first = { hand inbox_parts [] [] };
+    ghost first = { pass_counts inbox_parts [] [] };
 }
 
 /// A new pass gets one part, and passes are put together again.
-struct Cut;
+struct OnePartSplit;
 
-impl Split<Hand> for Cut {
+impl Split<PassCounts> for OnePartSplit {
     ghost use Rattle.std.specs.Prelude.{◌-◌, []};
-    ghost use Rattle.node_lock.specs.Hands.{hand};
+    ghost use Rattle.node_lock.specs.inside.InboxRule.{pass_counts};
 
-    ghost left = { λ v. hand (v.parts - 1) v.put v.taken };
+    ghost left = { λ v. pass_counts (v.parts - 1) v.put v.taken };
 
-    ghost right = { λ v. hand 1 [] [] };
+    ghost right = { λ v. pass_counts 1 [] [] };
 }
 
-impl Join<Hand> for Cut {
+impl Join<PassCounts> for OnePartSplit {
     ghost use Rattle.std.specs.Prelude.{[]};
-    ghost use Rattle.node_lock.specs.Hands.{hand, joined};
+    ghost use Rattle.node_lock.specs.inside.InboxRule.{pass_counts, joined_counts};
 
-    ghost both = { joined };
+    ghost both = { joined_counts };
 
-    ghost spent = { hand 0 [] [] };
+    ghost spent = { pass_counts 0 [] [] };
 }
 
 struct Puts;
 
-impl Outcome<Job, Hand> for Puts {
+impl Outcome<Job, PassCounts> for Puts {
     ghost use Rattle.std.specs.Prelude.{◌≡◌};
-    ghost use Rattle.node_lock.specs.Hands.{put_more};
+    ghost use Rattle.node_lock.specs.inside.InboxRule.{put_more};
 
     ghost then = { λ v x w. w ≡ put_more v x };
 }
 
-impl Lesson<Job, Hand> for Puts {
+impl Lesson<Job, PassCounts> for Puts {
     ghost use Rattle.std.specs.Prelude.{⊤};
 
     ghost fact = { λ v items. ⊤ };
@@ -85,14 +87,14 @@ impl Lesson<Job, Hand> for Puts {
 
 struct Takes;
 
-impl Outcome<Job, Hand> for Takes {
+impl Outcome<Job, PassCounts> for Takes {
     ghost use Rattle.std.specs.Prelude.{◌≡◌};
-    ghost use Rattle.node_lock.specs.Hands.{take_more};
+    ghost use Rattle.node_lock.specs.inside.InboxRule.{take_more};
 
     ghost then = { λ v x w. w ≡ take_more v x };
 }
 
-impl Lesson<Job, Hand> for Takes {
+impl Lesson<Job, PassCounts> for Takes {
     ghost use Rattle.std.specs.Prelude.{⊤};
 
     ghost fact = { λ v items. ⊤ };
@@ -101,20 +103,20 @@ impl Lesson<Job, Hand> for Takes {
 /// A job is taken by the pass that holds all parts.
 struct Drains;
 
-impl Outcome<Job, Hand> for Drains {
+impl Outcome<Job, PassCounts> for Drains {
     ghost use Rattle.std.specs.Prelude.{◌≡◌};
-    ghost use Rattle.node_lock.specs.Hands.{take_more};
+    ghost use Rattle.node_lock.specs.inside.InboxRule.{take_more};
 
     ghost then = { λ v x w. w ≡ take_more v x };
 }
 
-impl Lesson<Job, Hand> for Drains {
-    ghost use Rattle.node_lock.specs.Hands.{IsEven};
+impl Lesson<Job, PassCounts> for Drains {
+    ghost use Rattle.node_lock.specs.inside.InboxRule.{IsEven};
 
     ghost fact = { IsEven };
 }
 
-type Queue = RuledArrayQueue<Job, Hand, Fair>;
+type Queue = RuledArrayQueue<Job, PassCounts, InboxRule>;
 
 /// A bounded queue of jobs that threads share. Contracts see which one it is.
 #[derive(Drop)]
@@ -141,7 +143,7 @@ impl Model for Inbox {
 /// parts it holds, and the jobs that it put and took.
 #[derive(Drop)]
 pub struct InboxPass {
-    pass: Pass<Job, Hand>,
+    pass: Pass<Job, PassCounts>,
     parts: u16,
 }
 
@@ -212,7 +214,7 @@ impl Inbox {
         let (queue, mut first) = Queue::ruled(alloc, INBOX_CAPACITY)?;
         let mut made = Vec::new(alloc);
         for _number in 1..passes {
-            let pass = queue.another::<Cut>(&mut first);
+            let pass = queue.another::<OnePartSplit>(&mut first);
             made.push(InboxPass { pass, parts: 1 })?;
         }
         let parts = INBOX_PARTS - (passes as u16 - 1);
@@ -276,8 +278,8 @@ impl Inbox {
             unreachable!()
         };
         let InboxPass { pass, parts: _ } = last;
-        let all = merged(&queue, passes, pass);
-        Ok(drained(rt, &queue, all, left))
+        let all = merge_passes(&queue, passes, pass);
+        Ok(drain_queue(rt, &queue, all, left))
     }
 }
 
@@ -296,7 +298,11 @@ fn are_all(passes: &[InboxPass]) -> bool
 }
 
 /// All these passes as one.
-fn merged(queue: &Queue, mut passes: Vec<InboxPass>, mut all: Pass<Job, Hand>) -> Pass<Job, Hand>
+fn merge_passes(
+    queue: &Queue,
+    mut passes: Vec<InboxPass>,
+    mut all: Pass<Job, PassCounts>,
+) -> Pass<Job, PassCounts>
     requires all { IsPassOf queue.now all }
     requires some { 0 < (view all).parts }
     requires passes { All (IsPassTo queue.now.table.shared.table_id) passes.items }
@@ -309,13 +315,18 @@ fn merged(queue: &Queue, mut passes: Vec<InboxPass>, mut all: Pass<Job, Hand>) -
 {
     while let Some(next) = passes.pop() {
         let InboxPass { pass, parts: _ } = next;
-        queue.absorb::<Cut>(&mut all, pass);
+        queue.absorb::<OnePartSplit>(&mut all, pass);
     }
     all
 }
 
 /// The jobs left in the queue, for the pass that holds all parts.
-fn drained<R: Wait>(rt: &R, queue: &Queue, mut all: Pass<Job, Hand>, mut left: Vec<Job>) -> Vec<Job>
+fn drain_queue<R: Wait>(
+    rt: &R,
+    queue: &Queue,
+    mut all: Pass<Job, PassCounts>,
+    mut left: Vec<Job>,
+) -> Vec<Job>
     requires pass { IsPassOf queue.now all }
     requires parts { (view all).parts ≡ inbox_parts }
     requires empty { left.items ≡ [] }

@@ -1,3 +1,5 @@
+//! A call that waits for a worker.
+
 use crate::receipt::Call;
 
 /// A call that waits for a worker, with a number by which its giver knows it.

@@ -5,7 +5,6 @@
 //! `specs/Audits.antt` which receipts are true.
 #![tactic(auto)]
 
-mod asked;
 mod audits;
 mod gate;
 mod inbox;
@@ -13,6 +12,7 @@ mod job;
 pub mod laws;
 mod locked;
 mod pool;
+mod questions;
 mod receipt;
 mod report;
 mod seat;
@@ -25,7 +25,7 @@ pub use gate::{Gate, NoGate};
 pub use inbox::{INBOX_CAPACITY, Inbox, InboxFault, InboxPass, MOST_PASSES};
 pub use job::Job;
 pub use locked::{Locked, StepFault};
-pub use pool::run_pool;
+pub use pool::{MOST_CALLS, run_pool};
 pub use receipt::{Call, Outcome, Receipt};
 pub use report::{Cause, PoolFault, PoolReport};
 pub use seat::{MOST_SEATS, Seat};

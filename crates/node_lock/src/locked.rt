@@ -1,3 +1,5 @@
+//! What is behind a shared node's lock, and the calls under it.
+
 ghost use Rattle.std.specs.Prelude.{◌≡◌, ◌<◌, ◌≤◌, ◌↔◌, [], ◌∷◌, ◌++◌, length, IsTrue};
 ghost use Rattle.std.specs.Prelude.{option_map, Ok, IfOk, IfErr, OnOk, OnErr, MatchResult};
 ghost use Rattle.role_node.specs.Configs.{most_events};
@@ -11,7 +13,7 @@ ghost use Rattle.node_lock.specs.Views.{node_count, view_of, held_after_hold, se
 ghost use Rattle.node_lock.specs.declared.receipt.Call.TheVariants.{Step, Ask};
 ghost use Rattle.node_lock.specs.declared.locked.StepFault.TheVariants.{Memory};
 
-use crate::asked::asked;
+use crate::questions::ask_outcome;
 use crate::receipt::{Call, Outcome, Receipt};
 use crate::seat::{MOST_SEATS, Seat};
 use crate::view::View;
@@ -176,7 +178,7 @@ impl<L: Ledger> Locked<L> {
         let place = self.end();
         let number = seat.number();
         let call = Call::of_event(&event);
-        let reply = applied(&mut self.node, &mut self.by, number, event)?;
+        let reply = apply_recorded(&mut self.node, &mut self.by, number, event)?;
         self.counts[number as usize] += 1;
         seat.record(&mut self.book, place + 1);
         Ok(Receipt {
@@ -239,7 +241,7 @@ impl<L: Ledger> Locked<L> {
     {
         let place = self.end();
         self.admit(seat)?;
-        let outcome = asked(&mut self.node, question)?;
+        let outcome = ask_outcome(&mut self.node, question)?;
         seat.see(place);
         Ok(Receipt {
             seat: seat.number(),
@@ -292,11 +294,11 @@ impl<L: Ledger> Locked<L> {
                 None
             }
         };
-        Ok((receipt, self.look(owner, place)))
+        Ok((receipt, self.read_view(owner, place)))
     }
 
     /// The view of a place of the owner's stream.
-    fn look(&self, owner: NodeName, place: Place) -> View
+    fn read_view(&self, owner: NodeName, place: Place) -> View
         requires { owner < node_count self.now }
         ensures { result ≡ view_of self.now owner place }
     {
@@ -309,7 +311,12 @@ impl<L: Ledger> Locked<L> {
 }
 
 /// Has the node record an event that counts, and puts the number of its seat beside it.
-fn applied(node: &mut Node, by: &mut Vec<u8>, number: u8, event: Event) -> Result<Reply, AllocError>
+fn apply_recorded(
+    node: &mut Node,
+    by: &mut Vec<u8>,
+    number: u8,
+    event: Event,
+) -> Result<Reply, AllocError>
     requires { outlook node.old.config node.old.me node.old.history event ≡ Ok Counted }
     ensures recorded { OnOk result (IsTrue (is_recorded (due_at node.old event))) }
     ensures reply { IfOk result (λ reply. due_at node.old event ≡ Ok reply) }

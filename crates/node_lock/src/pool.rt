@@ -1,16 +1,18 @@
+//! A pool: workers that make calls at one shared node.
+
 ghost use Rattle.std.specs.Prelude.{◌≡◌, ◌<◌, ◌≤◌, ◌+◌, [], All, length, IfOk, vec_len};
 ghost use Rattle.node_lock.specs.Inboxes.{IsPassTo, IsNewPassTo};
-ghost use Rattle.node_lock.specs.Pools.{IsReport};
+ghost use Rattle.node_lock.specs.Pools.{most_calls, IsReport};
 ghost use Rattle.node_lock.specs.Seats.{most_seats};
 
 use crate::gate::Gate;
 use crate::inbox::{INBOX_CAPACITY, Inbox, InboxPass};
 use crate::job::Job;
 use crate::receipt::Call;
-use crate::report::{PoolFault, PoolReport, Slot, report};
+use crate::report::{PoolFault, PoolReport, ReceiptSlot, report};
 use crate::seat::Seat;
 use crate::shared::{SharedNode, close};
-use crate::worker::{Desk, Done, Told, work};
+use crate::worker::{NumberedReceipt, WorkerResult, WorkerSeat, work};
 use quorum_sizes::NodeName;
 use role_node::{Config, Node};
 use std::alloc::{AllocError, Global};
@@ -20,8 +22,12 @@ use std::sync::ledger::{Blank, Ledger};
 use std::thread::Threads;
 use std::{mem, thread};
 
+/// The most calls of a pool.
+pub const MOST_CALLS: usize = 65_536;
+
 /// Makes the calls at a new node of this configuration and name, by so many workers at once, each with a seat of its
-/// own. `me` must be a node of its sizes; there are 1 to 8 workers, and at most 65,536 calls.
+/// own. `me` must be a node of its sizes; there are 1 to [`MOST_SEATS`](crate::MOST_SEATS) workers, and at most
+/// [`MOST_CALLS`] calls.
 ///
 /// # Errors
 ///
@@ -38,20 +44,16 @@ pub fn run_pool<G: Gate, R: Threads + Wait + Sync>(
 ) -> Result<PoolReport, PoolFault>
     requires me { me < config.roles.sizes.nodes }
     requires workers { (1 ≤ workers) × (workers ≤ most_seats) }
-    requires calls { vec_len calls ≤ 65536 }
+    requires calls { vec_len calls ≤ most_calls }
     ensures { IfOk result (IsReport config me calls.items workers) }
 {
-    let mut slots = vacant(alloc, calls.len())?;
-    let node = run_new(
-        rt,
+    let mut slots = vacant_slots(alloc, calls.len())?;
+    let pool = Pool {
         alloc,
-        &config,
-        me,
-        workers,
-        calls.as_slice(),
+        calls: calls.as_slice(),
         gate,
-        &mut slots,
-    )?;
+    };
+    let node = pool.run_at_new_node(rt, &config, me, workers, slots.as_mut_slice())?;
     report(
         alloc,
         config,
@@ -63,50 +65,98 @@ pub fn run_pool<G: Gate, R: Threads + Wait + Sync>(
     )
 }
 
-/// The node that made the calls. Their receipts go into the slots.
-fn run_new<G: Gate, R: Threads + Wait + Sync>(
-    rt: &R,
+/// What stays the same in all rounds of a pool: its allocator, all its calls, and its gate.
+#[derive(Drop)]
+struct Pool<'a, G> {
     alloc: Global,
-    config: &Config,
-    me: NodeName,
-    workers: u8,
-    calls: &[Call],
-    gate: &G,
-    slots: &mut Vec<Slot>,
-) -> Result<Node, PoolFault>
-    requires me { me < config.now.roles.sizes.nodes }
-    requires workers { (1 ≤ workers) × (workers ≤ most_seats) }
-    requires calls { length calls.now ≤ 65536 }
-{
-    let node = Node::new(alloc, config.copy(alloc)?, me)?;
-    let blank = Blank::new(workers as u64);
-    run_at::<Brand, G, R>(rt, alloc, blank, node, workers, calls, gate, slots)
+    calls: &'a [Call],
+    gate: &'a G,
 }
 
-/// The same at a new node, and a ledger with one part for each worker.
-fn run_at<L: Ledger + Send + Sync, G: Gate, R: Threads + Wait + Sync>(
-    rt: &R,
-    alloc: Global,
-    blank: Blank,
-    node: Node,
-    workers: u8,
-    calls: &[Call],
-    gate: &G,
-    slots: &mut Vec<Slot>,
-) -> Result<Node, PoolFault>
-    requires name { blank.name ≡ L.name }
-    requires parts { (blank.parts ≡ L.parts) × (workers ≡ L.parts) }
-    requires empty { node.history ≡ [] }
-    requires workers { (1 ≤ workers) × (workers ≤ most_seats) }
-    requires calls { length calls.now ≤ 65536 }
-{
-    let (shared, seats) = SharedNode::<L>::new(alloc, blank, node, workers)?;
-    let seats = run_rounds(rt, alloc, &shared, seats, calls, gate, slots)?;
-    Ok(closed(shared, seats))
+impl<'a, G: Gate> Pool<'a, G> {
+    /// The node that made the calls. Their receipts go into the slots.
+    fn run_at_new_node<R: Threads + Wait + Sync>(
+        &self,
+        rt: &R,
+        config: &Config,
+        me: NodeName,
+        workers: u8,
+        slots: &mut [ReceiptSlot],
+    ) -> Result<Node, PoolFault>
+        requires me { me < config.now.roles.sizes.nodes }
+        requires workers { (1 ≤ workers) × (workers ≤ most_seats) }
+        requires calls { length self.now.calls.now ≤ most_calls }
+    {
+        let node = Node::new(self.alloc, config.copy(self.alloc)?, me)?;
+        let blank = Blank::new(workers as u64);
+        self.run_with_seats::<Brand, R>(rt, blank, node, workers, slots)
+    }
+
+    /// The same at this node, by a ledger with one part for each worker's seat.
+    fn run_with_seats<L: Ledger + Send + Sync, R: Threads + Wait + Sync>(
+        &self,
+        rt: &R,
+        blank: Blank,
+        node: Node,
+        workers: u8,
+        slots: &mut [ReceiptSlot],
+    ) -> Result<Node, PoolFault>
+        requires name { blank.name ≡ L.name }
+        requires parts { (blank.parts ≡ L.parts) × (workers ≡ L.parts) }
+        requires empty { node.history ≡ [] }
+        requires workers { (1 ≤ workers) × (workers ≤ most_seats) }
+        requires calls { length self.now.calls.now ≤ most_calls }
+    {
+        let (shared, seats) = SharedNode::<L>::new(self.alloc, blank, node, workers)?;
+        let seats = self.run_rounds(rt, &shared, seats, slots)?;
+        Ok(close_with_all(shared, seats))
+    }
+
+    /// Runs the calls, as many at a time as an inbox takes.
+    fn run_rounds<L: Ledger + Send + Sync, R: Threads + Wait + Sync>(
+        &self,
+        rt: &R,
+        shared: &SharedNode<L>,
+        mut seats: Vec<Seat<L>>,
+        slots: &mut [ReceiptSlot],
+    ) -> Result<Vec<Seat<L>>, PoolFault>
+        requires seats { (1 ≤ vec_len seats) × (vec_len seats ≤ most_seats) }
+        requires calls { length self.now.calls.now ≤ most_calls }
+        ensures { IfOk result (λ back. vec_len back ≡ vec_len seats) }
+    {
+        let mut start = 0;
+        while start < self.calls.len() {
+            seats = self.run_round(rt, shared, seats, start, slots)?;
+            start += INBOX_CAPACITY;
+        }
+        Ok(seats)
+    }
+
+    /// Runs the calls from `start` on that an inbox takes.
+    fn run_round<L: Ledger + Send + Sync, R: Threads + Wait + Sync>(
+        &self,
+        rt: &R,
+        shared: &SharedNode<L>,
+        seats: Vec<Seat<L>>,
+        start: usize,
+        slots: &mut [ReceiptSlot],
+    ) -> Result<Vec<Seat<L>>, PoolFault>
+        requires seats { (1 ≤ vec_len seats) × (vec_len seats ≤ most_seats) }
+        requires start { start ≤ length self.now.calls.now }
+        requires calls { length self.now.calls.now ≤ most_calls }
+        ensures { IfOk result (λ back. vec_len back ≡ vec_len seats) }
+    {
+        let end = self.calls.len().min(start + INBOX_CAPACITY);
+        let (inbox, passes) = Inbox::new(self.alloc, seats.len() as u8)?;
+        let passes = fill_inbox(rt, &inbox, passes, self.calls, start, end)?;
+        let worker_seats = pair_seats(self.alloc, &inbox, seats, passes)?;
+        let results = run_workers(rt, self.alloc, shared, &inbox, self.gate, worker_seats)?;
+        collect_seats(self.alloc, results, slots)
+    }
 }
 
 /// The node of a shared node, with all its seats.
-fn closed<L: Ledger>(shared: SharedNode<L>, seats: Vec<Seat<L>>) -> Node
+fn close_with_all<L: Ledger>(shared: SharedNode<L>, seats: Vec<Seat<L>>) -> Node
     requires { vec_len seats ≡ L.parts }
 {
     let Ok(node) = close(shared, seats) else {
@@ -116,62 +166,16 @@ fn closed<L: Ledger>(shared: SharedNode<L>, seats: Vec<Seat<L>>) -> Node
 }
 
 /// So many slots without a receipt.
-fn vacant(alloc: Global, count: usize) -> Result<Vec<Slot>, AllocError> {
+fn vacant_slots(alloc: Global, count: usize) -> Result<Vec<ReceiptSlot>, AllocError> {
     let mut slots = Vec::new(alloc);
     for _ in 0..count {
-        slots.push(Slot::Vacant)?;
+        slots.push(ReceiptSlot::Vacant)?;
     }
     Ok(slots)
 }
 
-/// Runs the calls, as many at a time as an inbox takes.
-fn run_rounds<L: Ledger + Send + Sync, G: Gate, R: Threads + Wait + Sync>(
-    rt: &R,
-    alloc: Global,
-    shared: &SharedNode<L>,
-    mut seats: Vec<Seat<L>>,
-    calls: &[Call],
-    gate: &G,
-    slots: &mut Vec<Slot>,
-) -> Result<Vec<Seat<L>>, PoolFault>
-    requires seats { (1 ≤ vec_len seats) × (vec_len seats ≤ most_seats) }
-    requires calls { length calls.now ≤ 65536 }
-    ensures { IfOk result (λ back. vec_len back ≡ vec_len seats) }
-{
-    let mut start = 0;
-    while start < calls.len() {
-        seats = run_round(rt, alloc, shared, seats, calls, start, gate, slots)?;
-        start += INBOX_CAPACITY;
-    }
-    Ok(seats)
-}
-
-/// Runs the calls from `start` on that an inbox takes.
-fn run_round<L: Ledger + Send + Sync, G: Gate, R: Threads + Wait + Sync>(
-    rt: &R,
-    alloc: Global,
-    shared: &SharedNode<L>,
-    seats: Vec<Seat<L>>,
-    calls: &[Call],
-    start: usize,
-    gate: &G,
-    slots: &mut Vec<Slot>,
-) -> Result<Vec<Seat<L>>, PoolFault>
-    requires seats { (1 ≤ vec_len seats) × (vec_len seats ≤ most_seats) }
-    requires start { start ≤ length calls.now }
-    requires calls { length calls.now ≤ 65536 }
-    ensures { IfOk result (λ back. vec_len back ≡ vec_len seats) }
-{
-    let end = calls.len().min(start + INBOX_CAPACITY);
-    let (inbox, passes) = Inbox::new(alloc, seats.len() as u8)?;
-    let passes = filled(rt, &inbox, passes, calls, start, end)?;
-    let desks = paired(alloc, &inbox, seats, passes)?;
-    let done = at_desks(rt, alloc, shared, &inbox, gate, desks)?;
-    collected(alloc, done, slots)
-}
-
 /// Puts the calls from `start` to `end` into an inbox, each with its index as the job's number.
-fn filled<R: Wait>(
+fn fill_inbox<R: Wait>(
     rt: &R,
     inbox: &Inbox,
     mut passes: Vec<InboxPass>,
@@ -181,7 +185,7 @@ fn filled<R: Wait>(
 ) -> Result<Vec<InboxPass>, AllocError>
     requires some { 0 < vec_len passes }
     requires passes { All (IsNewPassTo inbox.now) passes.items }
-    requires within { (end ≤ length calls.now) × (length calls.now ≤ 65536) }
+    requires within { (end ≤ length calls.now) × (length calls.now ≤ most_calls) }
     ensures passes { IfOk result (λ back. All (IsPassTo inbox.now) back.items) }
     ensures count { IfOk result (λ back. vec_len back ≡ vec_len passes) }
 {
@@ -199,60 +203,64 @@ fn filled<R: Wait>(
     Ok(passes)
 }
 
-/// A desk for each seat.
-fn paired<L: Ledger>(
+/// Each seat with a pass.
+fn pair_seats<L: Ledger>(
     alloc: Global,
     inbox: &Inbox,
     mut seats: Vec<Seat<L>>,
     mut passes: Vec<InboxPass>,
-) -> Result<Vec<Desk<L>>, AllocError>
+) -> Result<Vec<WorkerSeat<L>>, AllocError>
     requires passes { All (IsPassTo inbox.now) passes.items }
     requires count { vec_len passes ≡ vec_len seats }
-    ensures passes { IfOk result (λ desks. All (λ desk. IsPassTo inbox.now desk.pass) desks.items) }
-    ensures count { IfOk result (λ desks. vec_len desks ≡ vec_len seats) }
+    ensures passes { IfOk result (λ made. All (λ worker_seat. IsPassTo inbox.now worker_seat.pass) made.items) }
+    ensures count { IfOk result (λ made. vec_len made ≡ vec_len seats) }
 {
-    let mut desks = Vec::new(alloc);
+    let mut worker_seats = Vec::new(alloc);
     while let Some(seat) = seats.pop() {
         let Some(pass) = passes.pop() else {
             unreachable!()
         };
-        desks.push(Desk { seat, pass })?;
+        worker_seats.push(WorkerSeat { seat, pass })?;
     }
-    Ok(desks)
+    Ok(worker_seats)
 }
 
-/// Each desk's worker, all at once.
-fn at_desks<L: Ledger + Send + Sync, G: Gate, R: Threads + Wait + Sync>(
+/// The worker of each seat, all at once.
+fn run_workers<L: Ledger + Send + Sync, G: Gate, R: Threads + Wait + Sync>(
     rt: &R,
     alloc: Global,
     shared: &SharedNode<L>,
     inbox: &Inbox,
     gate: &G,
-    desks: Vec<Desk<L>>,
-) -> Result<Vec<Done<L>>, AllocError>
-    requires { All (λ desk. IsPassTo inbox.now desk.pass) desks.items }
-    ensures { IfOk result (λ done. vec_len done ≡ vec_len desks) }
+    worker_seats: Vec<WorkerSeat<L>>,
+) -> Result<Vec<WorkerResult<L>>, AllocError>
+    requires { All (λ worker_seat. IsPassTo inbox.now worker_seat.pass) worker_seats.items }
+    ensures { IfOk result (λ results. vec_len results ≡ vec_len worker_seats) }
 {
-    let worker = |desk: Desk<L>| -> Done<L>
-        requires { IsPassTo inbox.now desk.pass }
-    { work(rt, alloc, shared, inbox, gate, desk) };
-    thread::map_vec(rt, desks, &worker)
+    let worker = |worker_seat: WorkerSeat<L>| -> WorkerResult<L>
+        requires { IsPassTo inbox.now worker_seat.pass }
+    { work(rt, alloc, shared, inbox, gate, worker_seat) };
+    thread::map_vec(rt, worker_seats, &worker)
 }
 
 /// The seats that the workers leave. Their receipts go into the slots of their calls.
-fn collected<L: Ledger>(
+fn collect_seats<L: Ledger>(
     alloc: Global,
-    mut done: Vec<Done<L>>,
-    slots: &mut Vec<Slot>,
+    mut results: Vec<WorkerResult<L>>,
+    slots: &mut [ReceiptSlot],
 ) -> Result<Vec<Seat<L>>, PoolFault>
-    ensures { IfOk result (λ seats. vec_len seats ≡ vec_len done) }
+    ensures { IfOk result (λ seats. vec_len seats ≡ vec_len results) }
 {
-    let mut seats = Vec::with_capacity(alloc, done.len())?;
+    let mut seats = Vec::with_capacity(alloc, results.len())?;
     let mut failed = None;
-    while let Some(one) = done.pop() {
-        let Done { seat, told, cause } = one;
+    while let Some(one) = results.pop() {
+        let WorkerResult {
+            seat,
+            receipts,
+            cause,
+        } = one;
         seats.push_reserved(seat);
-        place(slots, told);
+        store_receipts(slots, receipts);
         if cause.is_some() {
             failed = cause;
         }
@@ -264,15 +272,15 @@ fn collected<L: Ledger>(
 }
 
 /// Puts each receipt into its call's slot.
-fn place(slots: &mut Vec<Slot>, mut told: Vec<Told>) {
-    while let Some(one) = told.pop() {
-        let Told { number, receipt } = one;
+fn store_receipts(slots: &mut [ReceiptSlot], mut receipts: Vec<NumberedReceipt>) {
+    while let Some(one) = receipts.pop() {
+        let NumberedReceipt { number, receipt } = one;
         let index = number as usize;
         if index < slots.len() {
             let slot = &mut slots[index];
-            *slot = match mem::replace(slot, Slot::Repeated) {
-                Slot::Vacant => Slot::Told(receipt),
-                _ => Slot::Repeated,
+            *slot = match mem::replace(slot, ReceiptSlot::Repeated) {
+                ReceiptSlot::Vacant => ReceiptSlot::Filled(receipt),
+                _ => ReceiptSlot::Repeated,
             };
         }
     }

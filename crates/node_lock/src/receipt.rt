@@ -1,5 +1,7 @@
+//! What is asked of a node under its lock, what it says, and the receipt of both.
+
 ghost use Rattle.std.specs.Prelude.{◌≡◌, IsTrue, ◌↔◌};
-ghost use Rattle.node_lock.specs.Receipts.{outcome_from, is_recorded_outcome};
+ghost use Rattle.node_lock.specs.Receipts.{is_recorded_outcome};
 ghost use Rattle.node_lock.specs.declared.receipt.Call.TheVariants.{Step};
 
 use role_commands::Items;
@@ -60,16 +62,6 @@ impl Call {
 }
 
 impl Outcome {
-    /// The outcome of an event's call.
-    pub(crate) fn from_reply(replied: Result<Reply, NodeFault>) -> Outcome
-        ensures { result ≡ outcome_from replied }
-    {
-        match replied {
-            Ok(reply) => Outcome::Reply(reply),
-            Err(fault) => Outcome::Refused(fault),
-        }
-    }
-
     /// Whether the outcome is a reply to an event that was recorded.
     pub(crate) fn is_recorded(&self) -> bool
         ensures { result ≡ is_recorded_outcome self.now }

@@ -1,11 +1,14 @@
+//! What a pool reports: the receipts in the order of its calls, audited.
+
 ghost use Rattle.std.specs.Prelude.{◌≡◌, ◌<◌, ◌≤◌, map, length, IfOk, OnOk, vec_len};
 ghost use Rattle.node_lock.specs.Audits.{AreTrue};
 ghost use Rattle.node_lock.specs.PoolTexts.{cause_of};
-ghost use Rattle.node_lock.specs.Pools.{call_of, recorded_by, recorded_counts, IsReport};
+ghost use Rattle.node_lock.specs.Pools.{most_calls, call_of, recorded_by, recorded_counts, IsReport};
 
 use crate::audits::{AuditFault, audit};
 use crate::locked::StepFault;
 use crate::receipt::{Call, Receipt};
+use bracha_instance::Effect;
 use quorum_sizes::NodeName;
 use role_node::{Config, Entry, Node};
 use std::alloc::{AllocError, Global};
@@ -25,9 +28,9 @@ pub struct PoolReport {
 
 /// What is known of a call's receipt.
 #[derive(Drop)]
-pub enum Slot {
+pub enum ReceiptSlot {
     Vacant,
-    Told(Receipt),
+    Filled(Receipt),
     Repeated,
 }
 
@@ -141,31 +144,31 @@ pub(crate) fn report(
     config: Config,
     me: NodeName,
     entries: &[Entry],
-    slots: Vec<Slot>,
+    slots: Vec<ReceiptSlot>,
     calls: &[Call],
     workers: u8,
 ) -> Result<PoolReport, PoolFault>
     requires me { me < config.roles.sizes.nodes }
-    requires few { length calls.now ≤ 65536 }
+    requires few { length calls.now ≤ most_calls }
     ensures { IfOk result (IsReport config me calls.now workers) }
 {
-    let receipts = in_order(alloc, slots, calls)?;
+    let receipts = receipts_in_order(alloc, slots, calls)?;
     let node = Node::new(alloc, config, me)?;
-    reported(alloc, node, entries, receipts, workers)
+    audited_report(alloc, node, entries, receipts, workers)
 }
 
 /// The report of these receipts, with a new node that is given the entries' events.
-fn reported(
+fn audited_report(
     alloc: Global,
     mut node: Node,
     entries: &[Entry],
     receipts: Vec<Receipt>,
     workers: u8,
 ) -> Result<PoolReport, PoolFault>
-    requires { vec_len receipts ≤ 65536 }
+    requires { vec_len receipts ≤ most_calls }
     ensures { IfOk result (IsReport node.config node.me (map call_of receipts.items) workers) }
 {
-    let recorded = judged(alloc, &mut node, entries, receipts.as_slice(), workers)?;
+    let recorded = audited_counts(alloc, &mut node, entries, receipts.as_slice(), workers)?;
     Ok(PoolReport {
         receipts,
         recorded,
@@ -175,14 +178,14 @@ fn reported(
 
 /// Gives the entries' events to the node, and audits the receipts against it. How many recorded events each worker's
 /// receipts tell of.
-fn judged(
+fn audited_counts(
     alloc: Global,
     node: &mut Node,
     entries: &[Entry],
     receipts: &[Receipt],
     workers: u8,
 ) -> Result<Vec<u32>, PoolFault>
-    requires { length receipts.now ≤ 65536 }
+    requires { length receipts.now ≤ most_calls }
     ensures audited { OnOk result (AreTrue node.new receipts.now) }
     ensures counted { IfOk result (λ counts. counts.items ≡ recorded_counts receipts.now workers) }
     ensures config { node.new.config ≡ node.old.config }
@@ -194,14 +197,18 @@ fn judged(
 }
 
 /// The receipts in the order of the calls.
-fn in_order(alloc: Global, slots: Vec<Slot>, calls: &[Call]) -> Result<Vec<Receipt>, PoolFault>
-    requires { length calls.now ≤ 65536 }
+fn receipts_in_order(
+    alloc: Global,
+    slots: Vec<ReceiptSlot>,
+    calls: &[Call],
+) -> Result<Vec<Receipt>, PoolFault>
+    requires { length calls.now ≤ most_calls }
     ensures { IfOk result (λ receipts. map call_of receipts.items ≡ calls.now) }
 {
     let mut receipts = Vec::with_capacity(alloc, calls.len())?;
     let mut index = 0;
     for slot in slots {
-        let Slot::Told(receipt) = slot else {
+        let ReceiptSlot::Filled(receipt) = slot else {
             return Err(no_receipt(index));
         };
         if index >= calls.len() || !receipt.call.equals(&calls[index]) {
@@ -217,7 +224,7 @@ fn in_order(alloc: Global, slots: Vec<Slot>, calls: &[Call]) -> Result<Vec<Recei
 }
 
 fn no_receipt(call: usize) -> PoolFault
-    requires { call ≤ 65536 }
+    requires { call ≤ most_calls }
 {
     PoolFault::WorkerFailed(Cause::NoReceipt { call: call as u32 })
 }
@@ -229,19 +236,17 @@ fn replay(node: &mut Node, entries: &[Entry]) -> Result<(), AllocError>
 {
     for entry in entries {
         let event = entry.event();
-        if !node.records(&event) {
+        let Ok(Effect::Counted) = node.look(&event) else {
             break;
-        }
-        if node.apply(event).is_err() {
-            return Err(AllocError);
-        }
+        };
+        node.record(&event)?;
     }
     Ok(())
 }
 
 /// How many recorded events each worker's receipts tell of.
 fn counts(alloc: Global, receipts: &[Receipt], workers: u8) -> Result<Vec<u32>, AllocError>
-    requires { length receipts.now ≤ 65536 }
+    requires { length receipts.now ≤ most_calls }
     ensures { IfOk result (λ counts. counts.items ≡ recorded_counts receipts.now workers) }
 {
     let mut counts = Vec::new(alloc);
@@ -252,7 +257,7 @@ fn counts(alloc: Global, receipts: &[Receipt], workers: u8) -> Result<Vec<u32>, 
 }
 
 fn count_by_worker(receipts: &[Receipt], worker: u8) -> u32
-    requires { length receipts.now ≤ 65536 }
+    requires { length receipts.now ≤ most_calls }
     ensures { result ≡ recorded_by receipts.now worker }
 {
     let mut count = 0;

@@ -1,5 +1,7 @@
+//! A caller's seat at a shared node.
+
 ghost use Rattle.std.specs.Prelude.{◌≡◌, ◌+◌, ◌^◌, ◌<◌};
-ghost use Rattle.node_lock.specs.Seats.{new_seat};
+ghost use Rattle.node_lock.specs.Seats.{most_seats, new_seat};
 
 use std::marker::Model;
 use std::sync::ledger::{Book, Ledger, Share};
@@ -31,7 +33,7 @@ impl<L: Ledger> Model for Seat<L> {
 impl<L: Ledger> Seat<L> {
     /// A seat that has recorded and seen nothing.
     pub(crate) fn new(number: u8, share: Share<L>) -> Seat<L>
-        requires number { number < 8 }
+        requires number { number < most_seats }
         requires parts { share.parts ≡ 1 }
         requires amount { share.amount ≡ 0 }
         ensures { result ≡ new_seat number }
@@ -47,7 +49,7 @@ impl<L: Ledger> Seat<L> {
     /// Its number, which is below the most seats of a node.
     pub(crate) fn number(&self) -> u8
         ensures value { result ≡ self.now.number }
-        ensures few { result < 8 }
+        ensures few { result < most_seats }
     {
         self.number
     }

@@ -1,3 +1,5 @@
+//! A node behind a lock, how it is made and how it is closed.
+
 ghost use Rattle.std.specs.Prelude.{◌≡◌, ◌≢◌, ◌+◌, ◌<◌, ◌≤◌, [], length, sum_by, IfOk, IfErr, vec_len};
 ghost use Rattle.node_lock.specs.Seats.{count_in, most_seats, new_seats};
 ghost use Rattle.node_lock.specs.Closes.{seats_of};
@@ -72,7 +74,7 @@ impl<L: Ledger> SharedNode<L> {
         ensures count { IfOk result (λ made. vec_len made.1 ≡ seats) }
     {
         let (book, all) = blank.open::<L>();
-        let made = seated(alloc, all, seats)?;
+        let made = make_seats(alloc, all, seats)?;
         Ok((SharedNode::over(alloc, node, book, seats), made))
     }
 
@@ -88,7 +90,7 @@ impl<L: Ledger> SharedNode<L> {
 }
 
 /// So many new seats, numbered from 0, each with a part of the share.
-fn seated<L: Ledger>(
+fn make_seats<L: Ledger>(
     alloc: Global,
     mut all: Share<L>,
     seats: u8,
@@ -131,12 +133,12 @@ pub fn close<L: Ledger>(
     let Some(last) = seats.pop() else {
         unreachable!()
     };
-    let all = merged(seats, last.into_share());
+    let all = merge_shares(seats, last.into_share());
     Ok(node.into_inner().into_node(all))
 }
 
 /// The shares of all these seats, and one more.
-fn merged<L: Ledger>(mut seats: Vec<Seat<L>>, mut all: Share<L>) -> Share<L>
+fn merge_shares<L: Ledger>(mut seats: Vec<Seat<L>>, mut all: Share<L>) -> Share<L>
     ensures parts { result.parts ≡ all.parts + vec_len seats }
     ensures amount { result.amount ≡ all.amount + sum_by count_in seats.items }
 {

@@ -1,3 +1,5 @@
+//! What no clause says: worked examples, each public call once, threads that meet.
+
 ghost use Rattle.std.specs.Prelude.{◌≡◌, ◌<◌, [], All, IfOk, vec_len};
 ghost use Rattle.node_lock.specs.Inboxes.{IsPassTo, IsNewPassTo};
 
@@ -57,7 +59,7 @@ fn new_node(alloc: Global) -> Result<Node, Fail>
 }
 
 /// The receipt of the first event, which opened this session.
-fn opened(session: u64) -> Receipt {
+fn opening_receipt(session: u64) -> Receipt {
     Receipt {
         seat: 1,
         place: 0,
@@ -172,7 +174,7 @@ fn audit_three(
         found == Err(AuditFault::Missing(0)),
         "the first is left out: {found:?}"
     );
-    receipts.push(opened(2))?;
+    receipts.push(opening_receipt(2))?;
     let found = audit(alloc, node, &receipts);
     assert!(rt;
         found == Err(AuditFault::Differs(0)),
@@ -182,7 +184,7 @@ fn audit_three(
     receipts.push(open)?;
     let found = audit(alloc, node, &receipts);
     assert!(rt; found == Ok(()), "all three: {found:?}");
-    receipts.push(opened(1))?;
+    receipts.push(opening_receipt(1))?;
     let found = audit(alloc, node, &receipts);
     assert!(rt;
         found == Err(AuditFault::Doubled(0)),

@@ -1,3 +1,5 @@
+//! What a hold reads of a node.
+
 use role_node::NodeAgain;
 
 /// What a hold reads of a node, all after the same history.

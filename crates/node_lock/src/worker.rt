@@ -1,3 +1,5 @@
+//! A pool's worker: it takes jobs and makes their calls.
+
 ghost use Rattle.node_lock.specs.Inboxes.{IsPassTo};
 
 use crate::gate::Gate;
@@ -14,23 +16,23 @@ use std::sync::ledger::Ledger;
 
 /// What a worker sits at: its seat, and a pass to the inbox.
 #[derive(Drop)]
-pub struct Desk<L: Ledger> {
+pub struct WorkerSeat<L: Ledger> {
     pub(crate) seat: Seat<L>,
     pub(crate) pass: InboxPass,
 }
 
 /// A job's receipt.
 #[derive(Drop)]
-pub struct Told {
+pub struct NumberedReceipt {
     pub(crate) number: u32,
     pub(crate) receipt: Receipt,
 }
 
 /// What a worker leaves: its seat, the receipts of its jobs, and why it stopped before the inbox was empty.
 #[derive(Drop)]
-pub struct Done<L: Ledger> {
+pub struct WorkerResult<L: Ledger> {
     pub(crate) seat: Seat<L>,
-    pub(crate) told: Vec<Told>,
+    pub(crate) receipts: Vec<NumberedReceipt>,
     pub(crate) cause: Option<Cause>,
 }
 
@@ -41,12 +43,12 @@ pub(crate) fn work<L: Ledger, G: Gate, R: Wait>(
     shared: &SharedNode<L>,
     inbox: &Inbox,
     gate: &G,
-    desk: Desk<L>,
-) -> Done<L>
-    requires { IsPassTo inbox.now desk.pass }
+    worker_seat: WorkerSeat<L>,
+) -> WorkerResult<L>
+    requires { IsPassTo inbox.now worker_seat.pass }
 {
-    let Desk { mut seat, mut pass } = desk;
-    let mut told = Vec::new(alloc);
+    let WorkerSeat { mut seat, mut pass } = worker_seat;
+    let mut receipts = Vec::new(alloc);
     for _ in 0..INBOX_CAPACITY {
         let Some(job) = inbox.take(rt, &mut pass) else {
             break;
@@ -54,32 +56,36 @@ pub(crate) fn work<L: Ledger, G: Gate, R: Wait>(
         let worker = seat.number();
         let number = job.number;
         gate.enter(worker, number);
-        let receipt = match hold(rt, shared, &mut seat, job) {
+        let receipt = match call_locked(rt, shared, &mut seat, job) {
             Ok(receipt) => receipt,
-            Err(fault) => return stopped(seat, told, Cause::of_step(fault)),
+            Err(fault) => return failed_result(seat, receipts, Cause::of_step(fault)),
         };
-        if told.push(Told { number, receipt }).is_err() {
-            return stopped(seat, told, Cause::Memory);
+        if receipts.push(NumberedReceipt { number, receipt }).is_err() {
+            return failed_result(seat, receipts, Cause::Memory);
         }
         gate.leave(worker, number);
     }
-    Done {
+    WorkerResult {
         seat,
-        told,
+        receipts,
         cause: None,
     }
 }
 
-fn stopped<L: Ledger>(seat: Seat<L>, told: Vec<Told>, cause: Cause) -> Done<L> {
-    Done {
+fn failed_result<L: Ledger>(
+    seat: Seat<L>,
+    receipts: Vec<NumberedReceipt>,
+    cause: Cause,
+) -> WorkerResult<L> {
+    WorkerResult {
         seat,
-        told,
+        receipts,
         cause: Some(cause),
     }
 }
 
 /// The job's call under one hold of the lock.
-fn hold<L: Ledger, R: Wait>(
+fn call_locked<L: Ledger, R: Wait>(
     rt: &R,
     shared: &SharedNode<L>,
     seat: &mut Seat<L>,

@@ -1,7 +1,7 @@
 use Rattle.std.proofs.Common.{◌+◌, take, refl, sym, ◌∙◌, subst}
 use Rattle.std.specs.Prelude.{All, IsTrue}
 use Rattle.role_node.specs.Nodes.{NodeValue}
-use Rattle.node_lock.specs.Walks.{receipts_of, event_in, IsTrueHere}
+use Rattle.node_lock.specs.inside.Walks.{receipts_of, event_in, IsTrueHere}
 use Rattle.node_lock.proofs.Places.{all_more, all_taken, not_all}
 use Rattle.node_lock.proofs.audits.are_true.Goals as goal
 

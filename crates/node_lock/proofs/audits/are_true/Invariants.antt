@@ -1,5 +1,5 @@
 use Rattle.std.specs.Prelude.{◌≡◌, All, take}
-use Rattle.node_lock.specs.Walks.{receipts_of, event_in, IsTrueHere}
+use Rattle.node_lock.specs.inside.Walks.{receipts_of, event_in, IsTrueHere}
 use Rattle.node_lock.proofs.audits.are_true.Given as goal
 
 abbrev pub invariant-loop-receipt : goal.invariant-loop-receipt

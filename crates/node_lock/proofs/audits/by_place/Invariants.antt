@@ -1,5 +1,5 @@
 use Rattle.std.specs.Prelude.{◌≡◌, take}
-use Rattle.node_lock.specs.Walks.{receipts_of}
+use Rattle.node_lock.specs.inside.Walks.{receipts_of}
 use Rattle.node_lock.proofs.audits.by_place.Given as goal
 
 abbrev pub invariant-loop-receipt : goal.invariant-loop-receipt

@@ -1,7 +1,7 @@
 use Rattle.std.proofs.Common.{◌≡◌, length, sym, ap, ◌∙◌, arith, refl}
 use Rattle.std.proofs.lemmas.Option.{slice_get_read}
 use Rattle.role_node.proofs.Exported.{events-length}
-use Rattle.node_lock.proofs.Dues.{next_entry}
+use Rattle.node_lock.proofs.DueOutcomes.{next_entry}
 use Rattle.node_lock.proofs.audits.entry_at.Goals as goal
 
 pub returns-clause-next : goal.returns-clause-next

@@ -2,7 +2,7 @@ use Rattle.std.proofs.Common.{◌≡◌, ◌<◌, List, length, get_or, sym, sub
 use Rattle.std.specs.Prelude.{All}
 use Rattle.std.specs.Borrow.{Bor}
 use Rattle.std.proofs.lemmas.List.{length-map}
-use Rattle.node_lock.specs.Walks.{receipts_of}
+use Rattle.node_lock.specs.inside.Walks.{receipts_of}
 use Rattle.node_lock.specs.declared.receipt.Receipt.{Receipt}
 use Rattle.node_lock.proofs.Places.{above_from, drop_receipts, all_more, now_at}
 use Rattle.node_lock.proofs.audits.split_at_place.Goals.{else-loop-receipt-test}

@@ -1,5 +1,5 @@
 use Rattle.std.specs.Prelude.{◌≡◌, All, take}
-use Rattle.node_lock.specs.Walks.{receipts_of}
+use Rattle.node_lock.specs.inside.Walks.{receipts_of}
 use Rattle.node_lock.specs.declared.receipt.Receipt.{Receipt}
 use Rattle.node_lock.proofs.audits.split_at_place.Given as goal
 

@@ -4,7 +4,7 @@ use Rattle.std.proofs.lemmas.List.Elements.{All-push}
 use Rattle.std.proofs.lemmas.List.Sums.{sum_by_push}
 use Rattle.crossbeam_queue.specs.Passes.{view}
 use Rattle.node_lock.specs.Inboxes.{Passing, IsNewPassTo, parts_of}
-use Rattle.node_lock.proofs.Hauls.{begins, cuts}
+use Rattle.node_lock.proofs.InboxMoves.{begins, cuts}
 use Rattle.node_lock.proofs.inbox.Inbox.new.Goals as goal
 
 pub ruled-requires-clause-rule : goal.ruled-requires-clause-rule

@@ -1,6 +1,6 @@
 use Rattle.std.proofs.Common.{◌<◌, arith}
 use Rattle.crossbeam_queue.specs.Passes.{view}
-use Rattle.node_lock.proofs.Hauls.{puts}
+use Rattle.node_lock.proofs.InboxMoves.{puts}
 use Rattle.node_lock.proofs.inbox.Inbox.put.Goals as goal
 
 pub push_as-requires-clause-rule : goal.push_as-requires-clause-rule

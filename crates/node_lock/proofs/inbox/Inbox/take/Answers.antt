@@ -1,6 +1,6 @@
 use Rattle.std.proofs.Common.{◌<◌, arith}
 use Rattle.crossbeam_queue.specs.Passes.{view}
-use Rattle.node_lock.proofs.Hauls.{takes}
+use Rattle.node_lock.proofs.InboxMoves.{takes}
 use Rattle.node_lock.proofs.inbox.Inbox.take.Goals as goal
 
 pub pop_as-requires-clause-rule : goal.pop_as-requires-clause-rule

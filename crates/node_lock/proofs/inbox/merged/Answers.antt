@@ -1,5 +1,0 @@
-use Rattle.node_lock.proofs.Hauls.{joins}
-use Rattle.node_lock.proofs.inbox.merged.Goals as goal
-
-pub absorb-requires-clause-rule : goal.absorb-requires-clause-rule
-absorb-requires-clause-rule c = joins _ _ _ _ c.loop-next.invariant.some

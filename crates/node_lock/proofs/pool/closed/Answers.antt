@@ -1,4 +1,0 @@
-use Rattle.node_lock.proofs.pool.closed.Goals as goal
-
-pub unreachable-requires : goal.unreachable-requires
-unreachable-requires g c = c.in_default.ensures.absent c.requires

@@ -1,5 +1,0 @@
-use Rattle.std.proofs.Common.{◌∙◌}
-use Rattle.node_lock.proofs.pool.run_at.Goals as goal
-
-pub closed-requires : goal.closed-requires
-closed-requires g c = c.in_ok-seats.ensures ∙ c.in_ok-shared.ensures.count ∙ c.requires.parts.1
