@@ -1,6 +1,6 @@
 -- Items that are written one after another, with a text between each two.
 use Rattle.std.proofs.Common.{append_assoc, codes, ◌≡◌, ◌∙◌, ℕ, ◌+◌, ◌<◌, ◌≤◌, List}
-use Rattle.std.proofs.Common.{[], ◌∷◌, ◌++◌, length, take, get_or, refl, sym, ap}
+use Rattle.std.proofs.Common.{[], ◌∷◌, ◌++◌, length, take, get_or, sym, ap}
 use Rattle.std.proofs.lemmas.List.{flat_map_more, take_more, take_all}
 use Rattle.std.specs.List.{flat_map, join_by}
 use Rattle.std.specs.Fmt.{decimal}

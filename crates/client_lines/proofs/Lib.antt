@@ -1,2 +1,4 @@
 pub mod JsonLemmas
+pub mod LineLemmas
+pub mod ObjectReading
 pub mod Joins

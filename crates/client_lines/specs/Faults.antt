@@ -1,5 +1,5 @@
 -- How a fault is written: its code, a space and its name.
-use Rattle.std.specs.Prelude.{◌≢◌, ℕ, ⊤, List, codes, Option, Some, None}
+use Rattle.std.specs.Prelude.{◌≢◌, ℕ, List, codes, Option, Some, None}
 use Rattle.role_sessions.specs.declared.faults.SessionFault.TheVariants as session
 use Rattle.role_node.specs.Faults.{node_fault_text}
 use Rattle.role_node.specs.declared.faults.NodeFault.{NodeFault}

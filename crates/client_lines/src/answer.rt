@@ -1,3 +1,5 @@
+//! What a node answers to a client's line, and how an answer is written.
+
 ghost use Rattle.std.specs.Prelude.{◌≡◌, IfOk, string_bytes};
 ghost use Rattle.client_lines.specs.AnswerTexts as texts;
 ghost use Rattle.client_lines.specs.AnswerTexts.{IsWritten};

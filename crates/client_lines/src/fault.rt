@@ -1,3 +1,5 @@
+//! Why a client's line is no request.
+
 ghost use Rattle.std.specs.Prelude.{◌≡◌};
 ghost use Rattle.client_lines.specs.Faults.{named_member};
 

@@ -6,7 +6,9 @@
 
 mod answer;
 mod fault;
-mod json;
+mod flat;
+mod json_value;
+mod line;
 mod member;
 mod numbers;
 mod operation;
@@ -15,9 +17,9 @@ mod rows;
 
 pub use answer::{ClientAnswer, answer_text};
 pub use fault::LineFault;
-pub use json::read_json;
+pub use json_value::read_json;
 pub use member::{Member, MemberFault, member_number};
-pub use request::{MOST_LINE_BYTES, Request, read_request};
+pub use request::{MOST_LINE_BYTES, Request, RequestReader, read_request};
 
 #[cfg(test)]
 mod json_tests;

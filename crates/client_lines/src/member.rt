@@ -1,3 +1,5 @@
+//! The members of client lines and of cluster texts.
+
 ghost use Rattle.std.specs.Prelude.{◌≡◌, ◌≤◌, IfOk};
 ghost use Rattle.serde_json.specs.View.{view};
 ghost use Rattle.client_lines.specs.Members.{member_name, member_number};

@@ -1,3 +1,5 @@
+//! What a client's line may ask for.
+
 ghost use Rattle.std.specs.Prelude.{◌≡◌};
 ghost use Rattle.client_lines.specs.Operations.{operation_named};
 

@@ -3,22 +3,26 @@
 ghost use Rattle.std.specs.Prelude.{◌≡◌, IfOk};
 ghost use Rattle.quorum_sizes.specs.Sizes.{Counts};
 ghost use Rattle.serde_json.specs.Data.{Data};
-ghost use Rattle.serde_json.specs.View.{view};
 ghost use Rattle.client_lines.specs.Requests as lines;
+ghost use Rattle.client_lines.specs.Says.{Says};
 ghost use Rattle.client_lines.specs.declared.operation.Operation.TheVariants as operation;
 
 use crate::fault::LineFault;
+use crate::line::Line;
 use crate::numbers::{object_of, operation_of, owner_of, place_of, role_of, session_of, user_of};
 use crate::operation::Operation;
 use crate::request::Request;
 use quorum_sizes::Sizes;
 use role_commands::Command;
 use role_node::{ClientEvent, Question};
-use serde_json::Value;
 
 /// What a line asks that names this operation.
-pub fn request_of(sizes: &Sizes, operation: Operation, line: &Value) -> Result<Request, LineFault>
-    ensures value { result ≡ lines.request_of sizes.now operation (view line.now) }
+pub fn request_of(
+    sizes: &Sizes,
+    operation: Operation,
+    line: &Line<'_>,
+) -> Result<Request, LineFault>
+    ensures value { (d : Data) → Says line.now d → result ≡ lines.request_of sizes.now operation d }
     ensures nodes { IfOk result (lines.NamesNodes sizes.now) }
 {
     match operation {
@@ -47,8 +51,8 @@ pub fn request_of(sizes: &Sizes, operation: Operation, line: &Value) -> Result<R
 }
 
 #[tactic(auto, unfolding(crate::specs::Requests::request_of))]
-fn assign_of(line: &Value) -> Result<Request, LineFault>
-    ensures value { (s : Counts) → result ≡ lines.request_of s operation.Assign (view line.now) }
+fn assign_of(line: &Line<'_>) -> Result<Request, LineFault>
+    ensures value { (s : Counts) (d : Data) → Says line.now d → result ≡ lines.request_of s operation.Assign d }
     ensures nodes { IfOk result (λ request. (s : Counts) → lines.NamesNodes s request) }
 {
     let (user, role) = user_and_role(line)?;
@@ -56,8 +60,8 @@ fn assign_of(line: &Value) -> Result<Request, LineFault>
 }
 
 #[tactic(auto, unfolding(crate::specs::Requests::request_of))]
-fn deassign_of(line: &Value) -> Result<Request, LineFault>
-    ensures value { (s : Counts) → result ≡ lines.request_of s operation.Deassign (view line.now) }
+fn deassign_of(line: &Line<'_>) -> Result<Request, LineFault>
+    ensures value { (s : Counts) (d : Data) → Says line.now d → result ≡ lines.request_of s operation.Deassign d }
     ensures nodes { IfOk result (λ request. (s : Counts) → lines.NamesNodes s request) }
 {
     let (user, role) = user_and_role(line)?;
@@ -65,8 +69,8 @@ fn deassign_of(line: &Value) -> Result<Request, LineFault>
 }
 
 #[tactic(auto, unfolding(crate::specs::Requests::request_of))]
-fn grant_of(line: &Value) -> Result<Request, LineFault>
-    ensures value { (s : Counts) → result ≡ lines.request_of s operation.Grant (view line.now) }
+fn grant_of(line: &Line<'_>) -> Result<Request, LineFault>
+    ensures value { (s : Counts) (d : Data) → Says line.now d → result ≡ lines.request_of s operation.Grant d }
     ensures nodes { IfOk result (λ request. (s : Counts) → lines.NamesNodes s request) }
 {
     let (role, operation, object) = role_operation_and_object(line)?;
@@ -78,8 +82,8 @@ fn grant_of(line: &Value) -> Result<Request, LineFault>
 }
 
 #[tactic(auto, unfolding(crate::specs::Requests::request_of))]
-fn revoke_of(line: &Value) -> Result<Request, LineFault>
-    ensures value { (s : Counts) → result ≡ lines.request_of s operation.Revoke (view line.now) }
+fn revoke_of(line: &Line<'_>) -> Result<Request, LineFault>
+    ensures value { (s : Counts) (d : Data) → Says line.now d → result ≡ lines.request_of s operation.Revoke d }
     ensures nodes { IfOk result (λ request. (s : Counts) → lines.NamesNodes s request) }
 {
     let (role, operation, object) = role_operation_and_object(line)?;
@@ -91,8 +95,8 @@ fn revoke_of(line: &Value) -> Result<Request, LineFault>
 }
 
 #[tactic(auto, unfolding(crate::specs::Requests::request_of))]
-fn clear_of(line: &Value) -> Result<Request, LineFault>
-    ensures value { (s : Counts) → result ≡ lines.request_of s operation.Clear (view line.now) }
+fn clear_of(line: &Line<'_>) -> Result<Request, LineFault>
+    ensures value { (s : Counts) (d : Data) → Says line.now d → result ≡ lines.request_of s operation.Clear d }
     ensures nodes { IfOk result (λ request. (s : Counts) → lines.NamesNodes s request) }
 {
     let role = role_of(line)?;
@@ -100,8 +104,8 @@ fn clear_of(line: &Value) -> Result<Request, LineFault>
 }
 
 #[tactic(auto, unfolding(crate::specs::Requests::request_of))]
-fn activate_of(line: &Value) -> Result<Request, LineFault>
-    ensures value { (s : Counts) → result ≡ lines.request_of s operation.Activate (view line.now) }
+fn activate_of(line: &Line<'_>) -> Result<Request, LineFault>
+    ensures value { (s : Counts) (d : Data) → Says line.now d → result ≡ lines.request_of s operation.Activate d }
     ensures nodes { IfOk result (λ request. (s : Counts) → lines.NamesNodes s request) }
 {
     let (session, user, role) = session_user_and_role(line)?;
@@ -113,8 +117,8 @@ fn activate_of(line: &Value) -> Result<Request, LineFault>
 }
 
 #[tactic(auto, unfolding(crate::specs::Requests::request_of))]
-fn drop_of(line: &Value) -> Result<Request, LineFault>
-    ensures value { (s : Counts) → result ≡ lines.request_of s operation.Drop (view line.now) }
+fn drop_of(line: &Line<'_>) -> Result<Request, LineFault>
+    ensures value { (s : Counts) (d : Data) → Says line.now d → result ≡ lines.request_of s operation.Drop d }
     ensures nodes { IfOk result (λ request. (s : Counts) → lines.NamesNodes s request) }
 {
     let (session, user, role) = session_user_and_role(line)?;
@@ -126,8 +130,8 @@ fn drop_of(line: &Value) -> Result<Request, LineFault>
 }
 
 #[tactic(auto, unfolding(crate::specs::Requests::request_of))]
-fn close_of(line: &Value) -> Result<Request, LineFault>
-    ensures value { (s : Counts) → result ≡ lines.request_of s operation.Close (view line.now) }
+fn close_of(line: &Line<'_>) -> Result<Request, LineFault>
+    ensures value { (s : Counts) (d : Data) → Says line.now d → result ≡ lines.request_of s operation.Close d }
     ensures nodes { IfOk result (λ request. (s : Counts) → lines.NamesNodes s request) }
 {
     let session = session_of(line)?;
@@ -136,8 +140,8 @@ fn close_of(line: &Value) -> Result<Request, LineFault>
 }
 
 #[tactic(auto, unfolding(crate::specs::Requests::request_of))]
-fn check_of(line: &Value) -> Result<Request, LineFault>
-    ensures value { (s : Counts) → result ≡ lines.request_of s operation.Check (view line.now) }
+fn check_of(line: &Line<'_>) -> Result<Request, LineFault>
+    ensures value { (s : Counts) (d : Data) → Says line.now d → result ≡ lines.request_of s operation.Check d }
     ensures nodes { IfOk result (λ request. (s : Counts) → lines.NamesNodes s request) }
 {
     let session = session_of(line)?;
@@ -153,8 +157,8 @@ fn check_of(line: &Value) -> Result<Request, LineFault>
 }
 
 #[tactic(auto, unfolding(crate::specs::Requests::request_of))]
-fn role_operations_of(line: &Value) -> Result<Request, LineFault>
-    ensures value { (s : Counts) → result ≡ lines.request_of s operation.RoleOperations (view line.now) }
+fn role_operations_of(line: &Line<'_>) -> Result<Request, LineFault>
+    ensures value { (s : Counts) (d : Data) → Says line.now d → result ≡ lines.request_of s operation.RoleOperations d }
     ensures nodes { IfOk result (λ request. (s : Counts) → lines.NamesNodes s request) }
 {
     let role = role_of(line)?;
@@ -163,8 +167,8 @@ fn role_operations_of(line: &Value) -> Result<Request, LineFault>
 }
 
 #[tactic(auto, unfolding(crate::specs::Requests::request_of))]
-fn user_operations_of(line: &Value) -> Result<Request, LineFault>
-    ensures value { (s : Counts) → result ≡ lines.request_of s operation.UserOperations (view line.now) }
+fn user_operations_of(line: &Line<'_>) -> Result<Request, LineFault>
+    ensures value { (s : Counts) (d : Data) → Says line.now d → result ≡ lines.request_of s operation.UserOperations d }
     ensures nodes { IfOk result (λ request. (s : Counts) → lines.NamesNodes s request) }
 {
     let user = user_of(line)?;
@@ -173,8 +177,8 @@ fn user_operations_of(line: &Value) -> Result<Request, LineFault>
 }
 
 #[tactic(auto, unfolding(crate::specs::Requests::request_of))]
-fn session_permissions_of(line: &Value) -> Result<Request, LineFault>
-    ensures value { (s : Counts) → result ≡ lines.request_of s operation.SessionPermissions (view line.now) }
+fn session_permissions_of(line: &Line<'_>) -> Result<Request, LineFault>
+    ensures value { (s : Counts) (d : Data) → Says line.now d → result ≡ lines.request_of s operation.SessionPermissions d }
     ensures nodes { IfOk result (λ request. (s : Counts) → lines.NamesNodes s request) }
 {
     let session = session_of(line)?;
@@ -182,8 +186,8 @@ fn session_permissions_of(line: &Value) -> Result<Request, LineFault>
 }
 
 #[tactic(auto, unfolding(crate::specs::Requests::request_of))]
-fn again_of(sizes: &Sizes, line: &Value) -> Result<Request, LineFault>
-    ensures value { result ≡ lines.request_of sizes.now operation.Again (view line.now) }
+fn again_of(sizes: &Sizes, line: &Line<'_>) -> Result<Request, LineFault>
+    ensures value { (d : Data) → Says line.now d → result ≡ lines.request_of sizes.now operation.Again d }
     ensures nodes { IfOk result (lines.NamesNodes sizes.now) }
 {
     let owner = owner_of(sizes, line)?;
@@ -192,8 +196,8 @@ fn again_of(sizes: &Sizes, line: &Value) -> Result<Request, LineFault>
 }
 
 #[tactic(auto, unfolding(crate::specs::Requests::request_of))]
-fn open_of(line: &Value) -> Result<Request, LineFault>
-    ensures value { (s : Counts) → result ≡ lines.request_of s operation.Open (view line.now) }
+fn open_of(line: &Line<'_>) -> Result<Request, LineFault>
+    ensures value { (s : Counts) (d : Data) → Says line.now d → result ≡ lines.request_of s operation.Open d }
     ensures nodes { IfOk result (λ request. (s : Counts) → lines.NamesNodes s request) }
 {
     let user = user_of(line)?;
@@ -201,8 +205,8 @@ fn open_of(line: &Value) -> Result<Request, LineFault>
 }
 
 #[tactic(auto, unfolding(crate::specs::Requests::request_of))]
-fn assigned_users_of(line: &Value) -> Result<Request, LineFault>
-    ensures value { (s : Counts) → result ≡ lines.request_of s operation.AssignedUsers (view line.now) }
+fn assigned_users_of(line: &Line<'_>) -> Result<Request, LineFault>
+    ensures value { (s : Counts) (d : Data) → Says line.now d → result ≡ lines.request_of s operation.AssignedUsers d }
     ensures nodes { IfOk result (λ request. (s : Counts) → lines.NamesNodes s request) }
 {
     let role = role_of(line)?;
@@ -210,8 +214,8 @@ fn assigned_users_of(line: &Value) -> Result<Request, LineFault>
 }
 
 #[tactic(auto, unfolding(crate::specs::Requests::request_of))]
-fn assigned_roles_of(line: &Value) -> Result<Request, LineFault>
-    ensures value { (s : Counts) → result ≡ lines.request_of s operation.AssignedRoles (view line.now) }
+fn assigned_roles_of(line: &Line<'_>) -> Result<Request, LineFault>
+    ensures value { (s : Counts) (d : Data) → Says line.now d → result ≡ lines.request_of s operation.AssignedRoles d }
     ensures nodes { IfOk result (λ request. (s : Counts) → lines.NamesNodes s request) }
 {
     let user = user_of(line)?;
@@ -219,8 +223,8 @@ fn assigned_roles_of(line: &Value) -> Result<Request, LineFault>
 }
 
 #[tactic(auto, unfolding(crate::specs::Requests::request_of))]
-fn role_permissions_of(line: &Value) -> Result<Request, LineFault>
-    ensures value { (s : Counts) → result ≡ lines.request_of s operation.RolePermissions (view line.now) }
+fn role_permissions_of(line: &Line<'_>) -> Result<Request, LineFault>
+    ensures value { (s : Counts) (d : Data) → Says line.now d → result ≡ lines.request_of s operation.RolePermissions d }
     ensures nodes { IfOk result (λ request. (s : Counts) → lines.NamesNodes s request) }
 {
     let role = role_of(line)?;
@@ -228,8 +232,8 @@ fn role_permissions_of(line: &Value) -> Result<Request, LineFault>
 }
 
 #[tactic(auto, unfolding(crate::specs::Requests::request_of))]
-fn user_permissions_of(line: &Value) -> Result<Request, LineFault>
-    ensures value { (s : Counts) → result ≡ lines.request_of s operation.UserPermissions (view line.now) }
+fn user_permissions_of(line: &Line<'_>) -> Result<Request, LineFault>
+    ensures value { (s : Counts) (d : Data) → Says line.now d → result ≡ lines.request_of s operation.UserPermissions d }
     ensures nodes { IfOk result (λ request. (s : Counts) → lines.NamesNodes s request) }
 {
     let user = user_of(line)?;
@@ -237,8 +241,8 @@ fn user_permissions_of(line: &Value) -> Result<Request, LineFault>
 }
 
 #[tactic(auto, unfolding(crate::specs::Requests::request_of))]
-fn session_roles_of(line: &Value) -> Result<Request, LineFault>
-    ensures value { (s : Counts) → result ≡ lines.request_of s operation.SessionRoles (view line.now) }
+fn session_roles_of(line: &Line<'_>) -> Result<Request, LineFault>
+    ensures value { (s : Counts) (d : Data) → Says line.now d → result ≡ lines.request_of s operation.SessionRoles d }
     ensures nodes { IfOk result (λ request. (s : Counts) → lines.NamesNodes s request) }
 {
     let session = session_of(line)?;
@@ -246,8 +250,8 @@ fn session_roles_of(line: &Value) -> Result<Request, LineFault>
 }
 
 #[tactic(auto, unfolding(crate::specs::Requests::request_of))]
-fn reach_of(sizes: &Sizes, line: &Value) -> Result<Request, LineFault>
-    ensures value { result ≡ lines.request_of sizes.now operation.Reach (view line.now) }
+fn reach_of(sizes: &Sizes, line: &Line<'_>) -> Result<Request, LineFault>
+    ensures value { (d : Data) → Says line.now d → result ≡ lines.request_of sizes.now operation.Reach d }
     ensures nodes { IfOk result (lines.NamesNodes sizes.now) }
 {
     let owner = owner_of(sizes, line)?;
@@ -263,8 +267,8 @@ fn stop_of() -> Result<Request, LineFault>
 }
 
 #[tactic(auto, unfolding(crate::specs::Requests::user_and_role))]
-fn user_and_role(line: &Value) -> Result<(u32, u16), LineFault>
-    ensures { result ≡ lines.user_and_role (view line.now) }
+fn user_and_role(line: &Line<'_>) -> Result<(u32, u16), LineFault>
+    ensures { (d : Data) → Says line.now d → result ≡ lines.user_and_role d }
 {
     let user = user_of(line)?;
     let role = role_of(line)?;
@@ -272,8 +276,8 @@ fn user_and_role(line: &Value) -> Result<(u32, u16), LineFault>
 }
 
 #[tactic(auto, unfolding(crate::specs::Requests::role_operation_and_object))]
-fn role_operation_and_object(line: &Value) -> Result<(u16, u16, u32), LineFault>
-    ensures { result ≡ lines.role_operation_and_object (view line.now) }
+fn role_operation_and_object(line: &Line<'_>) -> Result<(u16, u16, u32), LineFault>
+    ensures { (d : Data) → Says line.now d → result ≡ lines.role_operation_and_object d }
 {
     let role = role_of(line)?;
     let operation = operation_of(line)?;
@@ -282,8 +286,8 @@ fn role_operation_and_object(line: &Value) -> Result<(u16, u16, u32), LineFault>
 }
 
 #[tactic(auto, unfolding(crate::specs::Requests::session_user_and_role))]
-fn session_user_and_role(line: &Value) -> Result<(u64, u32, u16), LineFault>
-    ensures { result ≡ lines.session_user_and_role (view line.now) }
+fn session_user_and_role(line: &Line<'_>) -> Result<(u64, u32, u16), LineFault>
+    ensures { (d : Data) → Says line.now d → result ≡ lines.session_user_and_role d }
 {
     let session = session_of(line)?;
     let user = user_of(line)?;

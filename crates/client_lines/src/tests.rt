@@ -3,7 +3,7 @@
 use crate::answer::{ClientAnswer, answer_text};
 use crate::fault::LineFault;
 use crate::member::Member;
-use crate::request::{Request, read_request};
+use crate::request::{Request, RequestReader, read_request};
 use quorum_sizes::Sizes;
 use role_commands::{Command, Items};
 use role_node::{ClientEvent, Question, Rule, Verdict};
@@ -150,4 +150,60 @@ fn answers(rt: HostRuntime) -> Result<(), Fail> {
     let text = answer_text(alloc, &ClientAnswer::BadLine(fault))?;
     assert!(rt; text.as_str() == "{\"error\":\"J5 Missing\",\"name\":\"user\"}");
     Ok(())
+}
+
+#[test]
+fn one_reader_reads_line_after_line(rt: HostRuntime) {
+    let assign = Request::Issue(Command::Assign { user: 7, role: 2 });
+    let cases: [(&[u8], Result<Request, LineFault>); 11] = [
+        (b"{\"op\":\"assign\",\"user\":7,\"role\":2}", Ok(assign)),
+        (
+            b"{\"op\":\"assign\",\"user\":7,\"role\":2",
+            Err(LineFault::NotJson),
+        ),
+        (
+            b"{\"op\":\"assign\",\"user\":8,\"role\":2,\"user\":7}",
+            Ok(assign),
+        ),
+        (
+            b"{\"op\":\"assign\",\"user\":7,\"role\":2,\"place\":[]}",
+            Ok(assign),
+        ),
+        (
+            b"{\"op\":\"assign\",\"user\":7,\"role\":[2]}",
+            Err(LineFault::OutOfRange(Member::Role)),
+        ),
+        (
+            b"{\"op\":\"assign\",\"user\":7.0,\"role\":2}",
+            Err(LineFault::OutOfRange(Member::User)),
+        ),
+        (
+            b"{\"op\":\"assign\",\"user\":1e999,\"role\":2}",
+            Err(LineFault::NotJson),
+        ),
+        (
+            b"{\"\\u006fp\":\"as\\u0073ign\",\"user\":7,\"role\":2}",
+            Ok(assign),
+        ),
+        (
+            b"{\"op\":\"assign\",\"user\":7,\"role\":2}0",
+            Err(LineFault::NotJson),
+        ),
+        (
+            b"{\"op\":\"assign\",\"role\":2}",
+            Err(LineFault::Missing(Member::User)),
+        ),
+        (
+            b"{\"op\":\"stop\",\"user\":null,\"role\":true}",
+            Ok(Request::Stop),
+        ),
+    ];
+    let mut reader = RequestReader::new(rt.alloc());
+    for (row, (line, due)) in cases.iter().enumerate() {
+        let came = match Sizes::new(4, 1) {
+            Ok(sizes) => reader.read(&sizes, line),
+            Err(_) => Err(LineFault::NoOp),
+        };
+        assert!(rt; came == *due, "row {row}: {due:?} is due, not {came:?}");
+    }
 }

@@ -1,5 +1,4 @@
-use Rattle.std.proofs.Common.{◌≡◌, ◌∙◌, ℕ, List, [], ◌∷◌, ap, ◌++◌, codes, get_or, string_bytes, take}
-use Rattle.std.specs.Fmt.{decimal}
+use Rattle.std.proofs.Common.{◌∙◌, ℕ, List, ap, ◌++◌, codes, get_or, string_bytes, take}
 use Rattle.std.specs.List.{flat_map}
 use Rattle.client_lines.specs.AnswerTexts.{permission_text}
 use Rattle.client_lines.proofs.Joins.{written_more, all_joined, permission-grouped, permission-whole}

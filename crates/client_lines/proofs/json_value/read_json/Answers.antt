@@ -1,6 +1,6 @@
 use Rattle.std.proofs.Common.{sym, ◌∙◌, true≢false}
 use Rattle.client_lines.proofs.JsonLemmas.{json_of-some, json_of-none}
-use Rattle.client_lines.proofs.json.read_json.Goals as goal
+use Rattle.client_lines.proofs.json_value.read_json.Goals as goal
 
 pub returns-in-Ok-clause-value : goal.returns-in-Ok-clause-value
 returns-in-Ok-clause-value c = sym (json_of-some _ _ c.in-Ok.ensures.ok.0 c.in-Ok.ensures.ok.1)

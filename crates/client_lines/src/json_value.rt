@@ -1,3 +1,5 @@
+//! Bytes as the JSON value that they are.
+
 ghost use Rattle.std.specs.Prelude.{◌≡◌, ◌<◌, length, option_map, IfOk, OnErr};
 ghost use Rattle.serde_json.specs.View.{view};
 ghost use Rattle.client_lines.specs.Json.{json_of};
