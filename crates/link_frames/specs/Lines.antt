@@ -5,10 +5,6 @@ use Rattle.std.specs.List.{onto_first, AllByRecursion}
 abbrev pub line_end : ℕ
 line_end = 10
 
--- what stands between the words of a line
-abbrev pub space : ℕ
-space = 32
-
 abbrev pub is_line_end : ℕ → Bool
 is_line_end b = b == line_end
 

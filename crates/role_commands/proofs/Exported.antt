@@ -15,7 +15,7 @@ pub use Rattle.role_commands.proofs.NumberLemmas.{narrow_spelled, wide_spelled, 
 pub use Rattle.role_commands.proofs.FirstWordLemmas.{if_else, mapped, behind_name, by_name, by_name_made}
 pub use Rattle.role_commands.proofs.WordLemmas.{two_words-grouped, three_words-grouped, command_of-spelling}
 pub use Rattle.role_commands.proofs.WordLemmas.{command_of_spelled, spelling_injective}
-pub use Rattle.role_commands.proofs.PlainText.{Ascii, word_text, number, ◌then◌, space, command_text}
+pub use Rattle.role_commands.proofs.PlainText.{Ascii, word_text, number, ◌then◌, space_text, command_text}
 pub use Rattle.role_commands.proofs.SameLemmas.{same_command-self, same_command_is}
 pub use Rattle.role_commands.proofs.ByteLemmas.{length-bytes_of, bytes_of_injective}
 pub use Rattle.role_commands.proofs.ByteReading.{command_again, command_takes, IsBytes-part}

@@ -4,7 +4,7 @@ use Rattle.std.proofs.Common.{Some, None, option_map, option_and_then, sym, refl
 use Rattle.std.proofs.lemmas.Option.{option_and_then_some, same_Some, none-some}
 use Rattle.std.proofs.lemmas.Slice.Eq.{bytes_eq-Decides}
 use Rattle.std.specs.Str.{bytes_eq}
-use Rattle.role_commands.specs.Numbers.{split_word}
+use Rattle.role_commands.specs.Numbers.{split_word, space}
 use Rattle.role_commands.proofs.SplitWordLemmas.{split_word-joined}
 
 -- which branch gave the value
@@ -22,12 +22,12 @@ mapped f (Some a) c e = (a, refl, same_Some (f a) c e)
 -- what stands behind the name of a line
 pub behind_name : {A : Type 0} (word line : List ℕ) (read : List ℕ → Option A) (c : A)
     → option_and_then (λ words. if bytes_eq words.0 word then read words.1 else None) (split_word line) ≡ Some c
-    → (text : List ℕ) × (line ≡ word ++ (32 ∷ text)) × (read text ≡ Some c)
+    → (text : List ℕ) × (line ≡ word ++ (space ∷ text)) × (read text ≡ Some c)
 behind_name word line read c e =
     option_and_then_some _ _ _ e
     (λ words cut is. if_else _ _ _ c is
     (λ same is_text. let name : words.0 ≡ word = (bytes_eq-Decides words.0 word).0 same in
-    (words.1, split_word-joined line words cut ∙ ap (λ (w : List ℕ). w ++ (32 ∷ words.1)) name, is_text))
+    (words.1, split_word-joined line words cut ∙ ap (λ (w : List ℕ). w ++ (space ∷ words.1)) name, is_text))
     (λ none. absurd (none-some c none)))
 
 -- a choice by a name: what holds behind this word, and behind the others

@@ -36,18 +36,18 @@ infixl 20 ◌then◌
 pub ◌then◌ : {xs ys : List ℕ} → Ascii xs → Ascii ys → Ascii (xs ++ ys)
 ◌then◌ {xs} {ys} p q = record { is = IsAscii-append xs ys p.is q.is }
 
-pub space : Ascii (codes " ")
-space = word_text (codes " ") refl
+pub space_text : Ascii (codes " ")
+space_text = word_text (codes " ") refl
 
 pub command_text : (c : Command) → IsCommand c → Ascii (spelling c)
 command_text (Assign u r) is =
-    word_text (codes "assign") refl then space then number u (omega arith) then space then number r (omega arith)
+    word_text (codes "assign") refl then space_text then number u (omega arith) then space_text then number r (omega arith)
 command_text (Deassign u r) is =
-    word_text (codes "deassign") refl then space then number u (omega arith) then space then number r (omega arith)
+    word_text (codes "deassign") refl then space_text then number u (omega arith) then space_text then number r (omega arith)
 command_text (Grant r p b) is =
-    word_text (codes "grant") refl then space then number r (omega arith)
-    then space then number p (omega arith) then space then number b (omega arith)
+    word_text (codes "grant") refl then space_text then number r (omega arith)
+    then space_text then number p (omega arith) then space_text then number b (omega arith)
 command_text (Revoke r p b) is =
-    word_text (codes "revoke") refl then space then number r (omega arith)
-    then space then number p (omega arith) then space then number b (omega arith)
-command_text (Clear r) is = word_text (codes "clear") refl then space then number r (omega arith)
+    word_text (codes "revoke") refl then space_text then number r (omega arith)
+    then space_text then number p (omega arith) then space_text then number b (omega arith)
+command_text (Clear r) is = word_text (codes "clear") refl then space_text then number r (omega arith)

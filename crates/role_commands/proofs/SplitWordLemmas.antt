@@ -12,7 +12,7 @@ use Rattle.std.proofs.Math.Seq.{get_or-append_seam, take-append_seam, drop-appen
 use Rattle.std.specs.Fmt.{decimal}
 use Rattle.std.specs.List.{position_or_len, before_first, after_first}
 use Rattle.std.specs.Str.Parse.{AllDigits}
-use Rattle.role_commands.specs.Numbers.{is_space, split_word}
+use Rattle.role_commands.specs.Numbers.{is_space, split_word, space}
 
 -- what a split at the first space finds
 pub split_word_is : (text : List ℕ) (r : Option (Bor (List ℕ) × Bor (List ℕ))) → IsSplitOnceResult 32 text r
@@ -29,13 +29,13 @@ split_word_is text (Some words) split =
 
 -- a front with no space
 pub split_word-front : (front back : List ℕ) → ((i : ℕ) → i < length front → get_or front i 0 ≢ 32)
-    → split_word (front ++ (32 ∷ back)) ≡ Some (front, back)
+    → split_word (front ++ (space ∷ back)) ≡ Some (front, back)
 unfolding split_word
 split_word-front front back plain =
-    let text = front ++ (32 ∷ back) in
-    let within : length front < length text = omega (arith, length-append front (32 ∷ back)) in
+    let text = front ++ (space ∷ back) in
+    let within : length front < length text = omega (arith, length-append front (space ∷ back)) in
     let before : (k : ℕ) → k < length front → is_space (get_or text k 0) ≡ false = λ k h.
-    let same : get_or text k 0 ≡ get_or front k 0 = get_or_append_left front (32 ∷ back) 0 k h in
+    let same : get_or text k 0 ≡ get_or front k 0 = get_or_append_left front (space ∷ back) 0 k h in
     let other : get_or front k 0 ≢ 32 = plain k h in rw same (grind (arith, nat_tests)) in
     let at : position_or_len is_space text ≡ length front =
     position_or_len_is is_space text (length front) 0 (omega (arith, within)) before
@@ -45,7 +45,7 @@ split_word-front front back plain =
 
 -- the text is the two words and the space
 pub split_word-joined : (text : List ℕ) (words : List ℕ × List ℕ) → split_word text ≡ Some words
-    → text ≡ words.0 ++ (32 ∷ words.1)
+    → text ≡ words.0 ++ (space ∷ words.1)
 unfolding split_word
 split_word-joined text words e =
     let found = position_or_len is_space text in
@@ -53,8 +53,8 @@ split_word-joined text words e =
     let parts = cond_some (nat_lt found (length text)) both words e in
     let inside : found < length text = grind (arith, nat_tests) in
     let passes = passes_at_first is_space text 0 inside in
-    let space : get_or text found 0 ≡ 32 = grind (arith, nat_tests) in
-    rw space at (split_at_first is_space text 0 inside) ∙ ap (λ w. w.0 ++ (32 ∷ w.1)) parts.1
+    let here : get_or text found 0 ≡ space = grind (arith, nat_tests) in
+    rw here at (split_at_first is_space text 0 inside) ∙ ap (λ w. w.0 ++ (space ∷ w.1)) parts.1
 
 -- a number has no space
 pub decimal_plain : (n : ℕ) → n < 2 ^ 64 → (i : ℕ) → i < length (decimal n) → get_or (decimal n) i 0 ≢ 32
@@ -65,16 +65,16 @@ decimal_plain n small i h =
 -- a word has no space where a search for one ends behind it
 pub plain_word : (word : List ℕ) → position_or_len is_space word ≡ length word → (i : ℕ) → i < length word
     → get_or word i 0 ≢ 32
-plain_word word e i h space =
+plain_word word e i h here =
     let fails = fails_before_first is_space word i 0 (omega (arith, e)) in
     grind (arith, nat_tests)
 
 -- a word, where a search for a space ends behind it
 pub split_word-word : (word back : List ℕ) → position_or_len is_space word ≡ length word
-    → split_word (word ++ (32 ∷ back)) ≡ Some (word, back)
+    → split_word (word ++ (space ∷ back)) ≡ Some (word, back)
 split_word-word word back e = split_word-front word back (plain_word word e)
 
 -- a number
 pub split_word-decimal : (n : ℕ) (back : List ℕ) → n < 2 ^ 64
-    → split_word (decimal n ++ (32 ∷ back)) ≡ Some (decimal n, back)
+    → split_word (decimal n ++ (space ∷ back)) ≡ Some (decimal n, back)
 split_word-decimal n back small = split_word-front (decimal n) back (decimal_plain n small)

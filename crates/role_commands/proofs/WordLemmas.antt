@@ -9,7 +9,7 @@ use Rattle.std.specs.List.{position_or_len, AllByRecursion}
 use Rattle.std.specs.Map.{lookup}
 use Rattle.std.specs.Str.{bytes_eq}
 use Rattle.role_commands.specs.Laws.{CommandsAreRead, CommandsAreSpelled, SpellingsDiffer}
-use Rattle.role_commands.specs.Numbers.{is_space, wide_number, narrow_number}
+use Rattle.role_commands.specs.Numbers.{is_space, wide_number, narrow_number, space}
 use Rattle.role_commands.specs.Reading.{user_and_role, operation_and_object}
 use Rattle.role_commands.specs.Reading.{role_and_permission, kinds, named_command, command_of}
 use Rattle.role_commands.specs.Words.{spelling, IsCommand, one_word, two_words, three_words}
@@ -22,39 +22,39 @@ use Rattle.role_commands.proofs.SplitWordLemmas.{split_word-decimal, split_word-
 -- ---- reading what was written
 
 user_and_role_read : (user role : ℕ) → user < 2 ^ 32 → role < 2 ^ 16
-    → user_and_role (decimal user ++ (32 ∷ decimal role)) ≡ Some (user, role)
+    → user_and_role (decimal user ++ (space ∷ decimal role)) ≡ Some (user, role)
 unfolding user_and_role
 user_and_role_read user role wide narrow =
     rw (split_word-decimal user (decimal role) (omega arith)) (rw (wide_read user wide, narrow_read role narrow) refl)
 
 operation_and_object_read : (operation object : ℕ) → operation < 2 ^ 16 → object < 2 ^ 32
-    → operation_and_object (decimal operation ++ (32 ∷ decimal object)) ≡ Some (operation, object)
+    → operation_and_object (decimal operation ++ (space ∷ decimal object)) ≡ Some (operation, object)
 unfolding operation_and_object
 operation_and_object_read operation object narrow wide =
     rw (split_word-decimal operation (decimal object) (omega arith))
     (rw (narrow_read operation narrow, wide_read object wide) refl)
 
 role_and_permission_read : (role operation object : ℕ) → role < 2 ^ 16 → operation < 2 ^ 16 → object < 2 ^ 32
-    → role_and_permission (decimal role ++ (32 ∷ (decimal operation ++ (32 ∷ decimal object)))) ≡ Some
+    → role_and_permission (decimal role ++ (space ∷ (decimal operation ++ (space ∷ decimal object)))) ≡ Some
     (role, operation, object)
 unfolding role_and_permission
 role_and_permission_read role operation object role_fits fits wide =
-    rw (split_word-decimal role (decimal operation ++ (32 ∷ decimal object)) (omega arith))
+    rw (split_word-decimal role (decimal operation ++ (space ∷ decimal object)) (omega arith))
     (rw (narrow_read role role_fits, operation_and_object_read operation object fits wide) refl)
 
 command_of-front : (name numbers : List ℕ) → position_or_len is_space name ≡ length name
-    → command_of (name ++ (32 ∷ numbers)) ≡ named_command name numbers
+    → command_of (name ++ (space ∷ numbers)) ≡ named_command name numbers
 unfolding command_of
 command_of-front name numbers e = rw (split_word-word name numbers e) refl
 
-pub one_word-grouped : (name : List ℕ) (a : ℕ) → one_word name a ≡ name ++ (32 ∷ decimal a)
+pub one_word-grouped : (name : List ℕ) (a : ℕ) → one_word name a ≡ name ++ (space ∷ decimal a)
 one_word-grouped name a = simp append_assoc
 
-pub two_words-grouped : (name : List ℕ) (a b : ℕ) → two_words name a b ≡ name ++ (32 ∷ (decimal a ++ (32 ∷ decimal b)))
+pub two_words-grouped : (name : List ℕ) (a b : ℕ) → two_words name a b ≡ name ++ (space ∷ (decimal a ++ (space ∷ decimal b)))
 two_words-grouped name a b = simp append_assoc
 
 pub three_words-grouped : (name : List ℕ) (a b c : ℕ)
-    → three_words name a b c ≡ name ++ (32 ∷ (decimal a ++ (32 ∷ (decimal b ++ (32 ∷ decimal c)))))
+    → three_words name a b c ≡ name ++ (space ∷ (decimal a ++ (space ∷ (decimal b ++ (space ∷ decimal c)))))
 three_words-grouped name a b c = simp append_assoc
 
 pub command_of-spelling : CommandsAreRead
@@ -93,7 +93,7 @@ triple_of (Some a) (Some b) n e = let is =
     same_Some (a, b.0, b.1) n e in (ap (λ m. Some m.0) is, ap (λ m. Some (m.1, m.2)) is)
 
 user_and_role_spelled : (text : List ℕ) (n : ℕ × ℕ) → user_and_role text ≡ Some n
-    → (text ≡ decimal n.0 ++ (32 ∷ decimal n.1)) × (n.0 < 2 ^ 32) × (n.1 < 2 ^ 16)
+    → (text ≡ decimal n.0 ++ (space ∷ decimal n.1)) × (n.0 < 2 ^ 32) × (n.1 < 2 ^ 16)
 unfolding user_and_role
 user_and_role_spelled text n e =
     option_and_then_some _ _ _ e
@@ -104,7 +104,7 @@ user_and_role_spelled text n e =
     (split_word-joined text words cut ∙ rw (user.0, role.0) refl, user.1, role.1))
 
 operation_and_object_spelled : (text : List ℕ) (n : ℕ × ℕ) → operation_and_object text ≡ Some n
-    → (text ≡ decimal n.0 ++ (32 ∷ decimal n.1)) × (n.0 < 2 ^ 16) × (n.1 < 2 ^ 32)
+    → (text ≡ decimal n.0 ++ (space ∷ decimal n.1)) × (n.0 < 2 ^ 16) × (n.1 < 2 ^ 32)
 unfolding operation_and_object
 operation_and_object_spelled text n e =
     option_and_then_some _ _ _ e
@@ -115,7 +115,7 @@ operation_and_object_spelled text n e =
     (split_word-joined text words cut ∙ rw (operation.0, object.0) refl, operation.1, object.1))
 
 role_and_permission_spelled : (text : List ℕ) (n : ℕ × ℕ × ℕ) → role_and_permission text ≡ Some n
-    → (text ≡ decimal n.0 ++ (32 ∷ (decimal n.1 ++ (32 ∷ decimal n.2)))) × (n.0 < 2 ^ 16) × (n.1 < 2 ^ 16)
+    → (text ≡ decimal n.0 ++ (space ∷ (decimal n.1 ++ (space ∷ decimal n.2)))) × (n.0 < 2 ^ 16) × (n.1 < 2 ^ 16)
     × (n.2 < 2 ^ 32)
 unfolding role_and_permission
 role_and_permission_spelled text n e =
@@ -127,7 +127,7 @@ role_and_permission_spelled text n e =
     (split_word-joined text words cut ∙ rw (role.0, permission.0) refl, role.1, permission.1, permission.2))
 
 Named : List ℕ → List ℕ → Command → Type 0
-Named name numbers c = (name ++ (32 ∷ numbers) ≡ spelling c) × IsCommand c
+Named name numbers c = (name ++ (space ∷ numbers) ≡ spelling c) × IsCommand c
 
 -- the word and two numbers are the spelling of what is made of them
 abbrev SpellPairs : List ℕ → (ℕ → ℕ → Command) → Type 0
@@ -151,8 +151,8 @@ unfolding Named
 clear_spells numbers c e =
     let (role, read, made) = mapped Clear (narrow_number numbers) c e in
     let (joined, narrow) = narrow_spelled role numbers read in
-    let text : codes "clear" ++ (32 ∷ numbers) ≡ spelling (Clear role) =
-    ap (λ t. codes "clear" ++ (32 ∷ t)) joined ∙ sym (one_word-grouped (codes "clear") role) in
+    let text : codes "clear" ++ (space ∷ numbers) ≡ spelling (Clear role) =
+    ap (λ t. codes "clear" ++ (space ∷ t)) joined ∙ sym (one_word-grouped (codes "clear") role) in
     (text ∙ ap spelling made, subst IsCommand made narrow)
 
 pair_spells : (word : List ℕ) (make : ℕ → ℕ → Command) → SpellPairs word make
@@ -162,8 +162,8 @@ pair_spells word make spells numbers c e =
     let (n, read, made) = mapped (λ (m : ℕ × ℕ). make m.0 m.1) (user_and_role numbers) c e in
     let (joined, wide, narrow) = user_and_role_spelled numbers n read in
     let spelled = spells n.0 n.1 wide narrow in
-    let text : word ++ (32 ∷ numbers) ≡ spelling (make n.0 n.1) =
-    ap (λ t. word ++ (32 ∷ t)) joined ∙ sym (two_words-grouped word n.0 n.1) ∙ spelled.0 in
+    let text : word ++ (space ∷ numbers) ≡ spelling (make n.0 n.1) =
+    ap (λ t. word ++ (space ∷ t)) joined ∙ sym (two_words-grouped word n.0 n.1) ∙ spelled.0 in
     (text ∙ ap spelling made, subst IsCommand made spelled.1)
 
 triple_spells : (word : List ℕ) (make : ℕ → ℕ → ℕ → Command) → SpellTriples word make
@@ -173,8 +173,8 @@ triple_spells word make spells numbers c e =
     let (n, read, made) = mapped (λ (m : ℕ × ℕ × ℕ). make m.0 m.1 m.2) (role_and_permission numbers) c e in
     let (joined, role, operation, object) = role_and_permission_spelled numbers n read in
     let spelled = spells n.0 n.1 n.2 role operation object in
-    let text : word ++ (32 ∷ numbers) ≡ spelling (make n.0 n.1 n.2) =
-    ap (λ t. word ++ (32 ∷ t)) joined ∙ sym (three_words-grouped word n.0 n.1 n.2) ∙ spelled.0 in
+    let text : word ++ (space ∷ numbers) ≡ spelling (make n.0 n.1 n.2) =
+    ap (λ t. word ++ (space ∷ t)) joined ∙ sym (three_words-grouped word n.0 n.1 n.2) ∙ spelled.0 in
     (text ∙ ap spelling made, subst IsCommand made spelled.1)
 
 kinds_spell : AllByRecursion SpellsKind kinds

@@ -12,8 +12,12 @@ infixl 10 ◌>>=◌
 abbrev pub ◌>>=◌ : {A B : Type 0} → Option A → (A → Option B) → Option B
 read >>= next = option_and_then next read
 
+-- the byte between two words
+abbrev pub space : ℕ
+space = 32
+
 abbrev pub is_space : ℕ → Bool
-is_space b = b == 32
+is_space b = b == space
 
 -- what stands before the first space and what stands behind it, if there is one
 unfoldable pub split_word : List ℕ → Option (List ℕ × List ℕ)

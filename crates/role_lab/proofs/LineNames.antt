@@ -11,7 +11,7 @@ use Rattle.quorum_sizes.specs.Sizes.{Counts, AreSizes, name_due}
 use Rattle.role_commands.specs.Numbers.{is_space}
 use Rattle.role_commands.proofs.Exported.{split_word-word, split_word-decimal, split_word-joined}
 use Rattle.role_commands.proofs.Exported.{byte_read, byte_spelled, if_else, mapped}
-use Rattle.link_frames.specs.Lines.{space}
+use Rattle.role_commands.specs.Numbers.{space}
 use Rattle.link_frames.specs.declared.kind.Kind.{Kind}
 use Rattle.link_frames.specs.declared.kind.Kind.TheVariants.{Send, Echo, Ready}
 use Rattle.role_lab.specs.Orders.{node_number, kind_of, then_rest}

@@ -6,10 +6,10 @@ use Rattle.std.specs.Fmt.{decimal}
 use Rattle.role_commands.specs.Numbers.{number_of, narrow_number, wide_number, long_number}
 use Rattle.role_commands.proofs.Exported.{number_of_spelled, narrow_read, wide_read, long_read}
 use Rattle.role_commands.proofs.Exported.{narrow_spelled, wide_spelled, mapped, Ascii, number, ◌then◌}
-use Rattle.role_commands.proofs.Exported.{space as space_text}
+use Rattle.role_commands.proofs.Exported.{space_text}
 use Rattle.role_node.specs.declared.question.Question.{Question}
 use Rattle.role_node.specs.declared.question.Question.TheVariants.{Check, RoleOperations, UserOperations}
-use Rattle.link_frames.specs.Lines.{space}
+use Rattle.role_commands.specs.Numbers.{space}
 use Rattle.role_lab.specs.Orders.{then_rest, session_and_user, session_user_and_role}
 use Rattle.role_lab.specs.Orders.{access_of, role_operations_of, user_operations_of}
 use Rattle.role_lab.specs.OrderSpellings.{at_node, two_numbers, three_numbers}

@@ -10,7 +10,7 @@ use Rattle.std.specs.Str.{bytes_eq}
 use Rattle.quorum_sizes.specs.Sizes.{Counts, AreSizes}
 use Rattle.role_commands.specs.Numbers.{is_space, split_word}
 use Rattle.role_commands.proofs.Exported.{split_word-word}
-use Rattle.link_frames.specs.Lines.{space}
+use Rattle.role_commands.specs.Numbers.{space}
 use Rattle.role_lab.specs.Orders.{node_number}
 use Rattle.role_lab.specs.Orders.{order_at_node, order_of_node, named_order, order_of_line}
 use Rattle.role_lab.specs.OrderSpellings.{at_node}

@@ -7,7 +7,7 @@ use Rattle.std.specs.Fmt.{decimal}
 use Rattle.quorum_sizes.specs.Sizes.{Counts, AreSizes}
 use Rattle.role_commands.specs.Words.{spelling}
 use Rattle.role_commands.proofs.Exported.{command_of-spelling, command_of_spelled}
-use Rattle.link_frames.specs.Lines.{space}
+use Rattle.role_commands.specs.Numbers.{space}
 use Rattle.link_frames.specs.Packets.{PacketValue, IsSound, packet_of}
 use Rattle.link_frames.specs.declared.packet.Message.{Message}
 use Rattle.link_frames.proofs.Exported.{due_takes, due_again}

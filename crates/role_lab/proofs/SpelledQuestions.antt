@@ -10,7 +10,7 @@ use Rattle.role_commands.specs.Numbers.{is_space}
 use Rattle.role_commands.proofs.Exported.{split_word-word, split_word-joined, wide_read, long_read, narrow_read}
 use Rattle.role_commands.proofs.Exported.{wide_spelled, narrow_spelled, long_spelled, mapped, by_name}
 use Rattle.role_commands.proofs.Exported.{by_name_made}
-use Rattle.link_frames.specs.Lines.{space}
+use Rattle.role_commands.specs.Numbers.{space}
 use Rattle.role_node.specs.declared.question.Question.{Question}
 use Rattle.role_node.specs.declared.question.Question.TheVariants.{Check, AssignedUsers, AssignedRoles}
 use Rattle.role_node.specs.declared.question.Question.TheVariants.{RolePermissions, UserPermissions, RoleOperations}

@@ -6,7 +6,7 @@ use Rattle.std.specs.Fmt.{decimal}
 use Rattle.quorum_sizes.specs.Sizes.{Counts, AreSizes}
 use Rattle.role_commands.proofs.Exported.{split_word-word, split_word-joined, byte_read}
 use Rattle.role_commands.proofs.Exported.{byte_spelled, mapped, behind_name, by_name, by_name_made}
-use Rattle.link_frames.specs.Lines.{space}
+use Rattle.role_commands.specs.Numbers.{space}
 use Rattle.role_lab.specs.Grammar.{sizes_of_numbers, sizes_of_line}
 use Rattle.role_lab.specs.Orders.{node_number, cluster_of_line, role_and_owner, named_setup, setup_of_line}
 use Rattle.role_lab.specs.Spellings.{sizes_spelling}

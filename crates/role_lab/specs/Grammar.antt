@@ -5,12 +5,11 @@ use Rattle.std.specs.Result.{result_ok}
 use Rattle.std.specs.Str.{bytes_eq}
 use Rattle.quorum_sizes.specs.Sizes.{Counts, name_due}
 use Rattle.quorum_sizes.specs.Refusals.{sizes_due}
-use Rattle.role_commands.specs.Numbers.{split_word, byte_number}
+use Rattle.role_commands.specs.Numbers.{split_word, byte_number, ◌>>=◌}
 use Rattle.role_commands.specs.Reading.{command_of}
 use Rattle.link_frames.specs.declared.kind.Kind.{Kind}
 use Rattle.link_frames.specs.declared.kind.Kind.TheVariants.{Send, Echo, Ready}
 use Rattle.bracha_instance.specs.Broadcast.{Take}
-use Rattle.role_lab.specs.Reads.{◌>>=◌}
 
 -- the node whose instance it is
 abbrev pub owner : ℕ

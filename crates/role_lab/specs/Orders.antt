@@ -7,7 +7,7 @@ use Rattle.std.specs.Result.{result_ok}
 use Rattle.std.specs.Str.{bytes_eq}
 use Rattle.hex.specs.Hex.{decode_of}
 use Rattle.quorum_sizes.specs.Sizes.{Counts, name_due}
-use Rattle.role_commands.specs.Numbers.{split_word, byte_number, narrow_number, wide_number, long_number}
+use Rattle.role_commands.specs.Numbers.{split_word, byte_number, narrow_number, wide_number, long_number, ◌>>=◌}
 use Rattle.role_commands.specs.Reading.{command_of}
 use Rattle.link_frames.specs.Packets.{PacketValue, packet_due}
 use Rattle.link_frames.specs.declared.kind.Kind.{Kind}
@@ -18,7 +18,7 @@ use Rattle.role_node.specs.declared.question.Question.TheVariants.{Check, Assign
 use Rattle.role_node.specs.declared.question.Question.TheVariants.{RolePermissions, UserPermissions, RoleOperations}
 use Rattle.role_node.specs.declared.question.Question.TheVariants.{UserOperations, SessionRoles, SessionPermissions}
 use Rattle.byz_world.specs.declared.step.Step.TheVariants.{Issue, Give, Lie, Bytes, Client}
-use Rattle.role_lab.specs.Reads.{◌>>=◌, by_its_name}
+use Rattle.role_lab.specs.Reads.{by_its_name}
 use Rattle.role_lab.specs.Grammar.{sizes_of_numbers}
 use Rattle.role_lab.specs.declared.orders.Setup.{Setup}
 use Rattle.role_lab.specs.declared.orders.Setup.TheVariants.{Owned, Liar}

@@ -1,11 +1,6 @@
--- Reading one thing after another, and reading by a name.
-use Rattle.std.specs.Prelude.{ℕ, if◌then◌else◌, List, [], ◌∷◌, Option, None, option_and_then}
+-- Reading by a name.
+use Rattle.std.specs.Prelude.{ℕ, if◌then◌else◌, List, [], ◌∷◌, Option, None}
 use Rattle.std.specs.Str.{bytes_eq}
-
--- where one thing is none, nothing follows
-infixl 10 ◌>>=◌
-abbrev pub ◌>>=◌ : {A B : Type 0} → Option A → (A → Option B) → Option B
-read >>= next = option_and_then next read
 
 -- what stands behind a name is read as the table says that has the readers by their names
 abbrev pub by_its_name : {A : Type 0} → List (List ℕ × (List ℕ → Option A)) → List ℕ → List ℕ → Option A

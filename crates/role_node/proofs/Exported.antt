@@ -9,13 +9,15 @@
 --     those_members, pairs_members ..      the ascending lists of the numbers and of the pairs that pass a test
 pub use Rattle.role_node.proofs.ListedLemmas.{one_answer, one_under}
 pub use Rattle.role_node.proofs.HistoryLemmas.{issued-Issue, issued-Take, issued-Client, packets-Issue, packets-Take}
-pub use Rattle.role_node.proofs.HistoryLemmas.{packets-Client, client_events-Issue, client_events-Take, client_events-Client}
+pub use Rattle.role_node.proofs.HistoryLemmas.{packets-Client, client_events-Issue, client_events-Take}
+pub use Rattle.role_node.proofs.HistoryLemmas.{client_events-Client}
 pub use Rattle.role_node.proofs.HistoryLemmas.{issued-none, packets-none, client_events-none, client_events-length}
 pub use Rattle.role_node.proofs.StreamLemmas.{stream_other, stream_same, policy_same}
 pub use Rattle.role_node.proofs.KeptLemmas.{relations_are, legal_inside}
 pub use Rattle.role_node.proofs.EntryLemmas.{at_push, events-push, events-length, entries_push, no_entries}
 pub use Rattle.role_node.proofs.EntryLemmas.{legal, counted_is_due, counted_is_recorded, counted_with_room}
-pub use Rattle.role_node.proofs.LegalLemmas.{recorded_next, along_legal, recorded_with_room, legal_within, issued_within}
+pub use Rattle.role_node.proofs.LegalLemmas.{recorded_next, along_legal, recorded_with_room, legal_within}
+pub use Rattle.role_node.proofs.LegalLemmas.{issued_within}
 pub use Rattle.role_node.proofs.RefusalLemmas.{refused_is_due}
 pub use Rattle.role_node.proofs.AscendingLemmas.{those_members, those_sorted}
 pub use Rattle.role_node.proofs.PairLemmas.{pairs_members, permissions_sorted}

@@ -2,7 +2,7 @@ use Rattle.std.proofs.Common.{◌≡◌, ◌∙◌, ℕ, List, ◌∷◌, ap, �
 use Rattle.std.proofs.Common.{append_assoc, codes, get_or, string_bytes}
 use Rattle.std.specs.Fmt.{decimal}
 use Rattle.role_lab.specs.OrderTexts.{permissions_text}
-use Rattle.link_frames.specs.Lines.{space}
+use Rattle.role_commands.specs.Numbers.{space}
 use Rattle.link_frames.proofs.Exported.{written_more}
 use Rattle.role_lab.proofs.order_texts.permissions_text.Goals as goal
 

@@ -6,7 +6,8 @@ use Rattle.role_node.specs.Answers.{EntryValue, counted_reply}
 use Rattle.role_node.specs.inside.Entries.{IsOwn}
 use Rattle.role_node.specs.Histories.{packets}
 use Rattle.role_node.specs.declared.event.Event.TheVariants.{Take}
-use Rattle.role_node.proofs.StateLemmas.{after_take, stays_on_err, step_is_due, policy_grown, policy_stays, kept_with_room}
+use Rattle.role_node.proofs.StateLemmas.{after_take, stays_on_err, step_is_due}
+use Rattle.role_node.proofs.StateLemmas.{policy_grown, policy_stays, kept_with_room}
 use Rattle.role_node.proofs.CauseLemmas.{step_is_own}
 use Rattle.role_node.proofs.state.State.take.Goals as goal
 use Rattle.role_node.proofs.state.State.take.Goals.{then-step, else-step}
