@@ -19,8 +19,8 @@ use std::alloc::{AllocError, Global};
 use std::marker::Brand;
 use std::sync::Wait;
 use std::sync::ledger::{Blank, Ledger};
+use std::thread;
 use std::thread::Threads;
-use std::{mem, thread};
 
 /// The most calls of a pool.
 pub const MOST_CALLS: usize = 65_536;
@@ -275,13 +275,8 @@ fn collect_seats<L: Ledger>(
 fn store_receipts(slots: &mut [ReceiptSlot], mut receipts: Vec<NumberedReceipt>) {
     while let Some(one) = receipts.pop() {
         let NumberedReceipt { number, receipt } = one;
-        let index = number as usize;
-        if index < slots.len() {
-            let slot = &mut slots[index];
-            *slot = match mem::replace(slot, ReceiptSlot::Repeated) {
-                ReceiptSlot::Vacant => ReceiptSlot::Filled(receipt),
-                _ => ReceiptSlot::Repeated,
-            };
+        if let Some(slot) = slots.get_mut(number as usize) {
+            slot.fill(receipt);
         }
     }
 }

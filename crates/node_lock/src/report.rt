@@ -2,7 +2,6 @@
 
 ghost use Rattle.std.specs.Prelude.{◌≡◌, ◌<◌, ◌≤◌, map, length, IfOk, OnOk, vec_len};
 ghost use Rattle.node_lock.specs.Audits.{AreTrue};
-ghost use Rattle.node_lock.specs.PoolTexts.{cause_of};
 ghost use Rattle.node_lock.specs.Pools.{most_calls, call_of, recorded_by, recorded_counts, IsReport};
 
 use crate::audits::{AuditFault, audit};
@@ -34,6 +33,16 @@ pub enum ReceiptSlot {
     Repeated,
 }
 
+impl ReceiptSlot {
+    /// Fills the slot, or marks it where a receipt came before.
+    pub(crate) fn fill(&mut self, receipt: Receipt) {
+        *self = match self {
+            ReceiptSlot::Vacant => ReceiptSlot::Filled(receipt),
+            _ => ReceiptSlot::Repeated,
+        };
+    }
+}
+
 /// Why a pool's worker failed, or a call has no receipt.
 #[derive(Clone, Copy, Debug, PartialEq, Eq)]
 pub enum Cause {
@@ -47,11 +56,13 @@ pub enum Cause {
     Memory,
 }
 
-impl Cause {
-    /// The cause of a hold that failed.
-    pub(crate) fn of_step(fault: StepFault) -> Cause
-        ensures { result ≡ cause_of fault }
-    {
+impl From<StepFault> for Cause {
+    ghost use Rattle.std.specs.Prelude.{◌≡◌};
+    ghost use Rattle.node_lock.specs.PoolTexts.{cause_of};
+
+    ghost from_gives = { λ fault cause. cause ≡ cause_of fault };
+
+    fn from(fault: StepFault) -> Self {
         match fault {
             StepFault::Behind { seen, found } => Cause::Behind { seen, found },
             StepFault::Strange { recorded, found } => Cause::Strange { recorded, found },

@@ -49,39 +49,41 @@ pub(crate) fn work<L: Ledger, G: Gate, R: Wait>(
 {
     let WorkerSeat { mut seat, mut pass } = worker_seat;
     let mut receipts = Vec::new(alloc);
+    let mut cause = None;
     for _ in 0..INBOX_CAPACITY {
         let Some(job) = inbox.take(rt, &mut pass) else {
             break;
         };
-        let worker = seat.number();
-        let number = job.number;
-        gate.enter(worker, number);
-        let receipt = match call_locked(rt, shared, &mut seat, job) {
-            Ok(receipt) => receipt,
-            Err(fault) => return failed_result(seat, receipts, Cause::of_step(fault)),
-        };
-        if receipts.push(NumberedReceipt { number, receipt }).is_err() {
-            return failed_result(seat, receipts, Cause::Memory);
+        if let Err(found) = do_job(rt, shared, gate, &mut seat, job, &mut receipts) {
+            cause = Some(found);
+            break;
         }
-        gate.leave(worker, number);
     }
     WorkerResult {
         seat,
         receipts,
-        cause: None,
+        cause,
     }
 }
 
-fn failed_result<L: Ledger>(
-    seat: Seat<L>,
-    receipts: Vec<NumberedReceipt>,
-    cause: Cause,
-) -> WorkerResult<L> {
-    WorkerResult {
-        seat,
-        receipts,
-        cause: Some(cause),
+/// Makes a job's call, and keeps its receipt.
+fn do_job<L: Ledger, G: Gate, R: Wait>(
+    rt: &R,
+    shared: &SharedNode<L>,
+    gate: &G,
+    seat: &mut Seat<L>,
+    job: Job,
+    receipts: &mut Vec<NumberedReceipt>,
+) -> Result<(), Cause> {
+    let worker = seat.number();
+    let number = job.number;
+    gate.enter(worker, number);
+    let receipt = call_locked(rt, shared, seat, job)?;
+    if receipts.push(NumberedReceipt { number, receipt }).is_err() {
+        return Err(Cause::Memory);
     }
+    gate.leave(worker, number);
+    Ok(())
 }
 
 /// The job's call under one hold of the lock.
