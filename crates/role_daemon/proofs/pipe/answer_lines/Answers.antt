@@ -46,7 +46,8 @@ returns-in_err-answer_next-clause-quiet g c = λ other.
     let (ran, reads, writes) = c.loop-number.invariant in
     let p = err_from_is_err_and c.from_residual-in_err-answer_next.result
     c.from_residual-in_err-answer_next.ensures.1 in (
-      WentOn-trans reads (c.in_err-answer_next.ensures.quiet (λ q. other (p.1 ∙ ap Err (p.2 ∙ ap (fault_or Device) q)))),
+      WentOn-trans reads
+          (c.in_err-answer_next.ensures.quiet (λ q. other (p.1 ∙ ap Err (p.2 ∙ ap (fault_or Device) q)))),
       WentOn-trans writes c.in_ok-write_when_due.ensures.quiet,
     )
 
