@@ -9,7 +9,8 @@ use Rattle.serde_json.specs.Read.{read}
 use Rattle.quorum_sizes.specs.Sizes.{Counts}
 use Rattle.client_lines.specs.Json.{json_of}
 use Rattle.client_lines.specs.Members.{member_of}
-use Rattle.client_lines.specs.Requests.{most_line_bytes, request_due, request_if_json, request_if_named, request_of_value}
+use Rattle.client_lines.specs.Requests.{most_line_bytes, request_due, request_if_json, request_if_named}
+use Rattle.client_lines.specs.Requests.{request_of_value}
 use Rattle.client_lines.specs.declared.fault.LineFault.TheVariants.{NotJson}
 use Rattle.client_lines.specs.declared.member.Member.TheVariants.{Op}
 

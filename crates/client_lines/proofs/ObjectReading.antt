@@ -38,7 +38,8 @@ pub member_read : (p : Parse json.Json) (old : Members) (n : ℕ) (k : List ℕ)
     ≡ converted (λ ms. of_members ms (put k d old)) (members p (n - 1) r)
 member_read p old n k ts s r d some key e =
     let j = converted_some of_json (p s) d r e in
-    ap (converted (λ ms. of_members ms old)) (members_more p n k ts s r j.0 some key j.1) ∙ with_member k j.0 d old j.2 _
+    ap (converted (λ ms. of_members ms old)) (members_more p n k ts s r j.0 some key j.1)
+    ∙ with_member k j.0 d old j.2 _
 
 -- the object ends
 pub members_over : (p : Parse json.Json) (old : Members) (n : ℕ) (ts r : List Token) → length ts ≤ n
@@ -67,7 +68,8 @@ pub object_read : (all ts r : List Token) (ms : Members) → all ≡ Token.begin
     → converted (λ read. of_members read no_members) (members (value 126) (length ts) ts) ≡ Some (ms, r)
     → converted of_json (value 127 all) ≡ Some (object ms, r)
 object_read all ts r ms is e =
-    ap (converted of_json) (ap (value 127) is ∙ value-begin_object 127 ts (omega arith)) ∙ converted-object (members (value 126) (length ts) ts)
+    ap (converted of_json) (ap (value 127) is ∙ value-begin_object 127 ts (omega arith))
+    ∙ converted-object (members (value 126) (length ts) ts)
     ∙ ap (parse_map object) e
 
 abbrev whole : Option (json.Json × List Token) → Option Data

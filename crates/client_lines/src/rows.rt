@@ -178,7 +178,8 @@ fn user_operations_of(line: &Line<'_>) -> Result<Request, LineFault>
 
 #[tactic(auto, unfolding(crate::specs::Requests::request_of))]
 fn session_permissions_of(line: &Line<'_>) -> Result<Request, LineFault>
-    ensures value { (s : Counts) (d : Data) → Says line.now d → result ≡ lines.request_of s operation.SessionPermissions d }
+    ensures value { (s : Counts) (d : Data) → Says line.now d
+        → result ≡ lines.request_of s operation.SessionPermissions d }
     ensures nodes { IfOk result (λ request. (s : Counts) → lines.NamesNodes s request) }
 {
     let session = session_of(line)?;
@@ -224,7 +225,8 @@ fn assigned_roles_of(line: &Line<'_>) -> Result<Request, LineFault>
 
 #[tactic(auto, unfolding(crate::specs::Requests::request_of))]
 fn role_permissions_of(line: &Line<'_>) -> Result<Request, LineFault>
-    ensures value { (s : Counts) (d : Data) → Says line.now d → result ≡ lines.request_of s operation.RolePermissions d }
+    ensures value { (s : Counts) (d : Data) → Says line.now d
+        → result ≡ lines.request_of s operation.RolePermissions d }
     ensures nodes { IfOk result (λ request. (s : Counts) → lines.NamesNodes s request) }
 {
     let role = role_of(line)?;
@@ -233,7 +235,8 @@ fn role_permissions_of(line: &Line<'_>) -> Result<Request, LineFault>
 
 #[tactic(auto, unfolding(crate::specs::Requests::request_of))]
 fn user_permissions_of(line: &Line<'_>) -> Result<Request, LineFault>
-    ensures value { (s : Counts) (d : Data) → Says line.now d → result ≡ lines.request_of s operation.UserPermissions d }
+    ensures value { (s : Counts) (d : Data) → Says line.now d
+        → result ≡ lines.request_of s operation.UserPermissions d }
     ensures nodes { IfOk result (λ request. (s : Counts) → lines.NamesNodes s request) }
 {
     let user = user_of(line)?;

@@ -1,7 +1,9 @@
 -- The exit status of the program at each fault.
-use Rattle.std.specs.Prelude.{ℕ}
+use Rattle.std.specs.Prelude.{ℕ, Bool, true, false}
 use Rattle.role_daemon.specs.declared.fault.ClusterFault.{ClusterFault}
 use Rattle.role_daemon.specs.declared.fault.ClusterFault.TheVariants as cluster
+use Rattle.role_daemon.specs.declared.fault.DaemonFault.{DaemonFault}
+use Rattle.role_daemon.specs.declared.fault.DaemonFault.TheVariants as daemon
 use Rattle.role_daemon.specs.declared.fault.FileFault.{FileFault}
 use Rattle.role_daemon.specs.declared.fault.FileFault.TheVariants as file
 use Rattle.role_daemon.specs.declared.fault.PipeFault.{PipeFault}
@@ -37,3 +39,21 @@ pipe_status pipe.Memory = 5
 abbrev pub serve_status : ServeFault → ℕ
 serve_status serve.Device = 4
 serve_status serve.Memory = 5
+
+abbrev pub daemon_status : DaemonFault → ℕ
+daemon_status (daemon.Words fault) = words_status fault
+daemon_status (daemon.File fault) = file_status fault
+daemon_status (daemon.Pipe fault) = pipe_status fault
+daemon_status (daemon.Serve fault) = serve_status fault
+
+-- it is about what the program was given: its words, or a cluster text or its file
+abbrev pub is_said : DaemonFault → Bool
+is_said (daemon.Words words.Refused) = true
+is_said (daemon.Words words.Memory) = false
+is_said (daemon.File file.Unread) = true
+is_said (daemon.File (file.Cluster fault)) = true
+is_said (daemon.File file.Memory) = false
+is_said (daemon.Pipe (pipe.Cluster fault)) = true
+is_said (daemon.Pipe pipe.Device) = false
+is_said (daemon.Pipe pipe.Memory) = false
+is_said (daemon.Serve fault) = false

@@ -2,6 +2,7 @@
 
 ghost use Rattle.std.specs.Prelude.{◌≡◌};
 ghost use Rattle.role_daemon.specs.Statuses.{words_status, cluster_status, file_status, pipe_status, serve_status};
+ghost use Rattle.role_daemon.specs.Statuses.{daemon_status, is_said};
 
 use client_lines::Member;
 use link_frames::{AheadFault, DeviceFault};
@@ -243,5 +244,51 @@ impl From<AllocError> for ServeFault {
 
     fn from(_e: AllocError) -> Self {
         ServeFault::Memory
+    }
+}
+
+/// Why the program ends with another status than 0.
+#[derive(Debug, Drop, Error)]
+pub enum DaemonFault {
+    /// The words are not taken.
+    #[error(transparent)]
+    Words(WordsFault),
+    /// The cluster file sets up no node.
+    #[error(transparent)]
+    File(FileFault),
+    /// The pipe ended before its end.
+    #[error(transparent)]
+    Pipe(PipeFault),
+    /// The node does not serve, or serves no longer.
+    #[error(transparent)]
+    Serve(ServeFault),
+}
+
+impl DaemonFault {
+    /// The exit status of the program.
+    pub fn status(&self) -> u8
+        ensures { result ≡ daemon_status self.now }
+    {
+        match self {
+            DaemonFault::Words(fault) => fault.status(),
+            DaemonFault::File(fault) => fault.status(),
+            DaemonFault::Pipe(fault) => fault.status(),
+            DaemonFault::Serve(fault) => fault.status(),
+        }
+    }
+
+    /// Whether it is about what the program was given: its words, or a cluster text or its file.
+    pub fn is_said(&self) -> bool
+        ensures { result ≡ is_said self.now }
+    {
+        match self {
+            DaemonFault::Words(WordsFault::Refused)
+            | DaemonFault::File(FileFault::Unread | FileFault::Cluster(_))
+            | DaemonFault::Pipe(PipeFault::Cluster(_)) => true,
+            DaemonFault::Words(WordsFault::Memory)
+            | DaemonFault::File(FileFault::Memory)
+            | DaemonFault::Pipe(PipeFault::Device | PipeFault::Memory)
+            | DaemonFault::Serve(_) => false,
+        }
     }
 }

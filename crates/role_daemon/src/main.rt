@@ -20,7 +20,7 @@ pub mod words;
 
 use cluster::Setup;
 use cluster_file::read_setup;
-use fault::{FileFault, PipeFault, ServeFault, WordsFault};
+use fault::{DaemonFault, FileFault, WordsFault};
 use link_frames::Watched;
 use pipe::run_pipe;
 use serve::serve;
@@ -32,23 +32,31 @@ use words::{Words, read_words};
 
 fn main(rt: HostRuntime) -> ExitCode {
     let outcome = match words_given(&rt) {
-        Ok(words) => read_words(rt.alloc(), words),
-        Err(fault) => Err(fault),
-    };
-    match outcome {
         Ok(Words::Pipe) => run(&rt),
         Ok(Words::Serve { file }) => match setup_of(&rt, &file) {
-            Ok(setup) => status_of(&serve(&rt, rt.alloc(), setup)),
-            Err(fault) => refuse_file(&rt, &fault),
+            Ok(setup) => serve(&rt, rt.alloc(), setup).map_err(DaemonFault::Serve),
+            Err(fault) => Err(DaemonFault::File(fault)),
         },
-        Err(fault) => refuse(&rt, &fault),
+        Err(fault) => Err(DaemonFault::Words(fault)),
+    };
+    match outcome {
+        Ok(()) => ExitCode::SUCCESS,
+        Err(fault) => report(&rt, &fault),
     }
 }
 
-/// The words after the program's name.
-fn words_given(rt: &HostRuntime) -> Result<Vec<String>, WordsFault> {
+/// The status with which the program ends at a fault, which is said where it is about what the program was given.
+fn report(rt: &HostRuntime, fault: &DaemonFault) -> ExitCode {
+    if fault.is_said() {
+        let _ = eprintln!(rt; "role_daemon: {fault}");
+    }
+    ExitCode::from(fault.status())
+}
+
+/// What the words after the program's name ask for.
+fn words_given(rt: &HostRuntime) -> Result<Words, WordsFault> {
     match env::args(rt) {
-        Ok(words) => Ok(words.skip(1).collect(rt.alloc())?),
+        Ok(words) => read_words(rt.alloc(), words.skip(1).collect(rt.alloc())?),
         Err(error) => {
             if error.kind() == ErrorKind::OutOfMemory {
                 Err(WordsFault::Memory)
@@ -59,43 +67,11 @@ fn words_given(rt: &HostRuntime) -> Result<Vec<String>, WordsFault> {
     }
 }
 
-/// Ends without a node.
-fn refuse(rt: &HostRuntime, fault: &WordsFault) -> ExitCode {
-    if matches!(fault, WordsFault::Refused) {
-        let _ = eprintln!(rt; "role_daemon: {fault}");
-    }
-    ExitCode::from(fault.status())
-}
-
 /// Runs the pipe from standard input to standard output.
-fn run(rt: &HostRuntime) -> ExitCode {
+fn run(rt: &HostRuntime) -> Result<(), DaemonFault> {
     let mut reader = Watched::new(rt.reader());
     let mut writer = Watched::new(io::writer(rt));
-    match run_pipe(rt.alloc(), &mut reader, &mut writer) {
-        Ok(()) => ExitCode::SUCCESS,
-        Err(fault) => {
-            if matches!(&fault, PipeFault::Cluster(_)) {
-                let _ = eprintln!(rt; "role_daemon: {fault}");
-            }
-            ExitCode::from(fault.status())
-        }
-    }
-}
-
-/// The status with which a node ends that was served.
-fn status_of(outcome: &Result<(), ServeFault>) -> ExitCode {
-    match outcome {
-        Ok(()) => ExitCode::SUCCESS,
-        Err(fault) => ExitCode::from(fault.status()),
-    }
-}
-
-/// Ends without a setup.
-fn refuse_file(rt: &HostRuntime, fault: &FileFault) -> ExitCode {
-    if !matches!(fault, FileFault::Memory) {
-        let _ = eprintln!(rt; "role_daemon: {fault}");
-    }
-    ExitCode::from(fault.status())
+    run_pipe(rt.alloc(), &mut reader, &mut writer).map_err(DaemonFault::Pipe)
 }
 
 /// The setup of a cluster file.

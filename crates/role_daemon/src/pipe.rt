@@ -16,7 +16,7 @@ mod requests;
 use crate::cluster::{MOST_TEXT_BYTES, Mode, read_cluster};
 use crate::fault::{ClusterFault, PipeFault};
 use crate::held::Held;
-use client_lines::{ClientAnswer, LineFault, MOST_LINE_BYTES, Request, read_request};
+use client_lines::{ClientAnswer, LineFault, MOST_LINE_BYTES, Request, RequestReader};
 use link_frames::{Ahead, Next, Watched};
 use requests::answer;
 use role_node::Node;
@@ -112,10 +112,11 @@ fn answer_lines<R: Read, W: Write>(
     ensures quiet { result ≢ Err PipeFault.Device → WentOn (watched_tally reader.old) (watched_tally reader.new)
         × WentOn (watched_tally writer.old) (watched_tally writer.new) }
 {
+    let mut requests = RequestReader::new(alloc);
     let mut held = Held::new(alloc);
     for number in 1..u64::MAX {
         held.write_when_due(ahead, writer)?;
-        if !answer_next(alloc, node, ahead, &mut held, reader)? {
+        if !answer_next(&mut requests, node, ahead, &mut held, reader)? {
             return finish(&mut held, writer, Ok(()));
         }
     }
@@ -125,7 +126,7 @@ fn answer_lines<R: Read, W: Write>(
 /// Answers what comes next. Whether another line may come behind it. Nothing may be held back that is due, since the
 /// reader may wait here.
 fn answer_next<R: Read>(
-    alloc: Global,
+    requests: &mut RequestReader,
     node: &mut Node,
     ahead: &mut Ahead,
     held: &mut Held,
@@ -143,12 +144,12 @@ fn answer_next<R: Read>(
     match ahead.peek(reader, MOST_LINE_BYTES)? {
         Next::End => Ok(false),
         Next::Line(count) => {
-            let stopped = answer_line(alloc, node, held, &ahead.front()[..count])?;
+            let stopped = answer_line(requests, node, held, &ahead.front()[..count])?;
             ahead.take(count + 1);
             Ok(!stopped)
         }
         Next::Last(_) => {
-            let _stopped = answer_line(alloc, node, held, ahead.front())?;
+            let _stopped = answer_line(requests, node, held, ahead.front())?;
             Ok(false)
         }
         Next::TooLong => {
@@ -162,7 +163,7 @@ fn answer_next<R: Read>(
 /// Answers a line, and holds the answer behind the others. Whether the line stops the node.
 #[tactic(auto, unfolding(crate::specs::Pipes::stops, crate::specs::Pipes::line_text, crate::specs::Pipes::after_line))]
 fn answer_line(
-    alloc: Global,
+    requests: &mut RequestReader,
     node: &mut Node,
     held: &mut Held,
     line: &[u8],
@@ -172,7 +173,7 @@ fn answer_line(
     ensures after { OnOk result (node.new ≡ after_line node.old line.now) }
 {
     let sizes = node.config().roles().sizes();
-    match read_request(alloc, &sizes, line) {
+    match requests.read(&sizes, line) {
         Ok(request) => {
             let answer = answer(node, request)?;
             held.push_line(&answer)?;

@@ -52,7 +52,7 @@ fn parsed<'a>(alloc: Global, words: &'a [&'a str]) -> Result<Option<&'a str>, Er
 }
 
 /// The words behind the program's name.
-fn with_name(alloc: Global, words: &Vec<String>) -> Result<Vec<&str>, AllocError> {
+fn with_name(alloc: Global, words: &[String]) -> Result<Vec<&str>, AllocError> {
     let mut all = Vec::new(alloc);
     all.push("role_daemon")?;
     for word in words {

@@ -9,7 +9,7 @@ use crate::serve::caller::{Caller, MOST_LINES};
 use crate::serve::connection::{Answers, Connection};
 use crate::serve::job_queue::JobQueue;
 use crate::serve::shared::{Room, Shared, is_past, put_own};
-use client_lines::{ClientAnswer, LineFault, MOST_LINE_BYTES, Request, read_request};
+use client_lines::{ClientAnswer, LineFault, MOST_LINE_BYTES, Request, RequestReader};
 use link_frames::{Ahead, Kind, Message, Next, Place, Watched};
 use node_lock::{Call, Job, View};
 use quorum_sizes::NodeName;
@@ -27,11 +27,11 @@ const LAST_LOOK: u64 = 2_000;
 /// The milliseconds before a job is put again that the inbox did not take.
 const NEXT_PUT: u64 = 1;
 
-/// What a client's line leaves to be done.
+/// What is to be done after a client's line.
 #[derive(Clone, Copy, Debug, PartialEq, Eq)]
-enum Then {
-    GoOn,
-    Stop,
+enum AfterLine {
+    Continue,
+    StopNode,
     Close,
 }
 
@@ -48,6 +48,7 @@ struct Client<'a, 'b, L: Ledger> {
     /// How many of them the answers of which are still to come.
     in_flight: u32,
     answers: Vec<Answers>,
+    requests: RequestReader,
     held: Held,
 }
 
@@ -74,6 +75,7 @@ pub fn answer_client<L: Ledger, R: Wait + Clock>(
         put: 0,
         in_flight: 0,
         answers: Vec::new(alloc),
+        requests: RequestReader::new(alloc),
         held: Held::new(alloc),
     };
     if client.answer_lines(rt, stream) {
@@ -90,7 +92,7 @@ impl<L: Ledger> Client<'_, '_, L> {
         let mut ahead = Ahead::new(self.alloc);
         for _ in rt.forever() {
             let next = self.answer_next(rt, &mut ahead, &mut reader, &mut writer);
-            if matches!(next, Ok(Then::GoOn)) {
+            if matches!(next, Ok(AfterLine::Continue)) {
                 continue;
             }
             if !matches!(next, Err(PipeFault::Device)) {
@@ -98,7 +100,7 @@ impl<L: Ledger> Client<'_, '_, L> {
                 let _ = self.held.write_all(&mut writer);
             }
             return match next {
-                Ok(then) => then == Then::Stop,
+                Ok(then) => then == AfterLine::StopNode,
                 Err(_) => self.leaves_a_stop(rt, stream, &mut ahead, &mut reader),
             };
         }
@@ -107,7 +109,7 @@ impl<L: Ledger> Client<'_, '_, L> {
 
     /// Whether one of the lines that came and are not answered any more stops the node.
     fn leaves_a_stop<R: Wait + Clock>(
-        &self,
+        &mut self,
         rt: &R,
         stream: &TcpStream,
         ahead: &mut Ahead,
@@ -135,9 +137,9 @@ impl<L: Ledger> Client<'_, '_, L> {
         unreachable!()
     }
 
-    fn is_stop(&self, line: &[u8]) -> bool {
+    fn is_stop(&mut self, line: &[u8]) -> bool {
         let sizes = self.shared.links.sizes();
-        matches!(read_request(self.alloc, &sizes, line), Ok(Request::Stop))
+        matches!(self.requests.read(&sizes, line), Ok(Request::Stop))
     }
 
     /// Answers what comes next. All that is due is written before the program waits for it.
@@ -147,7 +149,7 @@ impl<L: Ledger> Client<'_, '_, L> {
         ahead: &mut Ahead,
         reader: &mut Watched<&TcpStream>,
         writer: &mut Watched<&TcpStream>,
-    ) -> Result<Then, PipeFault> {
+    ) -> Result<AfterLine, PipeFault> {
         let next = match ahead.begins(MOST_LINE_BYTES) {
             Some(Next::Line(count)) if self.in_flight < MOST_LINES => Next::Line(count),
             _ => {
@@ -157,69 +159,81 @@ impl<L: Ledger> Client<'_, '_, L> {
             }
         };
         match next {
-            Next::End => Ok(Then::Close),
+            Next::End => Ok(AfterLine::Close),
             Next::Line(count) => {
                 let then = self.answer_line(rt, &ahead.front()[..count])?;
                 ahead.take(count + 1);
                 Ok(then)
             }
             Next::Last(_) => match self.answer_line(rt, ahead.front())? {
-                Then::GoOn => Ok(Then::Close),
+                AfterLine::Continue => Ok(AfterLine::Close),
                 last => Ok(last),
             },
             Next::TooLong => {
                 let had_end = ahead.pass_line(reader)?;
                 self.say(rt, &ClientAnswer::BadLine(LineFault::NotJson))?;
                 if had_end {
-                    Ok(Then::GoOn)
+                    Ok(AfterLine::Continue)
                 } else {
-                    Ok(Then::Close)
+                    Ok(AfterLine::Close)
                 }
             }
         }
     }
 
     /// Answers a line, or puts a job for it.
-    fn answer_line<R: Wait + Clock>(&mut self, rt: &R, line: &[u8]) -> Result<Then, PipeFault> {
+    fn answer_line<R: Wait + Clock>(
+        &mut self,
+        rt: &R,
+        line: &[u8],
+    ) -> Result<AfterLine, PipeFault> {
         let sizes = self.shared.links.sizes();
-        match read_request(self.alloc, &sizes, line) {
+        match self.requests.read(&sizes, line) {
             Ok(request) => self.answer(rt, request),
             Err(LineFault::Memory) => Err(PipeFault::Memory),
             Err(fault) => self.say(rt, &ClientAnswer::BadLine(fault)),
         }
     }
 
-    fn answer<R: Wait + Clock>(&mut self, rt: &R, request: Request) -> Result<Then, PipeFault> {
+    fn answer<R: Wait + Clock>(
+        &mut self,
+        rt: &R,
+        request: Request,
+    ) -> Result<AfterLine, PipeFault> {
         match request {
             Request::Issue(command) => self.call(rt, Call::Step(Event::Issue(command))),
             Request::Client(act) => self.call(rt, Call::Step(Event::Client(act))),
             Request::Ask(question) => self.call(rt, Call::Ask(question)),
             Request::Reach(owner) => {
-                let view = self.look(rt, owner, 0)?;
+                let view = self.view(rt, owner, 0)?;
                 self.say(rt, &ClientAnswer::Reach(view.reach))
             }
             Request::Again { owner, place } => {
-                let sent = self.look(rt, owner, place)?.again;
+                let sent = self.view(rt, owner, place)?.again;
                 self.send_again(rt, owner, place, &sent)?;
                 self.say(rt, &ClientAnswer::Again(sent_count(&sent)))
             }
             Request::Stop => {
                 let _ = self.say(rt, &ClientAnswer::Stopped);
-                Ok(Then::Stop)
+                Ok(AfterLine::StopNode)
             }
         }
     }
 
     /// Holds an answer, behind those of the lines before.
-    fn say<R: Wait + Clock>(&mut self, rt: &R, answer: &ClientAnswer) -> Result<Then, PipeFault>
+    fn say<R: Wait + Clock>(
+        &mut self,
+        rt: &R,
+        answer: &ClientAnswer,
+    ) -> Result<AfterLine, PipeFault>
         requires { IsWritten answer.now }
     {
         self.settle(rt)?;
         self.held.push_line(answer)?;
-        Ok(Then::GoOn)
+        Ok(AfterLine::Continue)
     }
 
-    fn call<R: Wait + Clock>(&mut self, rt: &R, call: Call) -> Result<Then, PipeFault> {
+    fn call<R: Wait + Clock>(&mut self, rt: &R, call: Call) -> Result<AfterLine, PipeFault> {
         let caller = Caller::Client {
             slot: self.slot,
             line: self.in_flight,
@@ -229,12 +243,12 @@ impl<L: Ledger> Client<'_, '_, L> {
     }
 
     /// Puts a job, again until the inbox takes it.
-    fn put_job<R: Wait + Clock>(&mut self, rt: &R, job: &Job) -> Result<Then, PipeFault> {
+    fn put_job<R: Wait + Clock>(&mut self, rt: &R, job: &Job) -> Result<AfterLine, PipeFault> {
         for _ in rt.forever() {
             if self.queue.put(rt, *job).is_ok() {
                 self.put = self.put.saturating_add(1);
                 self.in_flight = self.in_flight.saturating_add(1);
-                return Ok(Then::GoOn);
+                return Ok(AfterLine::Continue);
             }
             self.shared.ring(rt);
             if self.shared.life.has_ended(rt) {
@@ -285,14 +299,14 @@ impl<L: Ledger> Client<'_, '_, L> {
     }
 
     /// Looks at a place of the owner's stream, after the lines before were answered.
-    fn look<R: Wait + Clock>(
+    fn view<R: Wait + Clock>(
         &mut self,
         rt: &R,
         owner: NodeName,
         place: Place,
     ) -> Result<View, PipeFault> {
         self.settle(rt)?;
-        self.shared.look(rt, owner, place).ok_or(PipeFault::Memory)
+        self.shared.view(rt, owner, place).ok_or(PipeFault::Memory)
     }
 
     /// Sends to all once more what was sent at a place.

@@ -162,7 +162,7 @@ impl<L: Ledger> Shared<'_, L> {
     }
 
     /// Looks at a place of the owner's stream; `None` where the seat does not fit the node.
-    pub fn look<R: Wait>(&self, rt: &R, owner: NodeName, place: Place) -> Option<View> {
+    pub fn view<R: Wait>(&self, rt: &R, owner: NodeName, place: Place) -> Option<View> {
         let mut seat = self.view_seat.lock(rt);
         let mut locked = self.node.node.lock(rt);
         if !locked.has(owner) {

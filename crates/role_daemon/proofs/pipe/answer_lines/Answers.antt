@@ -1,9 +1,14 @@
-use Rattle.std.proofs.Common.{arith, inl, inr, refl, None}
+use Rattle.std.proofs.Common.{◌∙◌, arith, ap, inl, inr, refl, None, Result, Ok, Err}
 use Rattle.std.proofs.lemmas.Result.{err_from_is_err_and}
 use Rattle.link_frames.proofs.Exported.{Ran-moved, WentOn-nothing, WentOn-trans, CallFailed-later, ReaderFailed-later}
+use Rattle.role_daemon.specs.declared.fault.PipeFault.TheVariants.{Device}
 use Rattle.role_daemon.proofs.RunLemmas.{Lines-start, Ran-more, Lines-front, Lines-kept, Lines-end}
 use Rattle.role_daemon.proofs.RunLemmas.{Lines-out, Lines-endless, LinesRan-fault, finish_device, not_device}
 use Rattle.role_daemon.proofs.pipe.answer_lines.Goals as goal
+
+abbrev fault_or : {T E : Type 0} → E → Result T E → E
+fault_or e (Ok x) = e
+fault_or e (Err f) = f
 
 pub loop-number-init : goal.loop-number-init
 loop-number-init g c = (Lines-start _ _ _ _ c.new-held.ensures, WentOn-nothing _, WentOn-nothing _)
@@ -35,6 +40,16 @@ returns-in_err-answer_next-clause-device g c =
     let p = err_from_is_err_and c.from_residual-in_err-answer_next.result
     c.from_residual-in_err-answer_next.ensures.1 in
     rw (p.1, p.2) (λ q. inl (ReaderFailed-later _ _ _ reads (c.in_err-answer_next.ensures.device q)))
+
+pub returns-in_err-answer_next-clause-quiet : goal.returns-in_err-answer_next-clause-quiet
+returns-in_err-answer_next-clause-quiet g c = λ other.
+    let (ran, reads, writes) = c.loop-number.invariant in
+    let p = err_from_is_err_and c.from_residual-in_err-answer_next.result
+    c.from_residual-in_err-answer_next.ensures.1 in (
+      WentOn-trans reads
+          (c.in_err-answer_next.ensures.quiet (λ q. other (p.1 ∙ ap Err (p.2 ∙ ap (fault_or Device) q)))),
+      WentOn-trans writes c.in_ok-write_when_due.ensures.quiet,
+    )
 
 pub returns-then-not-branch-clause-ran : goal.returns-then-not-branch-clause-ran
 returns-then-not-branch-clause-ran g c =
