@@ -41,9 +41,11 @@ space_text = word_text (codes " ") refl
 
 pub command_text : (c : Command) → IsCommand c → Ascii (spelling c)
 command_text (Assign u r) is =
-    word_text (codes "assign") refl then space_text then number u (omega arith) then space_text then number r (omega arith)
+    word_text (codes "assign") refl then space_text then number u (omega arith)
+    then space_text then number r (omega arith)
 command_text (Deassign u r) is =
-    word_text (codes "deassign") refl then space_text then number u (omega arith) then space_text then number r (omega arith)
+    word_text (codes "deassign") refl then space_text then number u (omega arith)
+    then space_text then number r (omega arith)
 command_text (Grant r p b) is =
     word_text (codes "grant") refl then space_text then number r (omega arith)
     then space_text then number p (omega arith) then space_text then number b (omega arith)

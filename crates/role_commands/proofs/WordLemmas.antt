@@ -50,7 +50,8 @@ command_of-front name numbers e = rw (split_word-word name numbers e) refl
 pub one_word-grouped : (name : List ℕ) (a : ℕ) → one_word name a ≡ name ++ (space ∷ decimal a)
 one_word-grouped name a = simp append_assoc
 
-pub two_words-grouped : (name : List ℕ) (a b : ℕ) → two_words name a b ≡ name ++ (space ∷ (decimal a ++ (space ∷ decimal b)))
+pub two_words-grouped : (name : List ℕ) (a b : ℕ) →
+    two_words name a b ≡ name ++ (space ∷ (decimal a ++ (space ∷ decimal b)))
 two_words-grouped name a b = simp append_assoc
 
 pub three_words-grouped : (name : List ℕ) (a b c : ℕ)
