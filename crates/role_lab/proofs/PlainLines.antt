@@ -6,7 +6,7 @@ use Rattle.std.specs.Str.{IsUtf8}
 use Rattle.quorum_sizes.specs.Sizes.{Counts, AreSizes, most_nodes}
 use Rattle.role_commands.specs.Words.{IsCommand}
 use Rattle.role_commands.specs.declared.command.Command.{Command}
-use Rattle.role_commands.proofs.Exported.{Ascii, word_text, number, ◌then◌, space, command_text}
+use Rattle.role_commands.proofs.Exported.{Ascii, word_text, number, ◌then◌, space_text, command_text}
 use Rattle.link_frames.specs.Packets.{PacketValue}
 use Rattle.link_frames.specs.declared.kind.Kind.{Kind}
 use Rattle.link_frames.specs.declared.kind.Kind.TheVariants.{Send, Echo, Ready}
@@ -40,16 +40,17 @@ use Rattle.role_lab.proofs.SpelledSetups.{cluster_of_line_spelled, setup_of_line
 
 said_text : (kind : Kind) (from : ℕ) (c : Command) → from < 2 ^ 32 → IsCommand c → Ascii (said_spelling kind from c)
 said_text Send from c small is = word_text (codes "send ") refl then command_text c is
-said_text Echo from c small is = word_text (codes "echo ") refl then number from (omega arith) then space
+said_text Echo from c small is = word_text (codes "echo ") refl then number from (omega arith) then space_text
     then command_text c is
-said_text Ready from c small is = word_text (codes "ready ") refl then number from (omega arith) then space
+said_text Ready from c small is = word_text (codes "ready ") refl then number from (omega arith) then space_text
     then command_text c is
 
 pub first_line-text : (line : List ℕ) (s : Counts) → sizes_of_line line ≡ Some s → IsUtf8 line
 first_line-text line s e =
     let spelled = sizes_of_line_spelled line s e in
     let ascii : Ascii (sizes_spelling s) =
-    word_text (codes "instance ") refl then number s.nodes (omega arith) then space then number s.liars (omega arith) in
+    word_text (codes "instance ") refl then number s.nodes (omega arith) then space_text
+    then number s.liars (omega arith) in
     subst IsUtf8 (sym spelled.0) (IsUtf8-from_ascii _ ascii.is)
 
 pub later_line-text : (s : Counts) (line : List ℕ) (t : Take) → AreSizes s → take_of_line s line ≡ Some t → IsUtf8 line
@@ -63,7 +64,7 @@ later_line-text s line t are e =
 module _ (node : ℕ) (small : node < 2 ^ 64) where
   at_node_text : (name text : List ℕ) → list_all (λ b. nat_lt b 128) name ≡ true → Ascii text →
       Ascii (at_node name node text)
-  at_node_text name text e ascii = word_text name e then space then number node small then space then ascii
+  at_node_text name text e ascii = word_text name e then space_text then number node small then space_text then ascii
 
   act_text : (act : ClientEvent) → IsAct act → Ascii (act_spelling node act)
   act_text (Open user) is = at_node_text (codes "open") _ refl (number user (omega arith))
@@ -80,7 +81,8 @@ module _ (node : ℕ) (small : node < 2 ^ 64) where
   question_text : (q : Question) → IsQuestion q → Ascii (question_spelling node q)
   question_text (Check session user operation object) is =
       at_node_text (codes "check") _ refl
-      (number session is.0 then space then three_text user operation object (omega arith) (omega arith) (omega arith))
+      (number session is.0 then space_text
+      then three_text user operation object (omega arith) (omega arith) (omega arith))
   question_text (AssignedUsers role) is = listing_text (codes "users ") _ refl (number role (omega arith))
   question_text (AssignedRoles user) is = listing_text (codes "roles ") _ refl (number user (omega arith))
   question_text (RolePermissions role) is = listing_text (codes "permissions ") _ refl (number role (omega arith))
@@ -99,9 +101,10 @@ kind_text Ready = word_text (codes "ready") refl
 
 packet_text : (s : Counts) (p : PacketValue) → s.nodes ≤ most_nodes → IsLie s p → Ascii (packet_spelling p)
 packet_text s p few is =
-    kind_text p.kind then space
+    kind_text p.kind then space_text
     then three_text p.from p.to p.owner (omega (arith, is.from)) (omega (arith, is.to)) (omega (arith, is.owner))
-    then space then number p.place (omega (arith, is.packet.1)) then space then command_text p.command is.packet.2
+    then space_text then number p.place (omega (arith, is.packet.1))
+    then space_text then command_text p.command is.packet.2
 
 step_text : (s : Counts) (step : Step) → s.nodes ≤ most_nodes → IsStep s step → Ascii (step_spelling step)
 step_text s (Issue node c) few is = at_node_text node (omega (arith, is.0)) (codes "issue") _ refl (command_text c is.1)
@@ -133,7 +136,7 @@ order_line_text s line order few is spells = subst Ascii (sym spells) (order_tex
 
 setup_text : (s : Counts) (setup : Setup) → s.nodes ≤ most_nodes → IsSetup s setup → Ascii (setup_spelling setup)
 setup_text s (Owned role owner) few is =
-    word_text (codes "role ") refl then number role (omega (arith, is.0)) then space
+    word_text (codes "role ") refl then number role (omega (arith, is.0)) then space_text
     then number owner (omega (arith, is.1))
 setup_text s (Liar node) few is = word_text (codes "liar ") refl then number node (omega (arith, is))
 
@@ -141,7 +144,8 @@ pub cluster_line-text : (line : List ℕ) (s : Counts) → cluster_of_line line 
 cluster_line-text line s e =
     let (line_is, are) = cluster_of_line_spelled line s e in
     let ascii : Ascii (cluster_spelling s) =
-    word_text (codes "cluster ") refl then number s.nodes (omega arith) then space then number s.liars (omega arith) in
+    word_text (codes "cluster ") refl then number s.nodes (omega arith) then space_text
+    then number s.liars (omega arith) in
     subst IsUtf8 (sym line_is) (IsUtf8-from_ascii _ ascii.is)
 
 pub setup_line-text : (s : Counts) (line : List ℕ) (setup : Setup) → AreSizes s → setup_of_line s line ≡ Some setup
