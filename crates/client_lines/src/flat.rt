@@ -12,7 +12,7 @@ use fast_float::Numeral;
 use json::{Reader, Scratch, Token};
 use std::alloc::AllocError;
 
-/// What a line says, if it is such an object; `None` says nothing of the line.
+/// What a line says, if it is such an object and begins with its brace; `None` says nothing of the line.
 ///
 /// # Errors
 ///
@@ -24,6 +24,9 @@ pub fn flat_line<'a>(
     ensures { IfOk result (λ found. IfSome found (λ line.
         (ms : Members) × (read text.now ≡ Some (object ms)) × Says line (object ms))) }
 {
+    if !text.as_bytes().starts_with(b"{") {
+        return Ok(None);
+    }
     let mut reader = Reader::new(text, scratch)?;
     let line = object_line(&mut reader);
     if reader.next().is_some() {
