@@ -152,22 +152,23 @@ fn answers(rt: HostRuntime) -> Result<(), Fail> {
     Ok(())
 }
 
+const ASSIGN: Request = Request::Issue(Command::Assign { user: 7, role: 2 });
+
 #[test]
 fn one_reader_reads_line_after_line(rt: HostRuntime) {
-    let assign = Request::Issue(Command::Assign { user: 7, role: 2 });
     let cases: [(&[u8], Result<Request, LineFault>); 11] = [
-        (b"{\"op\":\"assign\",\"user\":7,\"role\":2}", Ok(assign)),
+        (b"{\"op\":\"assign\",\"user\":7,\"role\":2}", Ok(ASSIGN)),
         (
             b"{\"op\":\"assign\",\"user\":7,\"role\":2",
             Err(LineFault::NotJson),
         ),
         (
             b"{\"op\":\"assign\",\"user\":8,\"role\":2,\"user\":7}",
-            Ok(assign),
+            Ok(ASSIGN),
         ),
         (
             b"{\"op\":\"assign\",\"user\":7,\"role\":2,\"place\":[]}",
-            Ok(assign),
+            Ok(ASSIGN),
         ),
         (
             b"{\"op\":\"assign\",\"user\":7,\"role\":[2]}",
@@ -183,7 +184,7 @@ fn one_reader_reads_line_after_line(rt: HostRuntime) {
         ),
         (
             b"{\"\\u006fp\":\"as\\u0073ign\",\"user\":7,\"role\":2}",
-            Ok(assign),
+            Ok(ASSIGN),
         ),
         (
             b"{\"op\":\"assign\",\"user\":7,\"role\":2}0",
