@@ -314,12 +314,12 @@ fn instance_in(ring: &[Option<Instance>], slot: usize) -> Option<&Instance>
 }
 
 /// Puts a record at the end, where there must be room for it. It takes no memory.
-fn push_record(records: &mut Vec<Record>, record: Record)
+fn push_record(records: &mut Vec<Record>, settled: Record)
     requires { vec_len records.old < vec_capacity records.old }
-    ensures items { records.new.items ≡ records.old.items ++ «record» ∷ [] }
+    ensures items { records.new.items ≡ records.old.items ++ settled ∷ [] }
     ensures capacity { vec_capacity records.old ≤ vec_capacity records.new }
 {
-    records.push_reserved(record);
+    records.push_reserved(settled);
 }
 
 /// Frees a slot.
