@@ -501,7 +501,7 @@ impl World {
         }
     }
 
-    /// As `sent`, where the packet before it was the last to be looked up by a few instructions.
+    /// As `sent`, and by a few instructions where the packet is the next after the one that was looked up last.
     #[inline(always)]
     fn seek(&mut self, number: u32) -> Option<Packet>
         ensures value { result ≡ slice_get (pool self.old.config self.old.run) number }
