@@ -51,7 +51,7 @@ filled_more {buffer} {have} c new k n rest h fits within read went = record {
 
 -- ---- the text that was read says what all that the reader had says
 
-nothing_left : (p : Option (List ℕ)) → IsAtEnd p → HasBytes p []
+pub nothing_left : (p : Option (List ℕ)) → IsAtEnd p → HasBytes p []
 nothing_left None end = tt
 nothing_left (Some ys) end = end
 

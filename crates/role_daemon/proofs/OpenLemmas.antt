@@ -15,7 +15,7 @@ use Rattle.link_frames.specs.declared.blocks.AheadFault.{AheadFault}
 use Rattle.link_frames.specs.declared.blocks.AheadFault.TheVariants as ahead
 use Rattle.link_frames.specs.declared.next.Next.TheVariants.{TooLong, Last}
 use Rattle.link_frames.proofs.Exported.{lines_of-nil, lines_of-line, lines_of-last, lines_of-begun}
-use Rattle.link_frames.proofs.Exported.{Consumes-front, HasBytes-done, WroteFront-nothing}
+use Rattle.link_frames.proofs.Exported.{Consumes-front, HasBytes-done, WroteFront-nothing, tail_of, tail_at_end}
 use Rattle.role_node.specs.Nodes.{NodeValue}
 use Rattle.role_daemon.specs.Setups.{setup_due, most_text_bytes}
 use Rattle.role_daemon.specs.Pipes.{answers_text, one_stops, node_of, opened_text, text_of_lines, pipe_text}
@@ -31,7 +31,7 @@ use Rattle.role_daemon.specs.declared.fault.ClusterFault.TheVariants.{NotJson}
 use Rattle.role_daemon.specs.declared.fault.PipeFault.{PipeFault}
 use Rattle.role_daemon.specs.declared.fault.PipeFault.TheVariants.{Cluster, Device, Memory}
 use Rattle.role_daemon.proofs.PipeLemmas.{answers_text-nil}
-use Rattle.role_daemon.proofs.RunLemmas.{HasBytes-kept, tail_of, tail_at_end}
+use Rattle.role_daemon.proofs.RunLemmas.{HasBytes-kept}
 
 setup_due-long : (line : List ℕ) → most_text_bytes < length line → setup_due Pipe line ≡ Err NotJson
 unfolding setup_due

@@ -1,9 +1,9 @@
 -- Client lines that were run so far, and how a run ends.
 use Rattle.std.proofs.Common.{◌≡◌, ℕ, ◌+◌, ◌-◌, ◌^◌, ◌≤◌, ◌⊎◌, inl, inr, Bool, true, false, not}
-use Rattle.std.proofs.Common.{List, [], ◌∷◌, ◌++◌, length, take, drop, Option, Some, None, Result, Ok}
+use Rattle.std.proofs.Common.{List, [], ◌∷◌, ◌++◌, take, drop, Option, Some, None, Result, Ok}
 use Rattle.std.proofs.Common.{Err, IfErr, refl, sym, ap, ◌∙◌, subst, arith, append_assoc, append-nil}
 use Rattle.std.specs.Prelude.{is_some}
-use Rattle.std.proofs.KnownBytes.{Consumes-trans, Consumes-kept, Consumes-nil, Appends-trans, Appends-nil}
+use Rattle.std.proofs.KnownBytes.{Consumes-trans, Consumes-kept, Consumes-nil, Appends-trans, prepend_known-nil}
 use Rattle.std.specs.Io.KnownBytes.{Consumes, Appends, Keeps, IsAtEnd, prepend_known}
 use Rattle.link_frames.specs.Watching.{Tally}
 use Rattle.link_frames.specs.Devices.{WentOn, CallFailed, AppendsFront}
@@ -11,9 +11,9 @@ use Rattle.link_frames.specs.Lines.{line_end, lines_of, ended}
 use Rattle.link_frames.specs.LinePrograms.{text_by, HasBytes, WroteFront}
 use Rattle.link_frames.specs.Nexts.{Begins, EndsAt, PassedLine}
 use Rattle.link_frames.specs.declared.next.Next.TheVariants.{TooLong, Last}
-use Rattle.link_frames.proofs.Exported.{lines_of-nil, lines_of-line, lines_of-last, Consumes-front}
-use Rattle.link_frames.proofs.Exported.{Ran, Ran-taken, Ran-front, HasBytes-done, CallFailed-later}
-use Rattle.link_frames.proofs.Exported.{AppendsFront-nothing, AppendsFront-whole}
+use Rattle.link_frames.proofs.Exported.{lines_of-line, lines_of-last, Consumes-front}
+use Rattle.link_frames.proofs.Exported.{Ran, Ran-start, Ran-taken, Ran-front, Ran-number, CallFailed-later}
+use Rattle.link_frames.proofs.Exported.{HasBytes-done, tail_of, tail_at_end, AppendsFront-nothing, AppendsFront-whole}
 use Rattle.role_node.specs.Nodes.{NodeValue}
 use Rattle.client_lines.specs.AnswerTexts.{answer_text}
 use Rattle.client_lines.specs.Requests.{most_line_bytes}
@@ -23,29 +23,14 @@ use Rattle.role_daemon.specs.Pipes.{stops, line_text, after_line, going_on, one_
 use Rattle.role_daemon.specs.Steps.{client_text, Answered, LinesRan, LinesEndless, Finished}
 use Rattle.role_daemon.specs.declared.fault.PipeFault.{PipeFault}
 use Rattle.role_daemon.specs.declared.fault.PipeFault.TheVariants.{Device, Memory}
+use Rattle.role_daemon.proofs.FileLemmas.{nothing_left}
 use Rattle.role_daemon.proofs.PipeLemmas.{goes_on, any_number, client_text-nil, answers_text-stop, answers_text-last}
 use Rattle.role_daemon.proofs.PipeLemmas.{one_stops-stop, long_text, long_goes_on, long_changes_nothing}
 
 -- ---- the bytes that are left
 
 pub HasBytes-kept : (p q : Option (List ℕ)) (input : List ℕ) → Keeps p q → HasBytes q input → HasBytes p input
-HasBytes-kept None q input kept has = tt
-HasBytes-kept (Some xs) None input kept has = absurd kept
-HasBytes-kept (Some xs) (Some ys) input kept has = sym kept ∙ has
-
-pub tail_of : (known : Option (List ℕ)) (front : List ℕ)
-    → (rest : List ℕ) × HasBytes (prepend_known front known) (front ++ rest)
-tail_of None front = ([], tt)
-tail_of (Some ys) front = (ys, refl)
-
-pub tail_at_end : (known : Option (List ℕ)) (front : List ℕ) → IsAtEnd known
-    → HasBytes (prepend_known front known) front
-tail_at_end None front end = tt
-tail_at_end (Some ys) front end = ap (λ l. front ++ l) end ∙ append-nil front
-
-nothing_left : (p : Option (List ℕ)) → IsAtEnd p → HasBytes p []
-nothing_left None end = tt
-nothing_left (Some ys) end = end
+HasBytes-kept p q input kept has = HasBytes-done p q [] input (Consumes-kept p p q [] (Consumes-nil p) kept) has
 
 no_more : (front xs : List ℕ) → front ++ xs ≡ [] → xs ≡ []
 no_more [] xs e = e
@@ -150,15 +135,8 @@ long_answered p q known reader ahead front node new held more false kept passed 
 pub Lines-start : (start : NodeValue) (k a : Option (List ℕ)) (held : List ℕ) → held ≡ []
     → Ran going_on start k k a a held start 1
 Lines-start start k a held empty =
-    record {
-      done = [];
-      sent = [];
-      read = Consumes-nil k;
-      wrote = Appends-nil a;
-      goes = λ rest. rw empty refl;
-      stops = λ rest. refl;
-      counted = λ rest. omega arith;
-    }
+    subst (λ (p : Option (List ℕ)). Ran going_on start k p a a held start 1) (prepend_known-nil k)
+    (Ran-start going_on start k a [] held refl empty)
 
 text_front : (start : NodeValue) (k a c : Option (List ℕ))
     → WroteFront (λ input. text_by going_on start (lines_of input)) k a c
@@ -248,13 +226,13 @@ module _ {start node : NodeValue} {k p a b : Option (List ℕ)} {held : List ℕ
 
   pub Lines-endless : (c : Option (List ℕ)) → 2 ^ 64 - 1 ≤ number → Appends b c held → LinesEndless start k a c
   Lines-endless c many wrote =
-      let none : length (lines_of []) ≡ 0 = ap length lines_of-nil in
-      let text : client_text start (ran.done ++ []) ≡ ran.sent ++ held =
-      run_text [] ∙ ap (λ t. (ran.sent ++ held) ++ t) (client_text-nil node) ∙ append-nil (ran.sent ++ held) in (
-        ran.done ++ [],
+      let text : client_text start ran.done ≡ ran.sent ++ held =
+      ap (client_text start) (sym (append-nil ran.done)) ∙ run_text []
+      ∙ ap (λ t. (ran.sent ++ held) ++ t) (client_text-nil node) ∙ append-nil (ran.sent ++ held) in (
+        ran.done,
         p,
-        subst (Consumes k p) (sym (append-nil ran.done)) ran.read,
-        omega (arith, ran.counted [], none),
+        ran.read,
+        omega (arith, many, Ran-number ran),
         subst (Appends a c) (sym text) (Appends-trans a b c ran.sent held ran.wrote wrote),
       )
 

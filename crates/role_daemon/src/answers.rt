@@ -1,12 +1,16 @@
 //! What a client hears of what a node says, over a pipe and over TCP.
 
-ghost use Rattle.std.specs.Prelude.{◌≡◌, ◌≤◌};
+ghost use Rattle.std.specs.Prelude.{◌≡◌, ◌≤◌, ◌++◌, OnOk, OnErr};
+ghost use Rattle.link_frames.specs.Lines.{ended};
+ghost use Rattle.client_lines.specs.AnswerTexts as texts;
 ghost use Rattle.client_lines.specs.AnswerTexts.{IsWritten};
 ghost use Rattle.role_daemon.specs.Answers as answers;
 
-use client_lines::ClientAnswer;
+use client_lines::{ClientAnswer, answer_text};
+use link_frames::Held;
 use role_commands::Command;
 use role_node::{Answer, NodeAgain};
+use std::alloc::{AllocError, Global};
 
 /// An answer as a client hears it.
 pub fn listed(at: u32, answer: Answer) -> ClientAnswer
@@ -20,6 +24,20 @@ pub fn listed(at: u32, answer: Answer) -> ClientAnswer
         Answer::Permissions(permissions) => ClientAnswer::Permissions { at, permissions },
         Answer::Operations(operations) => ClientAnswer::Operations { at, operations },
     }
+}
+
+/// Holds the text of an answer behind the lines that are held.
+///
+/// # Errors
+///
+/// Only for want of memory. What is held stays as it was.
+pub fn hold_answer(alloc: Global, held: &mut Held, answer: &ClientAnswer) -> Result<(), AllocError>
+    requires { IsWritten answer.now }
+    ensures ok { OnOk result (held.new ≡ held.old ++ ended (texts.answer_text answer.now)) }
+    ensures same { OnErr result (held.new ≡ held.old) }
+{
+    let text = answer_text(alloc, answer)?;
+    held.push_line(text.as_str())
 }
 
 /// How many messages were sent at a place.

@@ -12,7 +12,6 @@ mod answers;
 pub mod cluster;
 pub mod cluster_file;
 pub mod fault;
-mod held;
 pub mod pipe;
 pub mod serve;
 mod shape;

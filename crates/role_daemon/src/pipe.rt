@@ -3,9 +3,10 @@
 ghost use Rattle.std.specs.Prelude.{◌≡◌, ◌≢◌, ◌++◌, ◌⊎◌, IfOk, IfErr, OnOk, Err};
 ghost use Rattle.link_frames.specs.Watching.{watched_inner, watched_tally};
 ghost use Rattle.link_frames.specs.Devices.{WentOn, CallFailed, ReaderFailed};
+ghost use Rattle.link_frames.specs.Holding.{IsNotDue};
 ghost use Rattle.link_frames.specs.Lines.{ended};
 ghost use Rattle.link_frames.specs.Aheads.{front_of, pending};
-ghost use Rattle.role_daemon.specs.Holding.{IsNotDue};
+ghost use Rattle.client_lines.specs.Requests.{most_line_bytes};
 ghost use Rattle.role_daemon.specs.Pipes.{stops, line_text, after_line};
 ghost use Rattle.role_daemon.specs.Runs.{PipeRan, IsEndless};
 ghost use Rattle.role_daemon.specs.Steps.{IsNodeOf, RefusesNode, Opened, Answered, LinesRan, LinesEndless, Finished};
@@ -13,11 +14,11 @@ ghost use Rattle.role_daemon.specs.Steps.{IsNodeOf, RefusesNode, Opened, Answere
 pub mod laws;
 mod requests;
 
+use crate::answers::hold_answer;
 use crate::cluster::{MOST_TEXT_BYTES, Mode, read_cluster};
 use crate::fault::{ClusterFault, PipeFault};
-use crate::held::Held;
 use client_lines::{ClientAnswer, LineFault, MOST_LINE_BYTES, Request, RequestReader};
-use link_frames::{Ahead, Next, Watched};
+use link_frames::{Ahead, Held, Next, Watched};
 use requests::answer;
 use role_node::Node;
 use std::alloc::{AllocError, Global};
@@ -115,8 +116,8 @@ fn answer_lines<R: Read, W: Write>(
     let mut requests = RequestReader::new(alloc);
     let mut held = Held::new(alloc);
     for number in 1..u64::MAX {
-        held.write_when_due(ahead, writer)?;
-        if !answer_next(&mut requests, node, ahead, &mut held, reader)? {
+        held.write_when_due(ahead, MOST_LINE_BYTES, writer)?;
+        if !answer_next(alloc, &mut requests, node, ahead, &mut held, reader)? {
             return finish(&mut held, writer, Ok(()));
         }
     }
@@ -126,35 +127,36 @@ fn answer_lines<R: Read, W: Write>(
 /// Answers what comes next. Whether another line may come behind it. Nothing may be held back that is due, since the
 /// reader may wait here.
 fn answer_next<R: Read>(
+    alloc: Global,
     requests: &mut RequestReader,
     node: &mut Node,
     ahead: &mut Ahead,
     held: &mut Held,
     reader: &mut Watched<R>,
 ) -> Result<bool, PipeFault>
-    requires due { IsNotDue held.old.bytes.items (front_of ahead.old) }
+    requires due { IsNotDue most_line_bytes held.old (front_of ahead.old) }
     ensures answered { IfOk result (Answered (pending (R.remaining (watched_inner reader.old)) ahead.old)
         (pending (R.remaining (watched_inner reader.new)) ahead.new) (R.remaining (watched_inner reader.new))
-        node.old node.new held.old.bytes.items held.new.bytes.items) }
+        node.old node.new held.old held.new) }
     ensures device { IfErr result (λ e. e ≡ PipeFault.Device →
         ReaderFailed (watched_tally reader.old) (watched_tally reader.new)) }
     ensures kind { IfErr result (λ e. (e ≡ PipeFault.Device) ⊎ (e ≡ PipeFault.Memory)) }
     ensures quiet { result ≢ Err PipeFault.Device → WentOn (watched_tally reader.old) (watched_tally reader.new) }
 {
-    match ahead.peek(reader, MOST_LINE_BYTES)? {
+    match held.peek(ahead, MOST_LINE_BYTES, reader)? {
         Next::End => Ok(false),
         Next::Line(count) => {
-            let stopped = answer_line(requests, node, held, &ahead.front()[..count])?;
+            let stopped = answer_line(alloc, requests, node, held, &ahead.front()[..count])?;
             ahead.take(count + 1);
             Ok(!stopped)
         }
         Next::Last(_) => {
-            let _stopped = answer_line(requests, node, held, ahead.front())?;
+            let _stopped = answer_line(alloc, requests, node, held, ahead.front())?;
             Ok(false)
         }
         Next::TooLong => {
             let had_end = ahead.pass_line(reader)?;
-            held.push_line(&ClientAnswer::BadLine(LineFault::NotJson))?;
+            hold_answer(alloc, held, &ClientAnswer::BadLine(LineFault::NotJson))?;
             Ok(had_end)
         }
     }
@@ -163,25 +165,26 @@ fn answer_next<R: Read>(
 /// Answers a line, and holds the answer behind the others. Whether the line stops the node.
 #[tactic(auto, unfolding(crate::specs::Pipes::stops, crate::specs::Pipes::line_text, crate::specs::Pipes::after_line))]
 fn answer_line(
+    alloc: Global,
     requests: &mut RequestReader,
     node: &mut Node,
     held: &mut Held,
     line: &[u8],
 ) -> Result<bool, AllocError>
     ensures stops { IfOk result (λ stopped. stopped ≡ stops node.old line.now) }
-    ensures text { OnOk result (held.new.bytes.items ≡ held.old.bytes.items ++ ended (line_text node.old line.now)) }
+    ensures text { OnOk result (held.new ≡ held.old ++ ended (line_text node.old line.now)) }
     ensures after { OnOk result (node.new ≡ after_line node.old line.now) }
 {
     let sizes = node.config().roles().sizes();
     match requests.read(&sizes, line) {
         Ok(request) => {
             let answer = answer(node, request)?;
-            held.push_line(&answer)?;
+            hold_answer(alloc, held, &answer)?;
             Ok(matches!(request, Request::Stop))
         }
         Err(LineFault::Memory) => Err(AllocError),
         Err(fault) => {
-            held.push_line(&ClientAnswer::BadLine(fault))?;
+            hold_answer(alloc, held, &ClientAnswer::BadLine(fault))?;
             Ok(false)
         }
     }
@@ -194,7 +197,7 @@ fn finish<W: Write>(
     ending: Result<(), PipeFault>,
 ) -> Result<(), PipeFault>
     ensures ended { Finished (W.contents (watched_inner writer.old)) (W.contents (watched_inner writer.new))
-        held.old.bytes.items ending result
+        held.old ending result
         (CallFailed (watched_tally writer.old) (watched_tally writer.new)) }
     ensures quiet { result ≢ Err PipeFault.Device → WentOn (watched_tally writer.old) (watched_tally writer.new) }
 {

@@ -2,15 +2,14 @@
 
 ghost use Rattle.client_lines.specs.AnswerTexts.{IsWritten};
 
-use crate::answers::sent_count;
+use crate::answers::{hold_answer, sent_count};
 use crate::fault::PipeFault;
-use crate::held::Held;
 use crate::serve::caller::{Caller, MOST_LINES};
 use crate::serve::connection::{Answers, Connection};
 use crate::serve::job_queue::JobQueue;
 use crate::serve::shared::{Room, Shared, is_past, put_own};
 use client_lines::{ClientAnswer, LineFault, MOST_LINE_BYTES, Request, RequestReader};
-use link_frames::{Ahead, Kind, Message, Next, Place, Watched};
+use link_frames::{Ahead, Held, Kind, Message, Next, Place, Watched};
 use node_lock::{Call, Job, View};
 use quorum_sizes::NodeName;
 use role_node::{Event, NodeAgain};
@@ -154,8 +153,8 @@ impl<L: Ledger> Client<'_, '_, L> {
             Some(Next::Line(count)) if self.in_flight < MOST_LINES => Next::Line(count),
             _ => {
                 self.settle(rt)?;
-                self.held.write_when_due(ahead, writer)?;
-                self.held.peek(ahead, reader)?
+                self.held.write_when_due(ahead, MOST_LINE_BYTES, writer)?;
+                self.held.peek(ahead, MOST_LINE_BYTES, reader)?
             }
         };
         match next {
@@ -229,7 +228,7 @@ impl<L: Ledger> Client<'_, '_, L> {
         requires { IsWritten answer.now }
     {
         self.settle(rt)?;
-        self.held.push_line(answer)?;
+        hold_answer(self.alloc, &mut self.held, answer)?;
         Ok(AfterLine::Continue)
     }
 
@@ -287,7 +286,7 @@ impl<L: Ledger> Client<'_, '_, L> {
                 break;
             };
             let answers = self.answers.swap_remove(at);
-            self.held.bytes.extend_from_slice(&answers.lines.bytes)?;
+            self.held.push_lines(&answers.lines)?;
             next = next.saturating_add(answers.count);
         }
         self.answers.clear();

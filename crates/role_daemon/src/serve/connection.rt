@@ -1,8 +1,8 @@
 //! Places for the connections that are open at once.
 
-use crate::held::Held;
 use crate::serve::job_queue::JobQueue;
 use crate::serve::waiting::{Awaited, Waiting};
+use link_frames::Held;
 use std::alloc::{AllocError, Global};
 use std::mem;
 use std::net::{Shutdown, TcpStream};

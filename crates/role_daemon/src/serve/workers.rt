@@ -4,14 +4,13 @@ ghost use Rattle.std.specs.Prelude.{◌≡◌, IfSome};
 ghost use Rattle.client_lines.specs.AnswerTexts.{IsWritten};
 ghost use Rattle.role_daemon.specs.Served.{served, sent_outcome};
 
-use crate::answers::listed;
-use crate::held::Held;
+use crate::answers::{hold_answer, listed};
 use crate::serve::caller::Caller;
 use crate::serve::connection::{Answers, Connection};
 use crate::serve::job_queue::JobQueue;
 use crate::serve::shared::{Room, Shared, put_own};
 use client_lines::ClientAnswer;
-use link_frames::Message;
+use link_frames::{Held, Message};
 use node_lock::{Call, Locked, Outcome, Seat, View};
 use quorum_sizes::NodeName;
 use role_node::{NodeFault, Reply};
@@ -111,7 +110,7 @@ impl<'a, L: Ledger> Worker<'a, L> {
                 continue;
             }
             if let Some(share) = share_of(self.alloc, &mut self.shares, done.caller) {
-                share.add(done);
+                share.add(self.alloc, done);
             }
         }
         for share in self.shares.drain(..) {
@@ -205,7 +204,7 @@ impl Share {
     }
 
     /// One job more is done. A client's answers end where one is wanting.
-    fn add(&mut self, done: Done) {
+    fn add(&mut self, alloc: Global, done: Done) {
         self.count = self.count.saturating_add(1);
         let Done { caller, said } = done;
         let Some((outcome, view)) = said else {
@@ -216,7 +215,7 @@ impl Share {
             return;
         }
         if let Some(answer) = answer_of(&view, outcome) {
-            if self.answers.lines.push_line(&answer).is_ok() {
+            if hold_answer(alloc, &mut self.answers.lines, &answer).is_ok() {
                 self.answers.count = self.answers.count.saturating_add(1);
                 return;
             }

@@ -17,19 +17,19 @@ pub returns-in_err-write_when_due-clause-ran : goal.returns-in_err-write_when_du
 returns-in_err-write_when_due-clause-ran g c =
     let (ran, reads, writes) = c.loop-number.invariant in
     let p = err_from_is_err_and c.from_residual.result c.from_residual.ensures.1 in
-    let front = Lines-front ran _ c.in_err-write_when_due.ensures.err in
+    let front = Lines-front ran _ c.in_err-write_when_due.ensures.part in
     rw p.1 (LinesRan-fault _ _ None _ _ p.0 (inl p.2) front)
 
 pub returns-in_err-write_when_due-clause-device : goal.returns-in_err-write_when_due-clause-device
 returns-in_err-write_when_due-clause-device g c =
     let (ran, reads, writes) = c.loop-number.invariant in
     let p = err_from_is_err_and c.from_residual.result c.from_residual.ensures.1 in
-    rw p.1 (λ q. inr (inl (CallFailed-later _ _ _ writes c.in_err-write_when_due.ensures.device)))
+    rw p.1 (λ q. inr (inl (CallFailed-later _ _ _ writes c.in_err-write_when_due.ensures.failed)))
 
 pub returns-in_err-answer_next-clause-ran : goal.returns-in_err-answer_next-clause-ran
 returns-in_err-answer_next-clause-ran g c =
     let (ran, reads, writes) = c.loop-number.invariant in
-    let moved = Ran-moved ran _ _ c.in_ok-write_when_due.ensures.ok in
+    let moved = Ran-moved ran _ _ c.in_ok-write_when_due.ensures.moved in
     let p = err_from_is_err_and c.from_residual-in_err-answer_next.result
     c.from_residual-in_err-answer_next.ensures.1 in
     rw (p.1, p.2) (LinesRan-fault _ _ None _ _ _ c.in_err-answer_next.ensures.kind (Lines-kept moved))
@@ -48,37 +48,37 @@ returns-in_err-answer_next-clause-quiet g c = λ other.
     c.from_residual-in_err-answer_next.ensures.1 in (
       WentOn-trans reads
           (c.in_err-answer_next.ensures.quiet (λ q. other (p.1 ∙ ap Err (p.2 ∙ ap (fault_or Device) q)))),
-      WentOn-trans writes c.in_ok-write_when_due.ensures.quiet,
+      WentOn-trans writes c.in_ok-write_when_due.ensures.went_on,
     )
 
 pub returns-then-not-branch-clause-ran : goal.returns-then-not-branch-clause-ran
 returns-then-not-branch-clause-ran g c =
     let (ran, reads, writes) = c.loop-number.invariant in
-    let moved = Ran-moved ran _ _ c.in_ok-write_when_due.ensures.ok in
+    let moved = Ran-moved ran _ _ c.in_ok-write_when_due.ensures.moved in
     let answered = rw c.if-not-branch.true at c.in_ok-answer_next.ensures.answered in
     Lines-end moved _ None _ c.args.node.now _ _ _ _ answered refl c.finish.ensures.ended
 
 pub returns-then-not-branch-clause-device : goal.returns-then-not-branch-clause-device
 returns-then-not-branch-clause-device g c =
     let (ran, reads, writes) = c.loop-number.invariant in
-    finish_device _ _ _ _ _ _ _ _ _ _ tt (WentOn-trans writes c.in_ok-write_when_due.ensures.quiet)
+    finish_device _ _ _ _ _ _ _ _ _ _ tt (WentOn-trans writes c.in_ok-write_when_due.ensures.went_on)
     c.finish.ensures.ended
 
 pub returns-then-not-branch-clause-quiet : goal.returns-then-not-branch-clause-quiet
 returns-then-not-branch-clause-quiet g c = λ other.
     let (ran, reads, writes) = c.loop-number.invariant in (
       WentOn-trans reads (c.in_ok-answer_next.ensures.quiet (not_device _)),
-      WentOn-trans writes (WentOn-trans c.in_ok-write_when_due.ensures.quiet (c.finish.ensures.quiet other)),
+      WentOn-trans writes (WentOn-trans c.in_ok-write_when_due.ensures.went_on (c.finish.ensures.quiet other)),
     )
 
 pub loop-number-preserved : goal.loop-number-preserved
 loop-number-preserved g c =
     let (ran, reads, writes) = c.loop-number.invariant in
-    let moved = Ran-moved ran _ _ c.in_ok-write_when_due.ensures.ok in
+    let moved = Ran-moved ran _ _ c.in_ok-write_when_due.ensures.moved in
     let answered = rw c.if-not-branch.false at c.in_ok-answer_next.ensures.answered in (
       Ran-more moved _ None _ _ answered,
       WentOn-trans reads (c.in_ok-answer_next.ensures.quiet (not_device _)),
-      WentOn-trans writes c.in_ok-write_when_due.ensures.quiet,
+      WentOn-trans writes c.in_ok-write_when_due.ensures.went_on,
     )
 
 pub returns-clause-ran : goal.returns-clause-ran

@@ -10,6 +10,6 @@ invariant-loop-number g l =
     Ran going_on l.initial.node (pending (g.R.Read.remaining (watched_inner l.initial.reader)) l.initial.ahead)
     (pending (g.R.Read.remaining (watched_inner l.reader)) l.ahead)
     (g.W.Write.contents (watched_inner l.initial.writer)) (g.W.Write.contents
-    (watched_inner l.writer)) l.held.bytes.items l.node l.number
+    (watched_inner l.writer)) l.held l.node l.number
     × WentOn (watched_tally l.initial.reader) (watched_tally l.reader)
     × WentOn (watched_tally l.initial.writer) (watched_tally l.writer)

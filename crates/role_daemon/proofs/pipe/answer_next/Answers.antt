@@ -20,8 +20,8 @@ returns-in_ok-_stopped-in-Last-clause-answered g c =
     let text = rw c.front-in-Last.ensures at c.in_ok-_stopped-in-Last.ensures.text in
     last_answered _ None _ _ _ _ _ c.args.node.now _ _ c.in_ok-peek.ensures.keeps begun.0 begun.1 text
 
-pub returns-in_ok-push_line-in-TooLong-clause-answered : goal.returns-in_ok-push_line-in-TooLong-clause-answered
-returns-in_ok-push_line-in-TooLong-clause-answered g c =
+pub returns-in_ok-hold_answer-in-TooLong-clause-answered : goal.returns-in_ok-hold_answer-in-TooLong-clause-answered
+returns-in_ok-hold_answer-in-TooLong-clause-answered g c =
     let begun = rw c.in-TooLong.is at c.in_ok-peek.ensures.begins in
     long_answered _ _ _ None _ _ _ _ _ _ _ c.in_ok-peek.ensures.keeps c.in_ok-had_end-in-TooLong.ensures.ok begun.0 refl
-    c.in_ok-push_line-in-TooLong.ensures.ok
+    c.in_ok-hold_answer-in-TooLong.ensures.ok
