@@ -81,9 +81,14 @@ present m (Some (Some x)) = Ok x
 unfoldable pub values_of : {A : Type 0} → (Data → Option A) → List Data → Option (List A)
 values_of shape items = if list_all (λ value. is_some (shape value)) items then Some (filter_map shape items) else None
 
+-- the items of the member's list
+unfoldable pub list_items : Member → Data → Result (List Data) ClusterFault
+list_items m text = present m (option_map list_of (member_of m text))
+
 unfoldable pub list_member : {A : Type 0} → Member → (Data → Option A) → Data → Result (List A) ClusterFault
-list_member m shape text =
-    present m (option_map (λ value. option_and_then (values_of shape) (list_of value)) (member_of m text))
+list_member m shape text = do
+  items ← list_items m text
+  present m (Some (values_of shape items))
 
 unfoldable pub port_member : Member → Data → Result ℕ ClusterFault
 port_member m text = present m (option_map port_of (member_of m text))

@@ -107,18 +107,28 @@ fn port_member(text: &Value, member: Member) -> Result<u16, ClusterFault>
     }
 }
 
+/// The items of a member's list.
+#[tactic(auto, unfolding(crate::specs::Shapes::list_items))]
+fn list_items<'a>(text: &'a Value, member: Member) -> Result<&'a [Value], ClusterFault>
+    ensures ok { IfOk result (λ items. shapes.list_items member (view text.entry.now) ≡ Ok (map view items.now)) }
+    ensures err { IfErr result (λ e. shapes.list_items member (view text.entry.now) ≡ Err e) }
+{
+    let Some(value) = text.get(member.name()) else {
+        return Err(ClusterFault::Missing(member));
+    };
+    match list_of(value) {
+        Some(items) => Ok(items),
+        None => Err(ClusterFault::OutOfRange(member)),
+    }
+}
+
 #[tactic(auto, unfolding(crate::specs::Shapes::list_member))]
 fn role_items<'a>(text: &'a Value) -> Result<&'a [Value], ClusterFault>
     ensures ok { IfOk result (λ items. list_member Roles shapes.pair_of (view text.entry.now)
         ≡ Ok (filter_map (λ v. shapes.pair_of (view v)) items.now)) }
     ensures err { IfErr result (λ e. list_member Roles shapes.pair_of (view text.entry.now) ≡ Err e) }
 {
-    let Some(value) = text.get(Member::Roles.name()) else {
-        return Err(ClusterFault::Missing(Member::Roles));
-    };
-    let Some(items) = list_of(value) else {
-        return Err(ClusterFault::OutOfRange(Member::Roles));
-    };
+    let items = list_items(text, Member::Roles)?;
     if are_pairs(items) {
         Ok(items)
     } else {
@@ -132,12 +142,7 @@ fn key_items<'a>(text: &'a Value) -> Result<&'a [Value], ClusterFault>
         ≡ Ok (filter_map (λ v. shapes.key_of (view v)) items.now)) }
     ensures err { IfErr result (λ e. list_member Keys shapes.key_of (view text.entry.now) ≡ Err e) }
 {
-    let Some(value) = text.get(Member::Keys.name()) else {
-        return Err(ClusterFault::Missing(Member::Keys));
-    };
-    let Some(items) = list_of(value) else {
-        return Err(ClusterFault::OutOfRange(Member::Keys));
-    };
+    let items = list_items(text, Member::Keys)?;
     if are_keys(items) {
         Ok(items)
     } else {
@@ -151,12 +156,7 @@ fn port_items<'a>(text: &'a Value) -> Result<&'a [Value], ClusterFault>
         ≡ Ok (filter_map (λ v. shapes.port_of (view v)) items.now)) }
     ensures err { IfErr result (λ e. list_member Nodes shapes.port_of (view text.entry.now) ≡ Err e) }
 {
-    let Some(value) = text.get(Member::Nodes.name()) else {
-        return Err(ClusterFault::Missing(Member::Nodes));
-    };
-    let Some(items) = list_of(value) else {
-        return Err(ClusterFault::OutOfRange(Member::Nodes));
-    };
+    let items = list_items(text, Member::Nodes)?;
     if are_ports(items) {
         Ok(items)
     } else {

@@ -1,6 +1,4 @@
-use Rattle.std.proofs.Common.{sym, ap, ◌∙◌}
-use Rattle.serde_json.specs.View.{view}
-use Rattle.serde_json.specs.Find.{get}
+use Rattle.std.proofs.Common.{sym, ◌∙◌}
 use Rattle.client_lines.specs.declared.member.Member.TheVariants.{Roles}
 use Rattle.role_daemon.specs.Shapes.{pair_of}
 use Rattle.role_daemon.proofs.ShapeLemmas.{list_member-good, list_member-bad}
@@ -8,12 +6,8 @@ use Rattle.role_daemon.proofs.shape.role_items.Goals as goal
 
 pub returns-then-are_pairs-clause-ok : goal.returns-then-are_pairs-clause-ok
 returns-then-are_pairs-clause-ok c =
-    list_member-good Roles pair_of (view c.args.text.now) (view c.in-Some.value.now) (c.in-Some.ensures
-    ∙ ap (λ name. get name (view c.args.text.now)) c.name.ensures) _ c.in-Some-list_of.ensures
-    (sym c.are_pairs.ensures ∙ c.if-are_pairs.true)
+    list_member-good Roles pair_of _ _ c.in_ok-items.ensures.ok (sym c.are_pairs.ensures ∙ c.if-are_pairs.true)
 
 pub returns-else-are_pairs-clause-err : goal.returns-else-are_pairs-clause-err
 returns-else-are_pairs-clause-err c =
-    list_member-bad Roles pair_of (view c.args.text.now) (view c.in-Some.value.now) (c.in-Some.ensures
-    ∙ ap (λ name. get name (view c.args.text.now)) c.name.ensures) _ c.in-Some-list_of.ensures
-    (sym c.are_pairs.ensures ∙ c.if-are_pairs.false)
+    list_member-bad Roles pair_of _ _ c.in_ok-items.ensures.ok (sym c.are_pairs.ensures ∙ c.if-are_pairs.false)
