@@ -10,6 +10,7 @@ use Rattle.std.specs.Io.KnownBytes.{Consumes, Appends, Keeps, IsAtEnd, prepend_k
 use Rattle.link_frames.specs.Devices.{WentOn, ReaderFailed}
 use Rattle.link_frames.specs.Lines.{line_end, lines_of, ended, NoLineEnd}
 use Rattle.link_frames.specs.LinePrograms.{HasBytes, WroteFront}
+use Rattle.link_frames.specs.LinesAt.{devices}
 use Rattle.link_frames.specs.Nexts.{Begins, EndsAt}
 use Rattle.link_frames.specs.declared.blocks.AheadFault.{AheadFault}
 use Rattle.link_frames.specs.declared.blocks.AheadFault.TheVariants as ahead
@@ -171,7 +172,7 @@ module _ (known p : Option (List ℕ)) (front first : List ℕ) (node : NodeValu
   -- the first line, and then client lines
   pub whole_run : (reader a c : Option (List ℕ)) (result : Result (Unit {0}) PipeFault)
       → LinesRan node p reader a c result
-      → PipeRan known reader a c result
+      → PipeRan (devices known a) (devices reader c) result
   whole_run reader a c (Ok x) (input, has, end, wrote) = (
     ended first ++ input,
     has_all input has,
@@ -188,8 +189,9 @@ module _ (known p : Option (List ℕ)) (front first : List ℕ) (node : NodeValu
   whole_run reader a c (Err Device) ran = front_is a c ran
   whole_run reader a c (Err Memory) ran = front_is a c ran
 
-  pub whole_endless : (a c : Option (List ℕ)) → LinesEndless node p a c → IsEndless known a c
-  whole_endless a c (input, left, read, many, wrote) = (
+  pub whole_endless : (reader a c : Option (List ℕ)) → LinesEndless node p a c
+      → IsEndless (devices known a) (devices reader c)
+  whole_endless reader a c (input, left, read, many, wrote) = (
     ended first ++ input,
     left,
     Consumes-trans known p left (ended first) input takes read,
@@ -202,7 +204,8 @@ module _ (known p reader a : Option (List ℕ)) (front : List ℕ) (none_ahead :
   known_has input has = subst (λ (k : Option (List ℕ)). HasBytes k input) (known_is known front none_ahead) has
 
   -- there is no line behind the first
-  pub alone : Opened (prepend_known front known) p reader (Ok None) → PipeRan known reader a a (Ok tt)
+  pub alone : Opened (prepend_known front known) p reader (Ok None)
+      → PipeRan (devices known a) (devices reader a) (Ok tt)
   unfolding pipe_text opening_fault
   alone (first, has, lines, end, (setup, due)) =
       let text : pipe_text first ≡ [] =
@@ -216,7 +219,7 @@ module _ (known p reader a : Option (List ℕ)) (front : List ℕ) (none_ahead :
 
   -- the first line sets up no node, or it was not read
   pub not_opened : (e : PipeFault) → Opened (prepend_known front known) p reader (Err e)
-      → PipeRan known reader a a (Err e)
+      → PipeRan (devices known a) (devices reader a) (Err e)
   unfolding opening_fault
   not_opened (Cluster fault) (input, has, inl (none, is)) =
       (input, known_has input has, ap fault_of_lines none ∙ ap Some (sym is), Keeps-refl a)

@@ -5,6 +5,7 @@ ghost use Rattle.link_frames.specs.Watching.{watched_inner, watched_tally};
 ghost use Rattle.link_frames.specs.Devices.{WentOn, CallFailed, ReaderFailed};
 ghost use Rattle.link_frames.specs.Holding.{IsNotDue};
 ghost use Rattle.link_frames.specs.Lines.{ended};
+ghost use Rattle.link_frames.specs.LinesAt.{devices_at};
 ghost use Rattle.link_frames.specs.Aheads.{front_of, pending};
 ghost use Rattle.client_lines.specs.Requests.{most_line_bytes};
 ghost use Rattle.role_daemon.specs.Pipes.{stops, line_text, after_line};
@@ -38,13 +39,13 @@ pub fn run_pipe<R: Read, W: Write>(
     reader: &mut Watched<R>,
     writer: &mut Watched<W>,
 ) -> Result<(), PipeFault>
-    ensures ran { PipeRan (R.remaining (watched_inner reader.old)) (R.remaining (watched_inner reader.new))
-        (W.contents (watched_inner writer.old)) (W.contents (watched_inner writer.new)) result }
+    ensures ran { PipeRan (devices_at R.remaining W.contents reader.old writer.old)
+        (devices_at R.remaining W.contents reader.new writer.new) result }
     ensures device { IfErr result (λ e. e ≡ PipeFault.Device →
         ReaderFailed (watched_tally reader.old) (watched_tally reader.new)
         ⊎ (CallFailed (watched_tally writer.old) (watched_tally writer.new)
-        ⊎ IsEndless (R.remaining (watched_inner reader.old))
-        (W.contents (watched_inner writer.old)) (W.contents (watched_inner writer.new)))) }
+        ⊎ IsEndless (devices_at R.remaining W.contents reader.old writer.old)
+        (devices_at R.remaining W.contents reader.new writer.new))) }
     ensures quiet { result ≢ Err PipeFault.Device → WentOn (watched_tally reader.old) (watched_tally reader.new)
         × WentOn (watched_tally writer.old) (watched_tally writer.new) }
 {

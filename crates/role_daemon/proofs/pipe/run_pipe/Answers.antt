@@ -24,7 +24,7 @@ pub returns-clause-device : goal.returns-clause-device
 returns-clause-device g c =
     let (first, none, took, made) = rw c.in-Some.is at c.in_ok-node.ensures.opened in
     later_device _ _ _ _ _ _ _ (c.in_ok-node.ensures.quiet (not_device _))
-    (whole_endless _ _ _ first c.in-Some.node c.new-ahead.ensures.front none took made _ _)
+    (whole_endless _ _ _ first c.in-Some.node c.new-ahead.ensures.front none took made None _ _)
     c.answer_lines.ensures.device
 
 pub returns-clause-quiet : goal.returns-clause-quiet
