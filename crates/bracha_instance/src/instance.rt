@@ -1,3 +1,5 @@
+//! An instance of the broadcast while it may still deliver.
+
 ghost use Rattle.std.specs.Prelude.{◌≡◌, ℕ, ◌<◌, ◌≤◌, ◌*◌, ◌||◌, nat_le, List, [], ◌∷◌, ◌++◌};
 ghost use Rattle.std.specs.Prelude.{All, false, is_some, IfOk, IfSome, IsSome, OnOk, OnErr, None};
 ghost use Rattle.std.specs.Option.{option_or};
@@ -6,7 +8,7 @@ ghost use Rattle.role_commands.specs.declared.command.Command.{Command};
 ghost use Rattle.bracha_instance.specs.Broadcast.{Take, vote};
 ghost use Rattle.bracha_instance.specs.States.{state};
 ghost use Rattle.bracha_instance.specs.Taking.{SendsAreFrom, has_voted, effect_of, newly};
-ghost use Rattle.bracha_instance.specs.Taking.{sent_for, newly_sent, newly_delivered};
+ghost use Rattle.bracha_instance.specs.Taking.{kind_due, taken_for, newly_sent, newly_delivered};
 ghost use Rattle.bracha_instance.specs.Next.{only_if, after_send, after_echo, after_ready, after_kind};
 ghost use Rattle.bracha_instance.specs.Supported.{CountsSupported};
 
@@ -36,6 +38,34 @@ pub struct Taken {
     pub broadcast: Option<(Kind, Command)>,
     /// What the node delivers now.
     pub delivered: Option<Command>,
+}
+
+/// What a message that counts caused. It is for the message's own command, which is not said again.
+#[derive(Clone, Copy, Debug, PartialEq, Eq)]
+pub struct Caused {
+    /// The kind of the message that the node sends to all nodes now: an ECHO or a READY.
+    pub send: Option<Kind>,
+    /// Whether the node delivers the command now.
+    pub delivers: bool,
+}
+
+impl Caused {
+    /// What was caused, with the message's command.
+    #[inline(always)]
+    pub fn taken(self, command: Command) -> Taken
+        ensures { result ≡ taken_for command self }
+    {
+        let broadcast = match self.send {
+            Some(kind) => Some((kind, command)),
+            None => None,
+        };
+        let delivered = if self.delivers { Some(command) } else { None };
+        Taken {
+            effect: Effect::Counted,
+            broadcast,
+            delivered,
+        }
+    }
 }
 
 /// One instance of authenticated double-echo broadcast (Bracha 1987): what was echoed, readied and
@@ -79,29 +109,25 @@ pub(crate) fn first_of(before: Option<Command>, due: bool, command: Command) -> 
     }
 }
 
-/// What there is now and was not before.
+/// Whether there is one now and was none before.
 #[inline(always)]
-pub(crate) fn newly_of(before: Option<Command>, now: Option<Command>) -> Option<Command>
-    ensures { result ≡ newly before now }
+pub(crate) fn is_new(before: Option<Command>, now: Option<Command>) -> bool
+    ensures { result ≡ is_some (newly before now) }
 {
-    match before {
-        None => now,
-        Some(_) => None,
-    }
+    before.is_none() && now.is_some()
 }
 
-/// The message for what was newly echoed or readied.
+/// The kind of the message for what was newly echoed or readied.
 #[inline(always)]
-pub(crate) fn message_for(
-    echoed: Option<Command>,
-    readied: Option<Command>,
-) -> Option<(Kind, Command)>
-    ensures { result ≡ sent_for echoed readied }
+pub(crate) fn kind_for(echoes: bool, readies: bool) -> Option<Kind>
+    ensures { result ≡ kind_due echoes readies }
 {
-    match (echoed, readied) {
-        (Some(command), _) => Some((Kind::Echo, command)),
-        (None, Some(command)) => Some((Kind::Ready, command)),
-        (None, None) => None,
+    if echoes {
+        Some(Kind::Echo)
+    } else if readies {
+        Some(Kind::Ready)
+    } else {
+        None
     }
 }
 
@@ -180,7 +206,8 @@ impl Instance {
                 delivered: None,
             });
         }
-        self.take_new(sizes, kind, from, command)
+        let caused = self.take_new(sizes, kind, from, command)?;
+        Ok(caused.taken(command))
     }
 
     /// Takes a message as [`take`](Self::take) does, where that node's of that kind was not taken before.
@@ -195,30 +222,28 @@ impl Instance {
         kind: Kind,
         from: NodeName,
         command: Command,
-    ) -> Result<Taken, AllocError>
+    ) -> Result<Caused, AllocError>
         requires { has_voted self.old kind from ≡ false }
         ensures state { let t : Take = record { kind = kind; from = from; command = command } in
             OnOk result ((takes : List Take) →
             self.old ≡ state sizes.now takes → self.new ≡ state sizes.now (takes ++ t ∷ [])) }
-        ensures effect { IfOk result (λ taken. taken.effect ≡ Effect.Counted) }
         ensures broadcast { let t : Take = record { kind = kind; from = from; command = command } in
-            IfOk result (λ taken. (takes : List Take) →
-            self.old ≡ state sizes.now takes → taken.broadcast ≡ newly_sent sizes.now takes (takes ++ t ∷ [])) }
+            IfOk result (λ caused. (takes : List Take) → self.old ≡ state sizes.now takes →
+            (taken_for command caused).broadcast ≡ newly_sent sizes.now takes (takes ++ t ∷ [])) }
         ensures delivered { let t : Take = record { kind = kind; from = from; command = command } in
-            IfOk result (λ taken. (takes : List Take) →
-            self.old ≡ state sizes.now takes → taken.delivered ≡ newly_delivered sizes.now takes (takes ++ t ∷ [])) }
+            IfOk result (λ caused. (takes : List Take) → self.old ≡ state sizes.now takes →
+            (taken_for command caused).delivered ≡ newly_delivered sizes.now takes (takes ++ t ∷ [])) }
         ensures err { OnErr result (self.new ≡ self.old) }
     {
         let echoed = self.echoed();
         let readied = self.readied();
         let delivered = self.delivered();
         self.count(sizes, kind, from, command)?;
-        let newly_echoed = newly_of(echoed, self.echoed());
-        let newly_readied = newly_of(readied, self.readied());
-        Ok(Taken {
-            effect: Effect::Counted,
-            broadcast: message_for(newly_echoed, newly_readied),
-            delivered: newly_of(delivered, self.delivered()),
+        let echoes = is_new(echoed, self.echoed());
+        let readies = is_new(readied, self.readied());
+        Ok(Caused {
+            send: kind_for(echoes, readies),
+            delivers: is_new(delivered, self.delivered()),
         })
     }
 

@@ -1,3 +1,5 @@
+//! The votes of an instance, by command.
+
 ghost use Rattle.std.specs.Prelude.{◌≡◌, length, None, Some, position, IfOk, OnOk, OnErr};
 ghost use Rattle.std.specs.FinMap as maps;
 ghost use Rattle.std.specs.FinSet as sets;
