@@ -97,15 +97,13 @@ impl Model for Instance {
     ghost invariant = { IsInstance };
 }
 
-/// What was due, or else this command where it is due now.
+/// Keeps this command where it is due now and none is kept.
 #[inline(always)]
-pub(crate) fn first_of(before: Option<Command>, due: bool, command: Command) -> Option<Command>
-    ensures { result ≡ option_or before (only_if due command) }
+pub(crate) fn keep_first(kept: &mut Option<Command>, due: bool, command: Command)
+    ensures { kept.new ≡ option_or kept.old (only_if due command) }
 {
-    if before.is_none() && due {
-        Some(command)
-    } else {
-        before
+    if kept.is_none() && due {
+        *kept = Some(command);
     }
 }
 
@@ -273,7 +271,7 @@ impl Instance {
     fn count_send(&mut self, command: Command)
         ensures { self.new ≡ after_send self.old command }
     {
-        self.echoed = first_of(self.echoed, true, command);
+        keep_first(&mut self.echoed, true, command);
     }
 
     /// Counts a node's first ECHO. After a delivery it can make nothing ready.
@@ -294,7 +292,7 @@ impl Instance {
         }
         let support = self.votes.count_echo(from, command)?;
         self.echoers.insert(from);
-        self.readied = first_of(self.readied, may_ready(sizes, support), command);
+        keep_first(&mut self.readied, may_ready(sizes, support), command);
         Ok(())
     }
 
@@ -316,7 +314,7 @@ impl Instance {
         }
         let support = self.votes.count_ready(from, command)?;
         self.readiers.insert(from);
-        self.readied = first_of(self.readied, may_ready(sizes, support), command);
+        keep_first(&mut self.readied, may_ready(sizes, support), command);
         if may_deliver(sizes, support) {
             self.delivered = Some(command);
             self.votes.forget();

@@ -9,7 +9,7 @@ ghost use Rattle.bracha_instance.specs.Taking.{SendsAreFrom, has_voted, effect_o
 ghost use Rattle.bracha_instance.specs.Taking.{newly_sent, newly_delivered};
 ghost use Rattle.bracha_instance.specs.Next.{after_kind};
 
-use crate::instance::{Caused, Effect, Taken, first_of, is_new, kind_for};
+use crate::instance::{Caused, Effect, Taken, is_new, keep_first, kind_for};
 use link_frames::Kind;
 use quorum_sizes::{NodeName, NodeSet};
 use role_commands::Command;
@@ -124,7 +124,7 @@ impl Record {
         ensures delivered { self.new.delivered ≡ self.old.delivered }
     {
         match kind {
-            Kind::Send => self.echoed = first_of(self.echoed, true, command),
+            Kind::Send => keep_first(&mut self.echoed, true, command),
             Kind::Echo => {
                 self.echoers.insert(from);
             }

@@ -378,6 +378,18 @@ fn make_room(slots: &mut Vec<Option<Instance>>, count: usize) -> Result<(), Allo
     ensures same { (slot : ℕ) → slot_at slots.new.items slot ≡ slot_at slots.old.items slot }
     ensures room { OnOk result (count ≤ vec_len slots.new) }
 {
+    if slots.len() < count {
+        return add_slots(slots, count);
+    }
+    Ok(())
+}
+
+/// Adds slots until there are so many.
+#[inline(never)]
+fn add_slots(slots: &mut Vec<Option<Instance>>, count: usize) -> Result<(), AllocError>
+    ensures same { (slot : ℕ) → slot_at slots.new.items slot ≡ slot_at slots.old.items slot }
+    ensures room { OnOk result (count ≤ vec_len slots.new) }
+{
     while slots.len() < count {
         slots.push(None)?;
     }
