@@ -9,5 +9,6 @@ pub mod Due
 pub mod StateSteps
 pub mod StateOf
 pub mod Counting
+pub mod Causing
 pub mod KeptInstances
 pub mod Exported

@@ -1,3 +1,5 @@
+//! An instance of the broadcast while it may still deliver.
+
 ghost use Rattle.std.specs.Prelude.{◌≡◌, ℕ, ◌<◌, ◌≤◌, ◌*◌, ◌||◌, nat_le, List, [], ◌∷◌, ◌++◌};
 ghost use Rattle.std.specs.Prelude.{All, false, is_some, IfOk, IfSome, IsSome, OnOk, OnErr, None};
 ghost use Rattle.std.specs.Option.{option_or};
@@ -6,7 +8,7 @@ ghost use Rattle.role_commands.specs.declared.command.Command.{Command};
 ghost use Rattle.bracha_instance.specs.Broadcast.{Take, vote};
 ghost use Rattle.bracha_instance.specs.States.{state};
 ghost use Rattle.bracha_instance.specs.Taking.{SendsAreFrom, has_voted, effect_of, newly};
-ghost use Rattle.bracha_instance.specs.Taking.{sent_for, newly_sent, newly_delivered};
+ghost use Rattle.bracha_instance.specs.Taking.{kind_due, taken_for, newly_sent, newly_delivered};
 ghost use Rattle.bracha_instance.specs.Next.{only_if, after_send, after_echo, after_ready, after_kind};
 ghost use Rattle.bracha_instance.specs.Supported.{CountsSupported};
 
@@ -38,6 +40,34 @@ pub struct Taken {
     pub delivered: Option<Command>,
 }
 
+/// What a message that counts caused. It is for the message's own command, which is not said again.
+#[derive(Clone, Copy, Debug, PartialEq, Eq)]
+pub struct Caused {
+    /// The kind of the message that the node sends to all nodes now: an ECHO or a READY.
+    pub send: Option<Kind>,
+    /// Whether the node delivers the command now.
+    pub delivers: bool,
+}
+
+impl Caused {
+    /// What was caused, with the message's command.
+    #[inline(always)]
+    pub fn taken(self, command: Command) -> Taken
+        ensures { result ≡ taken_for command self }
+    {
+        let broadcast = match self.send {
+            Some(kind) => Some((kind, command)),
+            None => None,
+        };
+        let delivered = if self.delivers { Some(command) } else { None };
+        Taken {
+            effect: Effect::Counted,
+            broadcast,
+            delivered,
+        }
+    }
+}
+
 /// One instance of authenticated double-echo broadcast (Bracha 1987): what was echoed, readied and
 /// delivered, who has voted, and until something is delivered the votes.
 ///
@@ -67,41 +97,35 @@ impl Model for Instance {
     ghost invariant = { IsInstance };
 }
 
-/// What was due, or else this command where it is due now.
+/// Keeps this command where it is due now and none is kept.
 #[inline(always)]
-pub(crate) fn first_of(before: Option<Command>, due: bool, command: Command) -> Option<Command>
-    ensures { result ≡ option_or before (only_if due command) }
+pub(crate) fn keep_first(kept: &mut Option<Command>, due: bool, command: Command)
+    ensures { kept.new ≡ option_or kept.old (only_if due command) }
 {
-    if before.is_none() && due {
-        Some(command)
+    if kept.is_none() && due {
+        *kept = Some(command);
+    }
+}
+
+/// Whether there is one now and was none before.
+#[inline(always)]
+pub(crate) fn is_new(before: Option<Command>, now: Option<Command>) -> bool
+    ensures { result ≡ is_some (newly before now) }
+{
+    before.is_none() && now.is_some()
+}
+
+/// The kind of the message for what was newly echoed or readied.
+#[inline(always)]
+pub(crate) fn kind_for(echoes: bool, readies: bool) -> Option<Kind>
+    ensures { result ≡ kind_due echoes readies }
+{
+    if echoes {
+        Some(Kind::Echo)
+    } else if readies {
+        Some(Kind::Ready)
     } else {
-        before
-    }
-}
-
-/// What there is now and was not before.
-#[inline(always)]
-pub(crate) fn newly_of(before: Option<Command>, now: Option<Command>) -> Option<Command>
-    ensures { result ≡ newly before now }
-{
-    match before {
-        None => now,
-        Some(_) => None,
-    }
-}
-
-/// The message for what was newly echoed or readied.
-#[inline(always)]
-pub(crate) fn message_for(
-    echoed: Option<Command>,
-    readied: Option<Command>,
-) -> Option<(Kind, Command)>
-    ensures { result ≡ sent_for echoed readied }
-{
-    match (echoed, readied) {
-        (Some(command), _) => Some((Kind::Echo, command)),
-        (None, Some(command)) => Some((Kind::Ready, command)),
-        (None, None) => None,
+        None
     }
 }
 
@@ -180,7 +204,8 @@ impl Instance {
                 delivered: None,
             });
         }
-        self.take_new(sizes, kind, from, command)
+        let caused = self.take_new(sizes, kind, from, command)?;
+        Ok(caused.taken(command))
     }
 
     /// Takes a message as [`take`](Self::take) does, where that node's of that kind was not taken before.
@@ -195,30 +220,28 @@ impl Instance {
         kind: Kind,
         from: NodeName,
         command: Command,
-    ) -> Result<Taken, AllocError>
+    ) -> Result<Caused, AllocError>
         requires { has_voted self.old kind from ≡ false }
         ensures state { let t : Take = record { kind = kind; from = from; command = command } in
             OnOk result ((takes : List Take) →
             self.old ≡ state sizes.now takes → self.new ≡ state sizes.now (takes ++ t ∷ [])) }
-        ensures effect { IfOk result (λ taken. taken.effect ≡ Effect.Counted) }
         ensures broadcast { let t : Take = record { kind = kind; from = from; command = command } in
-            IfOk result (λ taken. (takes : List Take) →
-            self.old ≡ state sizes.now takes → taken.broadcast ≡ newly_sent sizes.now takes (takes ++ t ∷ [])) }
+            IfOk result (λ caused. (takes : List Take) → self.old ≡ state sizes.now takes →
+            (taken_for command caused).broadcast ≡ newly_sent sizes.now takes (takes ++ t ∷ [])) }
         ensures delivered { let t : Take = record { kind = kind; from = from; command = command } in
-            IfOk result (λ taken. (takes : List Take) →
-            self.old ≡ state sizes.now takes → taken.delivered ≡ newly_delivered sizes.now takes (takes ++ t ∷ [])) }
+            IfOk result (λ caused. (takes : List Take) → self.old ≡ state sizes.now takes →
+            (taken_for command caused).delivered ≡ newly_delivered sizes.now takes (takes ++ t ∷ [])) }
         ensures err { OnErr result (self.new ≡ self.old) }
     {
         let echoed = self.echoed();
         let readied = self.readied();
         let delivered = self.delivered();
         self.count(sizes, kind, from, command)?;
-        let newly_echoed = newly_of(echoed, self.echoed());
-        let newly_readied = newly_of(readied, self.readied());
-        Ok(Taken {
-            effect: Effect::Counted,
-            broadcast: message_for(newly_echoed, newly_readied),
-            delivered: newly_of(delivered, self.delivered()),
+        let echoes = is_new(echoed, self.echoed());
+        let readies = is_new(readied, self.readied());
+        Ok(Caused {
+            send: kind_for(echoes, readies),
+            delivers: is_new(delivered, self.delivered()),
         })
     }
 
@@ -248,7 +271,7 @@ impl Instance {
     fn count_send(&mut self, command: Command)
         ensures { self.new ≡ after_send self.old command }
     {
-        self.echoed = first_of(self.echoed, true, command);
+        keep_first(&mut self.echoed, true, command);
     }
 
     /// Counts a node's first ECHO. After a delivery it can make nothing ready.
@@ -269,7 +292,7 @@ impl Instance {
         }
         let support = self.votes.count_echo(from, command)?;
         self.echoers.insert(from);
-        self.readied = first_of(self.readied, may_ready(sizes, support), command);
+        keep_first(&mut self.readied, may_ready(sizes, support), command);
         Ok(())
     }
 
@@ -291,7 +314,7 @@ impl Instance {
         }
         let support = self.votes.count_ready(from, command)?;
         self.readiers.insert(from);
-        self.readied = first_of(self.readied, may_ready(sizes, support), command);
+        keep_first(&mut self.readied, may_ready(sizes, support), command);
         if may_deliver(sizes, support) {
             self.delivered = Some(command);
             self.votes.forget();

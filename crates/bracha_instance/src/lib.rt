@@ -9,7 +9,7 @@ pub mod laws;
 mod record;
 mod tallies;
 
-pub use instance::{Effect, Instance, Taken};
+pub use instance::{Caused, Effect, Instance, Taken};
 pub use record::Record;
 
 #[cfg(test)]

@@ -1,12 +1,15 @@
-ghost use Rattle.std.specs.Prelude.{◌≡◌, List, [], ◌∷◌, ◌++◌, ℕ, is_some, Some};
+//! What stays of an instance that has delivered.
+
+ghost use Rattle.std.specs.Prelude.{◌≡◌, List, [], ◌∷◌, ◌++◌, ℕ, false, is_some, Some};
 ghost use Rattle.std.specs.FinMap as maps;
 ghost use Rattle.quorum_sizes.specs.Sizes.{Counts};
 ghost use Rattle.bracha_instance.specs.Broadcast.{Take, vote};
 ghost use Rattle.bracha_instance.specs.States.{state};
-ghost use Rattle.bracha_instance.specs.Taking.{SendsAreFrom, has_voted, effect_of, newly_sent, newly_delivered};
+ghost use Rattle.bracha_instance.specs.Taking.{SendsAreFrom, has_voted, effect_of, taken_for};
+ghost use Rattle.bracha_instance.specs.Taking.{newly_sent, newly_delivered};
 ghost use Rattle.bracha_instance.specs.Next.{after_kind};
 
-use crate::instance::{Effect, Taken, first_of, message_for, newly_of};
+use crate::instance::{Caused, Effect, Taken, is_new, keep_first, kind_for};
 use link_frames::Kind;
 use quorum_sizes::{NodeName, NodeSet};
 use role_commands::Command;
@@ -90,12 +93,28 @@ impl Record {
                 delivered: None,
             };
         }
+        self.take_new(kind, from, command).taken(command)
+    }
+
+    /// Takes a message as [`take`](Self::take) does, where that node's of that kind was not taken before.
+    #[inline(always)]
+    pub fn take_new(&mut self, kind: Kind, from: NodeName, command: Command) -> Caused
+        requires { has_voted self.old kind from ≡ false }
+        ensures state { let t : Take = record { kind = kind; from = from; command = command } in
+            (s : Counts) (takes : List Take) →
+            self.old ≡ state s takes → self.new ≡ state s (takes ++ t ∷ []) }
+        ensures broadcast { let t : Take = record { kind = kind; from = from; command = command } in
+            (s : Counts) (takes : List Take) → self.old ≡ state s takes →
+            (taken_for command result).broadcast ≡ newly_sent s takes (takes ++ t ∷ []) }
+        ensures delivered { let t : Take = record { kind = kind; from = from; command = command } in
+            (s : Counts) (takes : List Take) → self.old ≡ state s takes →
+            (taken_for command result).delivered ≡ newly_delivered s takes (takes ++ t ∷ []) }
+    {
         let echoed = self.echoed();
         self.count(kind, from, command);
-        Taken {
-            effect: Effect::Counted,
-            broadcast: message_for(newly_of(echoed, self.echoed()), None),
-            delivered: None,
+        Caused {
+            send: kind_for(is_new(echoed, self.echoed()), false),
+            delivers: false,
         }
     }
 
@@ -105,7 +124,7 @@ impl Record {
         ensures delivered { self.new.delivered ≡ self.old.delivered }
     {
         match kind {
-            Kind::Send => self.echoed = first_of(self.echoed, true, command),
+            Kind::Send => keep_first(&mut self.echoed, true, command),
             Kind::Echo => {
                 self.echoers.insert(from);
             }

@@ -1,3 +1,5 @@
+//! The votes of an instance, by command.
+
 ghost use Rattle.std.specs.Prelude.{◌≡◌, length, None, Some, position, IfOk, OnOk, OnErr};
 ghost use Rattle.std.specs.FinMap as maps;
 ghost use Rattle.std.specs.FinSet as sets;
@@ -97,15 +99,23 @@ fn is_same(a: &Command, b: &Command) -> bool
 
 /// The place of the command's tally.
 #[inline(always)]
-fn place_of(tallies: &[Tally], command: &Command) -> Option<usize>
-    ensures { result ≡ position (is_tally_of command.now) tallies.now }
+fn place_of(tallies: &[Tally], command: Command) -> Option<usize>
+    ensures { result ≡ position (is_tally_of command) tallies.now }
 {
-    if is_same(command, &tallies.first()?.command) {
+    if is_same(&command, &tallies.first()?.command) {
         return Some(0);
     }
+    place_among(tallies, command)
+}
+
+/// The place of the command's tally, where it is not the first.
+#[inline(never)]
+fn place_among(tallies: &[Tally], command: Command) -> Option<usize>
+    ensures { result ≡ position (is_tally_of command) tallies.now }
+{
     tallies
         .iter()
-        .position(|tally| is_same(command, &tally.command))
+        .position(|tally| is_same(&command, &tally.command))
 }
 
 /// The place of the command's tally, which is made where there is none.
@@ -115,7 +125,7 @@ fn tally_of(tallies: &mut Vec<Tally>, command: Command) -> Result<usize, AllocEr
     ensures tallies { OnOk result (tallies.new.items ≡ with_tally (λ t. t) command tallies.old.items) }
     ensures err { OnErr result (tallies.new.items ≡ tallies.old.items) }
 {
-    match place_of(tallies, &command) {
+    match place_of(tallies, command) {
         Some(at) => Ok(at),
         None => add_tally(tallies, command),
     }

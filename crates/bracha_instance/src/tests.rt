@@ -1,3 +1,5 @@
+//! An instance message by message, and memory that is refused.
+
 use super::*;
 use link_frames::Kind;
 use quorum_sizes::{NodeName, Sizes};

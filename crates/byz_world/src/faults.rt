@@ -1,3 +1,5 @@
+//! Why a step or a question is refused.
+
 use link_frames::LinkFault;
 use role_node::{AskFault, NodeFault};
 use std::alloc::AllocError;

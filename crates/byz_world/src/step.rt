@@ -1,3 +1,5 @@
+//! The steps of a world, and what they answer.
+
 use link_frames::Packet;
 use quorum_sizes::NodeName;
 use role_commands::{Command, Items};

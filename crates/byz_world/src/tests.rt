@@ -1,3 +1,5 @@
+//! Worlds step by step: lies, forgeries, refusals, and memory that is refused.
+
 use super::*;
 use link_frames::{Kind, LinkFault, Message, Packet};
 use quorum_sizes::{NodeName, NodeSet, Sizes};

@@ -1,3 +1,5 @@
+//! A cluster of which some nodes lie.
+
 ghost use Rattle.std.specs.Prelude.{◌≡◌, ℕ, ◌<◌, ◌≤◌, ◌*◌, ◌++◌, ◌∷◌, [], List, length, not, nat_lt, ◌&&◌};
 ghost use Rattle.std.specs.Prelude.{slice_get, min, IfOk, IfSome, OnOk, OnErr, Ok, Some, IsTrue, ◌↔◌, if◌then◌else◌};
 ghost use Rattle.std.specs.Option.{option_copied};

@@ -139,7 +139,8 @@ pub counts : (e : Effect) → (e ≡ Idle → ⊥) → e ≡ Counted
 counts Idle other = absurd (other refl)
 counts Counted other = refl
 
-fresh_has_voted : (s : Counts) (kind : Kind) (name : ℕ) → has_voted (state s []) kind name ≡ false
+-- where nothing was taken no node has voted
+pub fresh_has_voted : (s : Counts) (kind : Kind) (name : ℕ) → has_voted (state s []) kind name ≡ false
 unfolding state echoed voters
 fresh_has_voted s Send name = refl
 fresh_has_voted s Echo name = sets.contains-empty nat_cmp name

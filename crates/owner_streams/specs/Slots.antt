@@ -8,7 +8,8 @@ use Rattle.role_commands.specs.declared.command.Command.{Command}
 use Rattle.link_frames.specs.declared.kind.Kind.{Kind}
 use Rattle.bracha_instance.specs.Broadcast.{Take}
 use Rattle.bracha_instance.specs.States.{State, state}
-use Rattle.bracha_instance.specs.Taking.{has_voted, newly_sent, newly_delivered}
+use Rattle.bracha_instance.specs.Taking.{has_voted, taken_for, newly_sent, newly_delivered}
+use Rattle.bracha_instance.specs.declared.instance.Caused.{Caused}
 use Rattle.bracha_instance.specs.declared.instance.Taken.{Taken}
 use Rattle.owner_streams.specs.declared.steps.Again.{Again}
 use Rattle.owner_streams.specs.Values.{Instances}
@@ -46,8 +47,9 @@ GoesOn s before after t = (takes : List Take) → state_in s before ≡ state s 
     → state_in s after ≡ state s (takes ++ t ∷ [])
 
 -- the answer that is due to one more message, whatever messages the state is of
-abbrev pub IsAnswerAt : Counts → Option State → Take → Taken → Type 0
-IsAnswerAt s before t taken = (takes : List Take) → state_in s before ≡ state s takes → IsTaken s takes t taken
+abbrev pub IsAnswerAt : Counts → Option State → Take → Caused → Type 0
+IsAnswerAt s before t caused = (takes : List Take) → state_in s before ≡ state s takes
+    → IsTaken s takes t (taken_for t.command caused)
 
 abbrev pub put_some : Instances → ℕ → Option State → Instances
 put_some instances place None = instances

@@ -1,3 +1,5 @@
+//! One owner's stream: records of what it reaches beyond, and the instances of its window.
+
 ghost use Rattle.std.specs.Prelude.{◌≡◌, ◌≢◌, ℕ, ◌+◌, ◌<◌, ◌≤◌, false, List, [], ◌∷◌, ◌++◌};
 ghost use Rattle.std.specs.Prelude.{length, max, IsSome, IfOk, OnOk, OnErr, is_some, slice_get};
 ghost use Rattle.std.specs.Prelude.{slice_set, vec_len, vec_capacity, Some, None, IfSome, Ok};
@@ -14,7 +16,7 @@ ghost use Rattle.owner_streams.specs.Slots.{slot_at, state_in, delivered_in, aga
 ghost use Rattle.owner_streams.specs.Kept.{reach_in, held, IsOwnerStream, AreStatesOf, SamePlaces, command_in, look_in};
 
 use crate::steps::{Again, StreamFault, StreamStep};
-use bracha_instance::{Effect, Instance, Record, Taken};
+use bracha_instance::{Caused, Effect, Instance, Record};
 use link_frames::{Kind, Packet, Place};
 use quorum_sizes::{NodeName, Sizes};
 use role_commands::Command;
@@ -104,8 +106,9 @@ impl OwnerStream {
         ensures err { OnErr result (SamePlaces self.old self.new) }
     {
         let from = self.reach();
-        let taken = self.take_at(sizes, packet)?;
-        self.advance_if(taken.delivered.is_some());
+        let caused = self.take_at(sizes, packet)?;
+        self.advance_if(caused.delivers);
+        let taken = caused.taken(packet.command());
         Ok(StreamStep {
             effect: Effect::Counted,
             broadcast: taken.broadcast,
@@ -117,7 +120,7 @@ impl OwnerStream {
 
     /// Takes a packet at its place. No other place is changed, and there is room for a whole window of records.
     #[inline(always)]
-    fn take_at(&mut self, sizes: &Sizes, packet: &Packet) -> Result<Taken, AllocError>
+    fn take_at(&mut self, sizes: &Sizes, packet: &Packet) -> Result<Caused, AllocError>
         requires from { packet.now.from < sizes.now.nodes }
         requires window { packet.now.place < reach_in self.old + window }
         requires new { voted_in (held self.old packet.now.place) packet.now.kind packet.now.from ≡ false }
@@ -127,8 +130,8 @@ impl OwnerStream {
         ensures in_range { packet.now.place < place_count }
         ensures state { let here = packet.now.place in OnOk result
             (GoesOn sizes.now (held self.old here) (held self.new here) (take_of packet.now)) }
-        ensures taken { let here = packet.now.place in IfOk result
-            (λ taken. IsAnswerAt sizes.now (held self.old here) (take_of packet.now) taken) }
+        ensures caused { let here = packet.now.place in IfOk result
+            (λ caused. IsAnswerAt sizes.now (held self.old here) (take_of packet.now) caused) }
         ensures err { let here = packet.now.place in OnErr result (held self.new here ≡ held self.old here) }
     {
         let place = packet.place() as usize;
@@ -332,17 +335,18 @@ fn free_slot(ring: &mut Vec<Option<Instance>>, slot: usize)
 
 /// Takes a packet in its record. No other record is changed.
 #[inline(always)]
-fn take_record(records: &mut Vec<Record>, place: usize, packet: &Packet) -> Taken
-    requires { place < length records.old.items }
+fn take_record(records: &mut Vec<Record>, place: usize, packet: &Packet) -> Caused
+    requires place { place < length records.old.items }
+    requires new { voted_in (slice_get records.old.items place) packet.now.kind packet.now.from ≡ false }
     ensures len { length records.new.items ≡ length records.old.items }
     ensures capacity { vec_capacity records.new ≡ vec_capacity records.old }
     ensures others { (k : ℕ) → k ≢ place → slice_get records.new.items k ≡ slice_get records.old.items k }
     ensures state { (s : Counts) →
         GoesOn s (slice_get records.old.items place) (slice_get records.new.items place) (take_of packet.now) }
-    ensures taken { (s : Counts) → IsAnswerAt s (slice_get records.old.items place) (take_of packet.now) result }
+    ensures caused { (s : Counts) → IsAnswerAt s (slice_get records.old.items place) (take_of packet.now) result }
 {
     let record = &mut records[place];
-    record.take(packet.kind(), packet.from(), packet.command())
+    record.take_new(packet.kind(), packet.from(), packet.command())
 }
 
 /// Takes a packet in its slot. No other slot is changed.
@@ -352,15 +356,15 @@ fn take_slot(
     slot: usize,
     sizes: &Sizes,
     packet: &Packet,
-) -> Result<Taken, AllocError>
+) -> Result<Caused, AllocError>
     requires from { packet.now.from < sizes.now.nodes }
     requires slot { slot < window }
     requires new { voted_in (slot_at ring.old.items slot) packet.now.kind packet.now.from ≡ false }
     ensures others { (k : ℕ) → k ≢ slot → slot_at ring.new.items k ≡ slot_at ring.old.items k }
     ensures state { OnOk result
         (GoesOn sizes.now (slot_at ring.old.items slot) (slot_at ring.new.items slot) (take_of packet.now)) }
-    ensures taken { IfOk result
-        (λ taken. IsAnswerAt sizes.now (slot_at ring.old.items slot) (take_of packet.now) taken) }
+    ensures caused { IfOk result
+        (λ caused. IsAnswerAt sizes.now (slot_at ring.old.items slot) (take_of packet.now) caused) }
     ensures err { OnErr result (slot_at ring.new.items slot ≡ slot_at ring.old.items slot) }
 {
     make_room(ring, slot + 1)?;
@@ -371,6 +375,18 @@ fn take_slot(
 /// Makes room for so many slots. What the slots hold stays.
 #[inline(always)]
 fn make_room(slots: &mut Vec<Option<Instance>>, count: usize) -> Result<(), AllocError>
+    ensures same { (slot : ℕ) → slot_at slots.new.items slot ≡ slot_at slots.old.items slot }
+    ensures room { OnOk result (count ≤ vec_len slots.new) }
+{
+    if slots.len() < count {
+        return add_slots(slots, count);
+    }
+    Ok(())
+}
+
+/// Adds slots until there are so many.
+#[inline(never)]
+fn add_slots(slots: &mut Vec<Option<Instance>>, count: usize) -> Result<(), AllocError>
     ensures same { (slot : ℕ) → slot_at slots.new.items slot ≡ slot_at slots.old.items slot }
     ensures room { OnOk result (count ≤ vec_len slots.new) }
 {
@@ -387,11 +403,11 @@ fn take_in(
     alloc: Global,
     sizes: &Sizes,
     packet: &Packet,
-) -> Result<Taken, AllocError>
+) -> Result<Caused, AllocError>
     requires from { packet.now.from < sizes.now.nodes }
     requires new { voted_in slot.old packet.now.kind packet.now.from ≡ false }
     ensures state { OnOk result (GoesOn sizes.now slot.old slot.new (take_of packet.now)) }
-    ensures taken { IfOk result (λ taken. IsAnswerAt sizes.now slot.old (take_of packet.now) taken) }
+    ensures caused { IfOk result (λ caused. IsAnswerAt sizes.now slot.old (take_of packet.now) caused) }
     ensures err { OnErr result (slot.new ≡ slot.old) }
 {
     if let Some(instance) = slot {
@@ -416,17 +432,17 @@ fn take_first(
     kind: Kind,
     from: NodeName,
     command: Command,
-) -> Result<Taken, AllocError>
+) -> Result<Caused, AllocError>
     requires from { from < sizes.now.nodes }
     requires none { slot.old ≡ None }
     ensures state { let t : Take = record { kind = kind; from = from; command = command } in
         OnOk result (GoesOn sizes.now slot.old slot.new t) }
-    ensures taken { let t : Take = record { kind = kind; from = from; command = command } in
-        IfOk result (λ taken. IsAnswerAt sizes.now slot.old t taken) }
+    ensures caused { let t : Take = record { kind = kind; from = from; command = command } in
+        IfOk result (λ caused. IsAnswerAt sizes.now slot.old t caused) }
     ensures err { OnErr result (slot.new ≡ slot.old) }
 {
     let mut instance = Instance::new(alloc);
-    let taken = instance.take(sizes, kind, from, command)?;
+    let caused = instance.take_new(sizes, kind, from, command)?;
     *slot = Some(instance);
-    Ok(taken)
+    Ok(caused)
 }

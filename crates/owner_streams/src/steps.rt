@@ -1,3 +1,5 @@
+//! What a packet causes in a stream, why it is not taken, and what may be sent again.
+
 use bracha_instance::Effect;
 use link_frames::{Kind, Place};
 use role_commands::Command;

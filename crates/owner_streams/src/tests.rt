@@ -1,3 +1,5 @@
+//! Streams of one owner: the window, what is delivered late, lies, and memory that is refused.
+
 ghost use Rattle.std.specs.Prelude.{◌≡◌, ◌<◌, IfOk};
 
 use super::*;

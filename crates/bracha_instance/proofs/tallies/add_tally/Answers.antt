@@ -1,4 +1,4 @@
-use Rattle.std.proofs.Common.{◌≡◌, false, [], ◌∷◌, ◌++◌, length, sym, ap, ◌∙◌, subst, arith}
+use Rattle.std.proofs.Common.{◌≡◌, false, [], ◌∷◌, ◌++◌, length, sym, ◌∙◌, subst, arith}
 use Rattle.std.specs.List.{list_any}
 use Rattle.bracha_instance.specs.Tallies.{is_tally_of, IsFirst}
 use Rattle.bracha_instance.proofs.TallyLemmas.{fresh, none-position, IsFirst-new, with_tally-new}

@@ -12,7 +12,7 @@ count_echo-requires c = free_echo c.self.inside c.args.from c.self.invariant (sy
 
 pub invariant_of-self-2 : goal.invariant_of-self-2
 invariant_of-self-2 c =
-    echo_kept c.self.inside c.args.from c.args.command c.first_of-self-inside.result c.insert-2.new.self
+    echo_kept c.self.inside c.args.from c.args.command c.keep_first.new.kept c.insert-2.new.self
     c.count_echo.new.self c.self.invariant (sym c.is_some.ensures ∙ c.if-is_some.false)
     (ap (λ st. has_voted st Echo c.args.from) c.self.view_is ∙ c.requires)
     c.insert-2.ensures.set c.insert-2.ensures.most c.in_ok-support.ensures.ok
@@ -20,9 +20,9 @@ invariant_of-self-2 c =
 pub returns-clause-ok : goal.returns-clause-ok
 returns-clause-ok c =
     echo_early c.args.sizes.now c.args.from c.args.command c.self.inside c.may_ready.result
-    c.first_of-self-inside.result c.insert-2.new.self c.count_echo.new.self
+    c.keep_first.new.kept c.insert-2.new.self c.count_echo.new.self
     (sym c.is_some.ensures ∙ c.if-is_some.false) c.insert-2.ensures.set c.in_ok-support.ensures.ok
     (ready_by_support c.args.sizes.now c.args.command c.may_ready.result c.in_ok-support.support c.count_echo.new.self
     c.may_ready.ensures c.in_ok-support.ensures.support)
-    c.first_of-self-inside.ensures
+    c.keep_first.ensures
     ∙ ap (λ st. after_echo c.args.sizes.now st c.args.from c.args.command st.delivered) c.self.view_is

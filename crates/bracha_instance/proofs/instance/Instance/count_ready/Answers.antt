@@ -14,11 +14,11 @@ count_ready-requires c =
 pub returns-then-may_deliver-clause-ok : goal.returns-then-may_deliver-clause-ok
 returns-then-may_deliver-clause-ok c =
     deliver_early c.args.sizes.now c.args.from c.args.command c.self.inside c.may_ready.result
-    c.first_of-self-inside.result c.insert-2.new.self c.count_ready.new.self c.forget.new.self
+    c.keep_first.new.kept c.insert-2.new.self c.count_ready.new.self c.forget.new.self
     (sym c.is_some.ensures ∙ c.if-is_some.false) c.insert-2.ensures.set c.in_ok-support.ensures.ok
     (ready_by_support c.args.sizes.now c.args.command c.may_ready.result c.in_ok-support.support c.count_ready.new.self
     c.may_ready.ensures c.in_ok-support.ensures.support)
-    c.first_of-self-inside.ensures
+    c.keep_first.ensures
     (sym c.if-may_deliver.true
     ∙ deliver_by_support c.args.sizes.now c.args.command c.may_deliver.result c.in_ok-support.support
     c.count_ready.new.self
@@ -28,7 +28,7 @@ returns-then-may_deliver-clause-ok c =
 
 pub invariant_of-self-else-may_deliver : goal.invariant_of-self-else-may_deliver
 invariant_of-self-else-may_deliver c =
-    ready_kept c.self.inside c.args.from c.args.command c.first_of-self-inside.result c.insert-2.new.self
+    ready_kept c.self.inside c.args.from c.args.command c.keep_first.new.kept c.insert-2.new.self
     c.count_ready.new.self c.self.invariant (sym c.is_some.ensures ∙ c.if-is_some.false)
     (ap (λ st. has_voted st Ready c.args.from) c.self.view_is ∙ c.requires)
     c.insert-2.ensures.set c.insert-2.ensures.most c.in_ok-support.ensures.ok
@@ -36,11 +36,11 @@ invariant_of-self-else-may_deliver c =
 pub returns-clause-ok : goal.returns-clause-ok
 returns-clause-ok c =
     ready_early c.args.sizes.now c.args.from c.args.command c.self.inside c.may_ready.result
-    c.first_of-self-inside.result c.insert-2.new.self c.count_ready.new.self
+    c.keep_first.new.kept c.insert-2.new.self c.count_ready.new.self
     (sym c.is_some.ensures ∙ c.if-is_some.false) c.insert-2.ensures.set c.in_ok-support.ensures.ok
     (ready_by_support c.args.sizes.now c.args.command c.may_ready.result c.in_ok-support.support c.count_ready.new.self
     c.may_ready.ensures c.in_ok-support.ensures.support)
-    c.first_of-self-inside.ensures
+    c.keep_first.ensures
     (sym c.if-may_deliver.false
     ∙ deliver_by_support c.args.sizes.now c.args.command c.may_deliver.result c.in_ok-support.support
     c.count_ready.new.self

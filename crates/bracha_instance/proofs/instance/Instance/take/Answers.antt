@@ -1,6 +1,5 @@
-use Rattle.std.proofs.Common.{◌≡◌, true, false, Result, Ok, Err, sym, ◌∙◌}
+use Rattle.std.proofs.Common.{◌≡◌, true, false, Result, Ok, Err, sym, ap, ◌∙◌}
 use Rattle.std.specs.Prelude.{OnErr}
-use Rattle.std.proofs.lemmas.Result.{IfOk-weaker}
 use Rattle.bracha_instance.specs.Taking.{has_voted}
 use Rattle.bracha_instance.proofs.Counting.{idle_state, effect_at, nothing_sent, nothing_delivered}
 use Rattle.bracha_instance.proofs.instance.Instance.take.Goals as goal
@@ -31,12 +30,19 @@ returns-then-voted-clause-delivered c = λ takes is.
 -- A message that counts.
 
 pub returns-clause-effect : goal.returns-clause-effect
-returns-clause-effect c =
-    IfOk-weaker c.take_new.result _ _ (λ taken counted takes owner is all.
-    counted
+returns-clause-effect c = λ takes owner is all.
+    ap (λ taken. taken.effect) c.taken.ensures
     ∙ effect_at c.args.sizes.now takes (record { kind = c.args.kind; from = c.args.from; command = c.args.command })
     owner c.args.self.now false
-    (sym c.voted.ensures.seen ∙ c.if-voted.false) is all) c.take_new.ensures.effect
+    (sym c.voted.ensures.seen ∙ c.if-voted.false) is all
+
+pub returns-clause-broadcast : goal.returns-clause-broadcast
+returns-clause-broadcast c = λ takes is.
+    ap (λ taken. taken.broadcast) c.taken.ensures ∙ c.in_ok-caused.ensures.broadcast takes is
+
+pub returns-clause-delivered : goal.returns-clause-delivered
+returns-clause-delivered c = λ takes is.
+    ap (λ taken. taken.delivered) c.taken.ensures ∙ c.in_ok-caused.ensures.delivered takes is
 
 -- Memory is wanting only for a message that counts.
 
@@ -44,8 +50,8 @@ on_err : {T E P : Type 0} (r : Result T E) → P → OnErr r P
 on_err (Ok x) p = tt
 on_err (Err e) p = p
 
-pub returns-clause-memory : goal.returns-clause-memory
-returns-clause-memory c = on_err c.take_new.result (λ takes owner is all.
+pub returns-in_err-caused-clause-memory : goal.returns-in_err-caused-clause-memory
+returns-in_err-caused-clause-memory c = on_err c.from_residual.result (λ takes owner is all.
     sym (effect_at c.args.sizes.now takes (record { kind = c.args.kind; from = c.args.from; command = c.args.command })
     owner c.args.self.now false
     (sym c.voted.ensures.seen ∙ c.if-voted.false) is all))

@@ -1,12 +1,10 @@
-use Rattle.std.proofs.Common.{◌≡◌, ◌+◌, ◌<◌, [], ◌∷◌, ◌++◌, Ok, sym, ap, ◌∙◌, subst, arith, refl}
-use Rattle.std.specs.Prelude.{IsSome}
-use Rattle.bracha_instance.specs.declared.instance.Effect.TheVariants.{Idle, Counted}
+use Rattle.std.proofs.Common.{◌≡◌, ◌+◌, ◌<◌, [], ◌∷◌, ◌++◌, Ok, sym, ap, ◌∙◌, arith, refl}
+use Rattle.bracha_instance.specs.declared.instance.Effect.TheVariants.{Idle}
 use Rattle.owner_streams.specs.Kept.{reach_in, held, look_in}
-use Rattle.owner_streams.specs.Places.{window, take_of, takes_at}
-use Rattle.owner_streams.specs.Slots.{state_in, delivered_in}
+use Rattle.owner_streams.specs.Places.{window, take_of}
 use Rattle.owner_streams.proofs.Reaching.{reach_of_run, reach_within}
-use Rattle.owner_streams.proofs.Keeping.{states_push, still_run, still_ends, same_states, at_each, still_kept}
-use Rattle.owner_streams.proofs.Stepping.{due_within, step_is, idle_step_is, look_within}
+use Rattle.owner_streams.proofs.Keeping.{states_push}
+use Rattle.owner_streams.proofs.Stepping.{due_within, idle_step_is, look_within}
 use Rattle.owner_streams.proofs.Stepping.{look_idle, voted_changes_nothing, effect_is, counts}
 use Rattle.owner_streams.proofs.owner_stream.OwnerStream.take.Goals as goal
 

@@ -4,7 +4,7 @@ use Rattle.std.proofs.lemmas.Result.{on_ok_weaker, on_err_weaker, IfOk-weaker}
 use Rattle.quorum_sizes.specs.Sizes.{Counts}
 use Rattle.bracha_instance.specs.Broadcast.{Take}
 use Rattle.bracha_instance.specs.States.{State}
-use Rattle.bracha_instance.specs.declared.instance.Taken.{Taken}
+use Rattle.bracha_instance.specs.declared.instance.Caused.{Caused}
 use Rattle.owner_streams.specs.Places.{window}
 use Rattle.owner_streams.specs.Slots.{slot_at, state_in, voted_in, GoesOn, IsAnswerAt}
 use Rattle.owner_streams.specs.Kept.{held_in, held}
@@ -20,9 +20,9 @@ goes_on : (s : Counts) (t : Take) (before after was now : Option State) → befo
     → GoesOn s was now t → GoesOn s before after t
 goes_on s t before after was now e f goes takes is = ap (state_in s) f ∙ goes takes (ap (state_in s) (sym e) ∙ is)
 
-answers : (s : Counts) (t : Take) (taken : Taken) (before was : Option State) → before ≡ was → IsAnswerAt s was t taken
-    → IsAnswerAt s before t taken
-answers s t taken before was e answer takes is = answer takes (ap (state_in s) (sym e) ∙ is)
+answers : (s : Counts) (t : Take) (caused : Caused) (before was : Option State) → before ≡ was → IsAnswerAt s was t caused
+    → IsAnswerAt s before t caused
+answers s t caused before was e answer takes is = answer takes (ap (state_in s) (sym e) ∙ is)
 
 pub returns-in_err-reserve-clause-others : goal.returns-in_err-reserve-clause-others
 unfolding held
@@ -61,9 +61,9 @@ returns-then-place-len-clause-state c =
     ∙ held-record below c.take_record.new.records.items ring c.place-place.result here c.take_record.ensures.len)
     (c.take_record.ensures.state c.args.sizes.now)
 
-pub returns-then-place-len-clause-taken : goal.returns-then-place-len-clause-taken
+pub returns-then-place-len-clause-caused : goal.returns-then-place-len-clause-caused
 unfolding held
-returns-then-place-len-clause-taken c =
+returns-then-place-len-clause-caused c =
     let at : c.place-place.result ≡ c.args.packet.now.place = omega arith in
     let ring = c.args.self.now.ring.items in
     let here : c.place-place.result < length c.reserve.new.self.items = omega arith in
@@ -71,7 +71,20 @@ returns-then-place-len-clause-taken c =
     (ap (held c.args.self.now) (sym at)
     ∙ sym (ap (λ xs. held_in xs ring c.place-place.result) c.reserve.ensures.items)
     ∙ held-below c.reserve.new.self.items ring c.place-place.result here)
-    (c.take_record.ensures.taken c.args.sizes.now)
+    (c.take_record.ensures.caused c.args.sizes.now)
+
+pub take_record-requires-clause-new : goal.take_record-requires-clause-new
+unfolding held
+take_record-requires-clause-new c =
+    let at : c.place-place.result ≡ c.args.packet.now.place = omega arith in
+    let ring = c.args.self.now.ring.items in
+    let here : c.place-place.result < length c.reserve.new.self.items = omega arith in
+    sym
+    (ap (λ slot. voted_in slot c.args.packet.now.kind c.args.packet.now.from)
+    (ap (held c.args.self.now) (sym at)
+    ∙ sym (ap (λ xs. held_in xs ring c.place-place.result) c.reserve.ensures.items)
+    ∙ held-below c.reserve.new.self.items ring c.place-place.result here))
+    ∙ c.requires.new
 
 -- The slot of the place.
 
@@ -115,9 +128,9 @@ returns-clause-state c =
     ∙ held-window records c.take_slot.new.ring.items c.place-place.result (omega arith) (omega arith) in
     on_ok_weaker c.take_slot.result (goes_on c.args.sizes.now _ _ _ _ _ before after) c.take_slot.ensures.state
 
-pub returns-clause-taken : goal.returns-clause-taken
+pub returns-clause-caused : goal.returns-clause-caused
 unfolding held
-returns-clause-taken c =
+returns-clause-caused c =
     let at : c.place-place.result ≡ c.args.packet.now.place = omega arith in
     let slot = c.place-place.result % window in
     let ring = c.args.self.now.ring.items in
@@ -126,7 +139,7 @@ returns-clause-taken c =
     let before : held c.args.self.now c.args.packet.now.place ≡ slot_at ring slot =
     ap (held c.args.self.now) (sym at)
     ∙ held-window c.args.self.now.below.items ring c.place-place.result (omega arith) (omega arith) in
-    IfOk-weaker c.take_slot.result _ _ (λ taken. answers c.args.sizes.now _ taken _ _ before) c.take_slot.ensures.taken
+    IfOk-weaker c.take_slot.result _ _ (λ caused. answers c.args.sizes.now _ caused _ _ before) c.take_slot.ensures.caused
 
 pub returns-clause-err : goal.returns-clause-err
 unfolding held
