@@ -20,8 +20,8 @@ goes_on : (s : Counts) (t : Take) (before after was now : Option State) → befo
     → GoesOn s was now t → GoesOn s before after t
 goes_on s t before after was now e f goes takes is = ap (state_in s) f ∙ goes takes (ap (state_in s) (sym e) ∙ is)
 
-answers : (s : Counts) (t : Take) (caused : Caused) (before was : Option State) → before ≡ was → IsAnswerAt s was t caused
-    → IsAnswerAt s before t caused
+answers : (s : Counts) (t : Take) (caused : Caused) (before was : Option State) → before ≡ was
+    → IsAnswerAt s was t caused → IsAnswerAt s before t caused
 answers s t caused before was e answer takes is = answer takes (ap (state_in s) (sym e) ∙ is)
 
 pub returns-in_err-reserve-clause-others : goal.returns-in_err-reserve-clause-others
@@ -139,7 +139,8 @@ returns-clause-caused c =
     let before : held c.args.self.now c.args.packet.now.place ≡ slot_at ring slot =
     ap (held c.args.self.now) (sym at)
     ∙ held-window c.args.self.now.below.items ring c.place-place.result (omega arith) (omega arith) in
-    IfOk-weaker c.take_slot.result _ _ (λ caused. answers c.args.sizes.now _ caused _ _ before) c.take_slot.ensures.caused
+    IfOk-weaker c.take_slot.result _ _ (λ caused. answers c.args.sizes.now _ caused _ _ before)
+    c.take_slot.ensures.caused
 
 pub returns-clause-err : goal.returns-clause-err
 unfolding held
