@@ -8,7 +8,6 @@ use Rattle.std.specs.Option.{option_or}
 use Rattle.std.specs.FinMap as maps
 use Rattle.std.specs.FinSet as sets
 use Rattle.std.specs.Ordering.{nat_cmp}
-use Rattle.std.specs.Cmp.{nat_cmp_total}
 use Rattle.std.proofs.lemmas.Bool.{both_ways}
 use Rattle.std.proofs.lemmas.List.Elements.{All-head, All-tail}
 use Rattle.quorum_sizes.specs.Sizes.{Counts, most_nodes, echo_quorum_of, amplify_of, deliver_of}
@@ -31,6 +30,7 @@ use Rattle.bracha_instance.specs.Instances.{instance_state, IsInstance}
 use Rattle.bracha_instance.specs.Supported.{CountsSupported}
 use Rattle.bracha_instance.proofs.Same.{same_command-true}
 use Rattle.bracha_instance.proofs.VoteMaps.{contains-names_of, names_of-insert, names_of-empty}
+use Rattle.bracha_instance.proofs.NameCounts.{one_more_name}
 use Rattle.bracha_instance.proofs.TallyLemmas.{length-with_command}
 use Rattle.bracha_instance.proofs.Voting.{contains-voters, supporters_in-votes}
 use Rattle.bracha_instance.proofs.StateOf.{none_of, state-echoers, state-readiers}
@@ -95,11 +95,6 @@ free_ready a p h early is = no_vote a.votes.readies a.readiers p (h.readiers (no
 
 not_some : {X : Type 0} (o : Option X) → o ≡ None → is_some o ≡ true → ⊥
 not_some o none some = both_ways (is_some o) (ap is_some none) some
-
-one_more_name : (names : Names) (p : ℕ) → sets.contains names p ≡ false → sets.len (sets.insert names p)
-    ≡ sets.len names + 1
-one_more_name names p new =
-    sets.len-insert nat_cmp_total names p ∙ ap (λ b. cond b (sets.len names) (sets.len names + 1)) new
 
 pub echo_kept : (a : Inside) (p : ℕ) (c : Command) (now : Option Command) (echoers : Names) (v : Tallied) →
     IsInstance a → is_some a.delivered ≡ false → sets.contains a.echoers p ≡ false →

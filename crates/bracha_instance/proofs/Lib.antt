@@ -1,8 +1,10 @@
 pub mod Same
 pub mod FirstPrefix
+pub mod NameCounts
 pub mod VoteMaps
 pub mod RowLemmas
 pub mod TallyLemmas
+pub mod FirstTally
 pub mod Voting
 pub mod FirstDue
 pub mod Due

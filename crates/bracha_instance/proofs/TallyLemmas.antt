@@ -21,9 +21,8 @@ use Rattle.bracha_instance.specs.States.{Votes}
 use Rattle.bracha_instance.specs.Next.{supporters_in}
 use Rattle.bracha_instance.specs.Tallies.{Tallied, no_votes, with_command, with_echo, with_ready}
 use Rattle.bracha_instance.specs.Tallies.{support_of, HasVote, AreVoted, RowsAgree, echo_row, ready_row}
-use Rattle.bracha_instance.specs.Tallies.{names_for, command_in, is_tally_of, IsFirst, with_tally}
+use Rattle.bracha_instance.specs.Tallies.{TallyValue, no_names, names_for, command_in, is_tally_of, IsFirst, with_tally}
 use Rattle.bracha_instance.specs.Tallies.{echoed_by, ready_by, support_in, tallied, AreTallies, votes_in}
-use Rattle.bracha_instance.specs.declared.tallies.Tally.{Tally}
 use Rattle.bracha_instance.specs.declared.tallies.Support.{Support}
 use Rattle.bracha_instance.proofs.Same.{same_command-true, same_command-refl}
 use Rattle.bracha_instance.proofs.VoteMaps.{supporters_in-empty, supporters_in-insert_other, len_supporters_in-insert}
@@ -32,22 +31,18 @@ use Rattle.bracha_instance.proofs.RowLemmas.{RowsAgree-empty, RowsAgree-unchange
 
 -- The place of a tally.
 
--- a tally without a name
-abbrev pub fresh : Command → Tally
-fresh c = record { command = c; echoes = sets.empty; readies = sets.empty }
-
-pub within : (c : Command) (tallies : List Tally) (at : ℕ) → IsFirst c tallies at → at < length tallies
+pub within : (c : Command) (tallies : List TallyValue) (at : ℕ) → IsFirst c tallies at → at < length tallies
 within c [] at first = absurd first
 within c (t ∷ tallies) zero first = suc-le-suc zero-le
 within c (t ∷ tallies) (suc at) first = suc-le-suc (within c tallies at first.1)
 
 -- the first tally of c is where those of other commands end, or there is none
-abbrev FirstOrNone : Command → List Tally → Type 0
+abbrev FirstOrNone : Command → List TallyValue → Type 0
 FirstOrNone c tallies =
     IsFirst c tallies (prefix_len (λ t. not (is_tally_of c t)) tallies)
     ⊎ ((prefix_len (λ t. not (is_tally_of c t)) tallies ≡ length tallies) × (list_any (is_tally_of c) tallies ≡ false))
 
-first_or_none : (c : Command) (tallies : List Tally) → FirstOrNone c tallies
+first_or_none : (c : Command) (tallies : List TallyValue) → FirstOrNone c tallies
 first_or_none c [] = inr (refl, refl)
 first_or_none c (t ∷ tallies) =
     by_tally (is_tally_of c t) (prefix_len (λ t. not (is_tally_of c t)) tallies) refl (first_or_none c tallies)
@@ -69,7 +64,7 @@ at_place k n within = grind (arith, nat_tests)
 no_place : (k n : ℕ) → k ≡ n → cond (nat_lt k n) (Some k) None ≡ None
 no_place k n all = grind (arith, nat_tests)
 
-pub IsFirst-position : (c : Command) (tallies : List Tally) (at : ℕ) → position (is_tally_of c) tallies ≡ Some at
+pub IsFirst-position : (c : Command) (tallies : List TallyValue) (at : ℕ) → position (is_tally_of c) tallies ≡ Some at
     → IsFirst c tallies at
 IsFirst-position c tallies at is =
     let others = prefix_len (λ t. not (is_tally_of c t)) tallies in
@@ -83,7 +78,7 @@ IsFirst-position c tallies at is =
           absurd cc
     ]
 
-pub none-position : (c : Command) (tallies : List Tally) → position (is_tally_of c) tallies ≡ None
+pub none-position : (c : Command) (tallies : List TallyValue) → position (is_tally_of c) tallies ≡ None
     → list_any (is_tally_of c) tallies ≡ false
 none-position c tallies is =
     let others = prefix_len (λ t. not (is_tally_of c t)) tallies in
@@ -96,7 +91,7 @@ none-position c tallies is =
 
 -- The change of a tally.
 
-pub with_tally-found : (c : Command) (tallies : List Tally) (at : ℕ) → IsFirst c tallies at
+pub with_tally-found : (c : Command) (tallies : List TallyValue) (at : ℕ) → IsFirst c tallies at
     → tallies ≡ with_tally (λ t. t) c tallies
 unfolding with_tally
 with_tally-found c [] at first = absurd first
@@ -106,8 +101,8 @@ with_tally-found c (t ∷ tallies) (suc at) first =
     ap (λ ts. t ∷ ts) (with_tally-found c tallies at first.1)
     ∙ sym (ap (λ b. cond b (t ∷ tallies) (t ∷ with_tally (λ t. t) c tallies)) first.0)
 
-pub with_tally-new : (c : Command) (tallies : List Tally) → list_any (is_tally_of c) tallies ≡ false
-    → tallies ++ fresh c ∷ [] ≡ with_tally (λ t. t) c tallies
+pub with_tally-new : (c : Command) (tallies : List TallyValue) → list_any (is_tally_of c) tallies ≡ false
+    → tallies ++ no_names c ∷ [] ≡ with_tally (λ t. t) c tallies
 unfolding with_tally
 with_tally-new c [] none = refl
 with_tally-new c (t ∷ tallies) none =
@@ -115,14 +110,14 @@ with_tally-new c (t ∷ tallies) none =
     ap (λ ts. t ∷ ts) (with_tally-new c tallies apart.1)
     ∙ sym (ap (λ b. cond b (t ∷ tallies) (t ∷ with_tally (λ t. t) c tallies)) apart.0)
 
-pub IsFirst-new : (c : Command) (tallies : List Tally) → list_any (is_tally_of c) tallies ≡ false
-    → IsFirst c (tallies ++ fresh c ∷ []) (length tallies)
+pub IsFirst-new : (c : Command) (tallies : List TallyValue) → list_any (is_tally_of c) tallies ≡ false
+    → IsFirst c (tallies ++ no_names c ∷ []) (length tallies)
 IsFirst-new c [] none = same_command-refl c
 IsFirst-new c (t ∷ tallies) none =
     let apart = or_parts (is_tally_of c t) _ none in (apart.0, IsFirst-new c tallies apart.1)
 
 -- a write at the place of its tally changes that of c
-pub set-with_tally : (change : Tally → Tally) (c : Command) (tallies : List Tally) (at : ℕ) (d : Tally)
+pub set-with_tally : (change : TallyValue → TallyValue) (c : Command) (tallies : List TallyValue) (at : ℕ) (d : TallyValue)
     → IsFirst c tallies at → slice_set tallies at (change (get_or tallies at d)) ≡ with_tally change c tallies
 unfolding with_tally
 set-with_tally change c [] at d first = absurd first
@@ -132,11 +127,11 @@ set-with_tally change c (t ∷ tallies) (suc at) d first =
     ap (λ ts. t ∷ ts) (set-with_tally change c tallies at d first.1)
     ∙ sym (ap (λ b. cond b (change t ∷ tallies) (t ∷ with_tally change c tallies)) first.0)
 
-pub with_tally-again : (change : Tally → Tally) (c : Command) (tallies : List Tally)
+pub with_tally-again : (change : TallyValue → TallyValue) (c : Command) (tallies : List TallyValue)
     → with_tally change c (with_tally (λ t. t) c tallies) ≡ with_tally change c tallies
 unfolding with_tally
 with_tally-again change c [] =
-    ap (λ b. cond b (change (fresh c) ∷ []) (fresh c ∷ change (fresh c) ∷ [])) (same_command-refl c)
+    ap (λ b. cond b (change (no_names c) ∷ []) (no_names c ∷ change (no_names c) ∷ [])) (same_command-refl c)
 with_tally-again change c (t ∷ tallies) =
     by_tally (is_tally_of c t) refl (with_tally-again change c tallies)
   where
@@ -150,73 +145,73 @@ with_tally-again change c (t ∷ tallies) =
         (λ t. t) c tallies))) other
         ∙ ap (λ ts. t ∷ ts) rest
 
-pub names_for-at : (pick : Tally → Names) (c : Command) (tallies : List Tally) (at : ℕ) (d : Tally)
+pub names_for-at : (pick : TallyValue → Names) (c : Command) (tallies : List TallyValue) (at : ℕ) (d : TallyValue)
     → IsFirst c tallies at
-    → names_for c (map (λ (t : Tally). (t.command, pick t)) tallies) ≡ pick (get_or tallies at d)
+    → names_for c (map (λ (t : TallyValue). (t.command, pick t)) tallies) ≡ pick (get_or tallies at d)
 unfolding names_for
 names_for-at pick c [] at d first = absurd first
 names_for-at pick c (t ∷ tallies) zero d first =
-    ap (λ b. cond b (pick t) (names_for c (map (λ (t : Tally). (t.command, pick t)) tallies))) first
+    ap (λ b. cond b (pick t) (names_for c (map (λ (t : TallyValue). (t.command, pick t)) tallies))) first
 names_for-at pick c (t ∷ tallies) (suc at) d first =
-    ap (λ b. cond b (pick t) (names_for c (map (λ (t : Tally). (t.command, pick t)) tallies))) first.0
+    ap (λ b. cond b (pick t) (names_for c (map (λ (t : TallyValue). (t.command, pick t)) tallies))) first.0
     ∙ names_for-at pick c tallies at d first.1
 
 -- the tally of c is of c
-tally_at : (c : Command) (tallies : List Tally) (at : ℕ) (d : Tally) → IsFirst c tallies at
+tally_at : (c : Command) (tallies : List TallyValue) (at : ℕ) (d : TallyValue) → IsFirst c tallies at
     → is_tally_of c (get_or tallies at d) ≡ true
 tally_at c [] at d first = absurd first
 tally_at c (t ∷ tallies) zero d first = first
 tally_at c (t ∷ tallies) (suc at) d first = tally_at c tallies at d first.1
 
-IsFirst-set : (c : Command) (tallies : List Tally) (at : ℕ) (t : Tally) → IsFirst c tallies at → is_tally_of c t ≡ true
+IsFirst-set : (c : Command) (tallies : List TallyValue) (at : ℕ) (t : TallyValue) → IsFirst c tallies at → is_tally_of c t ≡ true
     → IsFirst c (slice_set tallies at t) at
 IsFirst-set c [] at t first same = absurd first
 IsFirst-set c (x ∷ tallies) zero t first same = same
 IsFirst-set c (x ∷ tallies) (suc at) t first same = (first.0, IsFirst-set c tallies at t first.1 same)
 
 -- how many names stand for c after a write of its tally
-pub support_in-set : (c : Command) (tallies : List Tally) (at : ℕ) (d t : Tally) → IsFirst c tallies at
+pub support_in-set : (c : Command) (tallies : List TallyValue) (at : ℕ) (d t : TallyValue) → IsFirst c tallies at
     → d ≡ get_or tallies at d → t.command ≡ d.command
     → support_in c (slice_set tallies at t) ≡ record { echoes = sets.len t.echoes; readies = sets.len t.readies }
 support_in-set c tallies at d t first read command =
     let same : is_tally_of c t ≡ true =
-    ap (same_command c) (command ∙ ap (λ (x : Tally). x.command) read) ∙ tally_at c tallies at d first in
+    ap (same_command c) (command ∙ ap (λ (x : TallyValue). x.command) read) ∙ tally_at c tallies at d first in
     let now = IsFirst-set c tallies at t first same in
     let there : get_or (slice_set tallies at t) at d ≡ t = get_or-set_same tallies at t d (within c tallies at first) in
     λ i. record {
       echoes =
-          (ap sets.len (names_for-at (λ (x : Tally). x.echoes) c (slice_set tallies at t) at d now)
-          ∙ ap (λ (x : Tally). sets.len x.echoes) there) i;
+          (ap sets.len (names_for-at (λ (x : TallyValue). x.echoes) c (slice_set tallies at t) at d now)
+          ∙ ap (λ (x : TallyValue). sets.len x.echoes) there) i;
       readies =
-          (ap sets.len (names_for-at (λ (x : Tally). x.readies) c (slice_set tallies at t) at d now)
-          ∙ ap (λ (x : Tally). sets.len x.readies) there) i;
+          (ap sets.len (names_for-at (λ (x : TallyValue). x.readies) c (slice_set tallies at t) at d now)
+          ∙ ap (λ (x : TallyValue). sets.len x.readies) there) i;
     }
 
 -- The rows of the changed tallies.
 
-rows-with_tally : (pick : Tally → Names) (change : Tally → Tally) (more : Names → Names) (c : Command) →
-    ((t : Tally) → (change t).command ≡ t.command) → ((t : Tally) → pick (change t) ≡ more (pick t)) →
-    pick (fresh c) ≡ sets.empty → (tallies : List Tally) →
-    map (λ (t : Tally). (t.command, pick t)) (with_tally change c tallies)
-    ≡ with_row more c (map (λ (t : Tally). (t.command, pick t)) tallies)
+rows-with_tally : (pick : TallyValue → Names) (change : TallyValue → TallyValue) (more : Names → Names) (c : Command) →
+    ((t : TallyValue) → (change t).command ≡ t.command) → ((t : TallyValue) → pick (change t) ≡ more (pick t)) →
+    pick (no_names c) ≡ sets.empty → (tallies : List TallyValue) →
+    map (λ (t : TallyValue). (t.command, pick t)) (with_tally change c tallies)
+    ≡ with_row more c (map (λ (t : TallyValue). (t.command, pick t)) tallies)
 unfolding with_tally
 rows-with_tally pick change more c command picked none [] = λ i.
-    (command (fresh c) i, (picked (fresh c) ∙ ap more none) i) ∷ []
+    (command (no_names c) i, (picked (no_names c) ∙ ap more none) i) ∷ []
 rows-with_tally pick change more c command picked none (t ∷ tallies) =
     by_tally (is_tally_of c t) (rows-with_tally pick change more c command picked none tallies)
   where
-    by_tally : (b : Bool) → map (λ (t : Tally). (t.command, pick t)) (with_tally change c tallies)
-        ≡ with_row more c (map (λ (t : Tally). (t.command, pick t)) tallies)
-        → map (λ (t : Tally). (t.command, pick t)) (cond b (change t ∷ tallies) (t ∷ with_tally change c tallies))
-        ≡ cond b ((t.command, more (pick t)) ∷ map (λ (t : Tally). (t.command, pick t)) tallies)
-        ((t.command, pick t) ∷ with_row more c (map (λ (t : Tally). (t.command, pick t)) tallies))
-    by_tally true rest = λ i. (command t i, picked t i) ∷ map (λ (t : Tally). (t.command, pick t)) tallies
+    by_tally : (b : Bool) → map (λ (t : TallyValue). (t.command, pick t)) (with_tally change c tallies)
+        ≡ with_row more c (map (λ (t : TallyValue). (t.command, pick t)) tallies)
+        → map (λ (t : TallyValue). (t.command, pick t)) (cond b (change t ∷ tallies) (t ∷ with_tally change c tallies))
+        ≡ cond b ((t.command, more (pick t)) ∷ map (λ (t : TallyValue). (t.command, pick t)) tallies)
+        ((t.command, pick t) ∷ with_row more c (map (λ (t : TallyValue). (t.command, pick t)) tallies))
+    by_tally true rest = λ i. (command t i, picked t i) ∷ map (λ (t : TallyValue). (t.command, pick t)) tallies
     by_tally false rest = ap (λ rows. (t.command, pick t) ∷ rows) rest
 
-commands-with_tally : (change : Tally → Tally) (c : Command) → ((t : Tally) → (change t).command ≡ t.command) →
-    (tallies : List Tally) → map command_in (with_tally change c tallies) ≡ with_command c (map command_in tallies)
+commands-with_tally : (change : TallyValue → TallyValue) (c : Command) → ((t : TallyValue) → (change t).command ≡ t.command) →
+    (tallies : List TallyValue) → map command_in (with_tally change c tallies) ≡ with_command c (map command_in tallies)
 unfolding with_tally with_command
-commands-with_tally change c command [] = ap (λ d. d ∷ []) (command (fresh c))
+commands-with_tally change c command [] = ap (λ d. d ∷ []) (command (no_names c))
 commands-with_tally change c command (t ∷ tallies) =
     by_tally (is_tally_of c t) (list_any (same_command c) (map command_in tallies))
     (commands-with_tally change c command tallies)
@@ -353,24 +348,24 @@ AreTallies-none = record {
   voted = subst AreVoted (sym tallied-none) AreVoted-none;
 }
 
-echo_rows : (p : ℕ) (c : Command) (tallies : List Tally)
+echo_rows : (p : ℕ) (c : Command) (tallies : List TallyValue)
     → map echo_row (with_tally (echoed_by p) c tallies) ≡ with_row (with_name p) c (map echo_row tallies)
 echo_rows p c = rows-with_tally (λ t. t.echoes) (echoed_by p) (with_name p) c (λ t. refl) (λ t. refl) refl
 
-echo_rows_of_readies : (p : ℕ) (c : Command) (tallies : List Tally)
+echo_rows_of_readies : (p : ℕ) (c : Command) (tallies : List TallyValue)
     → map ready_row (with_tally (echoed_by p) c tallies) ≡ with_row unchanged c (map ready_row tallies)
 echo_rows_of_readies p c = rows-with_tally (λ t. t.readies) (echoed_by p) unchanged c (λ t. refl) (λ t. refl) refl
 
-ready_rows : (p : ℕ) (c : Command) (tallies : List Tally)
+ready_rows : (p : ℕ) (c : Command) (tallies : List TallyValue)
     → map ready_row (with_tally (ready_by p) c tallies) ≡ with_row (with_name p) c (map ready_row tallies)
 ready_rows p c = rows-with_tally (λ t. t.readies) (ready_by p) (with_name p) c (λ t. refl) (λ t. refl) refl
 
-ready_rows_of_echoes : (p : ℕ) (c : Command) (tallies : List Tally)
+ready_rows_of_echoes : (p : ℕ) (c : Command) (tallies : List TallyValue)
     → map echo_row (with_tally (ready_by p) c tallies) ≡ with_row unchanged c (map echo_row tallies)
 ready_rows_of_echoes p c = rows-with_tally (λ t. t.echoes) (ready_by p) unchanged c (λ t. refl) (λ t. refl) refl
 
 -- one more ECHO
-pub tallied-echo : (tallies : List Tally) (p : ℕ) (c : Command) → maps.get (tallied tallies).echoes p ≡ None
+pub tallied-echo : (tallies : List TallyValue) (p : ℕ) (c : Command) → maps.get (tallied tallies).echoes p ≡ None
     → tallied (with_tally (echoed_by p) c tallies) ≡ with_echo (tallied tallies) p c
 unfolding tallied
 tallied-echo tallies p c none = λ i. record {
@@ -379,7 +374,7 @@ tallied-echo tallies p c none = λ i. record {
   commands = commands-with_tally (echoed_by p) c (λ t. refl) tallies i;
 }
 
-pub AreTallies-echo : (tallies : List Tally) (p : ℕ) (c : Command) → maps.get (tallied tallies).echoes p ≡ None
+pub AreTallies-echo : (tallies : List TallyValue) (p : ℕ) (c : Command) → maps.get (tallied tallies).echoes p ≡ None
     → AreTallies tallies → AreTallies (with_tally (echoed_by p) c tallies)
 unfolding tallied
 AreTallies-echo tallies p c none are = record {
@@ -391,7 +386,7 @@ AreTallies-echo tallies p c none are = record {
 }
 
 -- one more READY
-pub tallied-ready : (tallies : List Tally) (p : ℕ) (c : Command) → maps.get (tallied tallies).readies p ≡ None
+pub tallied-ready : (tallies : List TallyValue) (p : ℕ) (c : Command) → maps.get (tallied tallies).readies p ≡ None
     → tallied (with_tally (ready_by p) c tallies) ≡ with_ready (tallied tallies) p c
 unfolding tallied
 tallied-ready tallies p c none = λ i. record {
@@ -400,7 +395,7 @@ tallied-ready tallies p c none = λ i. record {
   commands = commands-with_tally (ready_by p) c (λ t. refl) tallies i;
 }
 
-pub AreTallies-ready : (tallies : List Tally) (p : ℕ) (c : Command) → maps.get (tallied tallies).readies p ≡ None
+pub AreTallies-ready : (tallies : List TallyValue) (p : ℕ) (c : Command) → maps.get (tallied tallies).readies p ≡ None
     → AreTallies tallies → AreTallies (with_tally (ready_by p) c tallies)
 unfolding tallied
 AreTallies-ready tallies p c none are = record {
@@ -412,7 +407,7 @@ AreTallies-ready tallies p c none are = record {
 }
 
 -- a command has as many supporters as names
-pub support_of-tallied : (c : Command) (tallies : List Tally) → AreTallies tallies
+pub support_of-tallied : (c : Command) (tallies : List TallyValue) → AreTallies tallies
     → support_in c tallies ≡ support_of (tallied tallies) c
 unfolding tallied
 support_of-tallied c tallies are = λ i. record {
@@ -420,6 +415,6 @@ support_of-tallied c tallies are = λ i. record {
   readies = sets.len (sym (are.readies c) i);
 }
 
-pub length-tallied : (tallies : List Tally) → length (tallied tallies).commands ≡ length tallies
+pub length-tallied : (tallies : List TallyValue) → length (tallied tallies).commands ≡ length tallies
 unfolding tallied
 length-tallied tallies = length-map tallies command_in

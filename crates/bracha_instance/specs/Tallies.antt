@@ -1,7 +1,7 @@
 -- How an instance keeps its votes: for each command that has one, the names of those that echoed it and of those
 -- that are ready for it. Serves the models of the code, and no contract.
 use Rattle.std.specs.Prelude.{◌≡◌, ◌≢◌, ◌<◌, ℕ, zero, suc, ◌+◌, Bool, true, false}
-use Rattle.std.specs.Prelude.{if◌then◌else◌, List, [], ◌∷◌, ◌++◌, map, All, AllPairs, refl}
+use Rattle.std.specs.Prelude.{Option, Some, None, if◌then◌else◌, List, [], ◌∷◌, ◌++◌, map, All, AllPairs, refl}
 use Rattle.std.specs.Coded.{Coded, code_by, coded×, coded_list}
 use Rattle.std.specs.List.{list_any}
 use Rattle.std.specs.FinMap as maps
@@ -10,10 +10,15 @@ use Rattle.role_commands.specs.Same.{same_command}
 use Rattle.role_commands.specs.declared.command.Command.{Command}
 use Rattle.bracha_instance.specs.Broadcast.{Names}
 use Rattle.bracha_instance.specs.States.{Votes}
-use Rattle.bracha_instance.specs.Kept.{command_code, votes_code}
+use Rattle.bracha_instance.specs.Kept.{command_code, names_code, votes_code}
 use Rattle.bracha_instance.specs.Next.{supporters_in}
-use Rattle.bracha_instance.specs.declared.tallies.Tally.{Tally}
 use Rattle.bracha_instance.specs.declared.tallies.Support.{Support}
+
+-- a command, with the names of its votes of both kinds
+pub record TallyValue : Type 0 where
+  pub command : Command
+  pub echoes : Names
+  pub readies : Names
 
 -- the votes of both kinds, and the commands that have one, in the order of their first votes
 pub record Tallied : Type 0 where
@@ -55,10 +60,10 @@ pub record AreVoted (v : Tallied) : Type 0 where
 abbrev pub Row : Type 0
 Row = Command × Names
 
-abbrev pub echo_row : Tally → Row
+abbrev pub echo_row : TallyValue → Row
 echo_row t = (t.command, t.echoes)
 
-abbrev pub ready_row : Tally → Row
+abbrev pub ready_row : TallyValue → Row
 ready_row t = (t.command, t.readies)
 
 -- each of the names votes for c
@@ -80,39 +85,43 @@ names_for c (row ∷ rows) = if same_command c row.0 then row.1 else names_for c
 abbrev pub RowsAgree : List Row → Type 0
 RowsAgree rows = (c : Command) → supporters_in c (votes_in rows) ≡ names_for c rows
 
-abbrev pub command_in : Tally → Command
+abbrev pub command_in : TallyValue → Command
 command_in t = t.command
 
-abbrev pub is_tally_of : Command → Tally → Bool
+abbrev pub is_tally_of : Command → TallyValue → Bool
 is_tally_of c t = same_command c t.command
 
 -- the first tally of c is at this place
-abbrev pub IsFirst : Command → List Tally → ℕ → Type 0
+abbrev pub IsFirst : Command → List TallyValue → ℕ → Type 0
 IsFirst c [] at = ⊥
 IsFirst c (t ∷ tallies) zero = is_tally_of c t ≡ true
 IsFirst c (t ∷ tallies) (suc at) = (is_tally_of c t ≡ false) × IsFirst c tallies at
 
+-- a tally without a name
+abbrev pub no_names : Command → TallyValue
+no_names c = record { command = c; echoes = sets.empty; readies = sets.empty }
+
 -- the tallies, with a change of that of c, which is new where there is none
-unfoldable pub with_tally : (Tally → Tally) → Command → List Tally → List Tally
-with_tally change c [] = change (record { command = c; echoes = sets.empty; readies = sets.empty }) ∷ []
+unfoldable pub with_tally : (TallyValue → TallyValue) → Command → List TallyValue → List TallyValue
+with_tally change c [] = change (no_names c) ∷ []
 with_tally change c (t ∷ tallies) =
     if is_tally_of c t then change t ∷ tallies else t ∷ with_tally change c tallies
 
-abbrev pub echoed_by : ℕ → Tally → Tally
+abbrev pub echoed_by : ℕ → TallyValue → TallyValue
 echoed_by name t = record t { echoes = sets.insert t.echoes name }
 
-abbrev pub ready_by : ℕ → Tally → Tally
+abbrev pub ready_by : ℕ → TallyValue → TallyValue
 ready_by name t = record t { readies = sets.insert t.readies name }
 
 -- how many names the tally of c has
-abbrev pub support_in : Command → List Tally → Support
+abbrev pub support_in : Command → List TallyValue → Support
 support_in c tallies =
     record {
       echoes = sets.len (names_for c (map echo_row tallies));
       readies = sets.len (names_for c (map ready_row tallies));
     }
 
-unfoldable pub tallied : List Tally → Tallied
+unfoldable pub tallied : List TallyValue → Tallied
 tallied tallies =
     record {
       echoes = votes_in (map echo_row tallies);
@@ -120,12 +129,46 @@ tallied tallies =
       commands = map command_in tallies;
     }
 
-pub record AreTallies (tallies : List Tally) : Type 0 where
+pub record AreTallies (tallies : List TallyValue) : Type 0 where
   pub echoes : RowsAgree (map echo_row tallies)
   pub readies : RowsAgree (map ready_row tallies)
   pub voted : AreVoted (tallied tallies)
 
--- they are stored as their fields
+-- how many names a tally has
+abbrev pub names_in_tally : TallyValue → Support
+names_in_tally t = record { echoes = sets.len t.echoes; readies = sets.len t.readies }
+
+-- the tally of the command whose vote came first, with those of the others
+abbrev pub all_of : Option TallyValue → List TallyValue → List TallyValue
+all_of None others = others
+all_of (Some t) others = t ∷ others
+
+-- the first tally is of another command
+abbrev pub IsOther : Command → Option TallyValue → Type 0
+IsOther c None = ⊥
+IsOther c (Some t) = is_tally_of c t ≡ false
+
+-- the first tally was of c, or there was none, and now it is changed; it has these many names
+abbrev pub IsFirstChanged : (TallyValue → TallyValue) → Command → Option TallyValue → Option TallyValue → Support
+    → Type 0
+IsFirstChanged change c None new support =
+    (new ≡ Some (change (no_names c))) × (support ≡ names_in_tally (change (no_names c)))
+IsFirstChanged change c (Some t) new support =
+    (is_tally_of c t ≡ true) × (new ≡ Some (change t)) × (support ≡ names_in_tally (change t))
+
+-- the commands are kept as they should be, and there is a first where there are others
+pub record AreKept (first : Option TallyValue) (others : List TallyValue) : Type 0 where
+  pub tallies : AreTallies (all_of first others)
+  pub none : first ≡ None → others ≡ []
+
+-- both are stored as their fields
+abbrev pub tally_code : Coded TallyValue
+tally_code =
+    code_by (Command × (Names × Names)) (coded× command_code (coded× names_code names_code))
+    (λ t. (t.command, (t.echoes, t.readies)))
+    (λ p. record { command = p.0; echoes = p.1.0; readies = p.1.1 })
+    (λ _. refl)
+
 abbrev pub tallied_code : Coded Tallied
 tallied_code =
     code_by (Votes × (Votes × List Command)) (coded× votes_code (coded× votes_code (coded_list command_code)))

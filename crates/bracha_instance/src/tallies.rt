@@ -1,23 +1,40 @@
 //! The votes of an instance, by command.
 
-ghost use Rattle.std.specs.Prelude.{◌≡◌, length, None, Some, position, IfOk, OnOk, OnErr};
+ghost use Rattle.std.specs.Prelude.{◌≡◌, length, None, Some, position, IfOk, IfSome, IfNone, OnOk, OnErr};
 ghost use Rattle.std.specs.FinMap as maps;
 ghost use Rattle.std.specs.FinSet as sets;
 ghost use Rattle.role_commands.specs.Same.{same_command};
 ghost use Rattle.bracha_instance.specs.Tallies.{no_votes, with_echo, with_ready, support_of, AreVoted};
 ghost use Rattle.bracha_instance.specs.Tallies.{is_tally_of, IsFirst, with_tally, echoed_by, ready_by, support_in};
+ghost use Rattle.bracha_instance.specs.Tallies.{no_names, names_in_tally, IsFirstChanged, IsOther};
 
 use quorum_sizes::{NodeName, NodeSet};
 use role_commands::Command;
 use std::alloc::{AllocError, Global};
 use std::marker::Model;
 
-/// The names of the nodes whose vote is for a command.
-#[derive(Clone, Copy)]
+/// The names of the nodes whose vote is for a command, and how many these are.
+#[derive(Drop)]
 struct Tally {
     command: Command,
+    echo_count: u8,
+    ready_count: u8,
     echoes: NodeSet,
     readies: NodeSet,
+}
+
+impl Model for Tally {
+    ghost use Rattle.std.specs.Prelude.{◌≡◌};
+    ghost use Rattle.std.specs.FinSet as sets;
+    ghost use Rattle.bracha_instance.specs.Tallies.{TallyValue, tally_code};
+
+    ghost Value = { TallyValue };
+
+    ghost coded = { tally_code };
+
+    ghost view = { λ a. record { command = a.command; echoes = a.echoes; readies = a.readies } };
+
+    ghost invariant = { λ a. (a.echo_count ≡ sets.len a.echoes) × (a.ready_count ≡ sets.len a.readies) };
 }
 
 /// How many nodes echoed a command, and how many are ready for it.
@@ -28,32 +45,80 @@ pub struct Support {
 }
 
 /// The votes of an instance: for each command that has one, the names of its ECHOs and of its READYs.
+///
+/// Unless nodes lie there is one such command, whose tally needs no memory of its own.
 #[derive(Drop)]
 pub struct Tallies {
-    tallies: Vec<Tally>,
+    first: Option<Tally>,
+    others: Vec<Tally>,
 }
 
 impl Model for Tallies {
-    ghost use Rattle.bracha_instance.specs.Tallies.{Tallied, tallied_code, tallied, AreTallies};
+    ghost use Rattle.bracha_instance.specs.Tallies.{Tallied, tallied_code, tallied, all_of, AreKept};
 
     ghost Value = { Tallied };
 
     ghost coded = { tallied_code };
 
-    ghost view = { λ a. tallied a.tallies.items };
+    ghost view = { λ a. tallied (all_of a.first a.others.items) };
 
-    ghost invariant = { λ a. AreTallies a.tallies.items };
+    ghost invariant = { λ a. AreKept a.first a.others.items };
 }
 
 impl Tally {
+    /// The tally of a command that has no vote.
+    #[inline(always)]
+    fn new(command: Command) -> Self
+        ensures { result ≡ no_names command }
+    {
+        Tally {
+            command,
+            echo_count: 0,
+            ready_count: 0,
+            echoes: NodeSet::new(),
+            readies: NodeSet::new(),
+        }
+    }
+
+    /// Whether it is the tally of this command.
+    #[inline(always)]
+    fn is_of(&self, command: Command) -> bool
+        ensures { result ≡ is_tally_of command self.now }
+    {
+        is_same(&command, &self.command)
+    }
+
+    /// Adds a name to the ECHOs. How many nodes support the command then.
+    #[inline(always)]
+    fn add_echo(&mut self, name: NodeName) -> Support
+        ensures tally { self.new ≡ echoed_by name self.old }
+        ensures support { result ≡ names_in_tally self.new }
+    {
+        if self.echoes.insert(name) {
+            self.echo_count += 1;
+        }
+        self.support()
+    }
+
+    /// Adds a name to the READYs. How many nodes support the command then.
+    #[inline(always)]
+    fn add_ready(&mut self, name: NodeName) -> Support
+        ensures tally { self.new ≡ ready_by name self.old }
+        ensures support { result ≡ names_in_tally self.new }
+    {
+        if self.readies.insert(name) {
+            self.ready_count += 1;
+        }
+        self.support()
+    }
+
     #[inline(always)]
     fn support(&self) -> Support
-        ensures echoes { result.echoes ≡ sets.len self.now.echoes }
-        ensures readies { result.readies ≡ sets.len self.now.readies }
+        ensures { result ≡ names_in_tally self.now }
     {
         Support {
-            echoes: self.echoes.len(),
-            readies: self.readies.len(),
+            echoes: usize::from(self.echo_count),
+            readies: usize::from(self.ready_count),
         }
     }
 }
@@ -98,28 +163,13 @@ fn is_same(a: &Command, b: &Command) -> bool
 }
 
 /// The place of the command's tally.
-#[inline(always)]
 fn place_of(tallies: &[Tally], command: Command) -> Option<usize>
     ensures { result ≡ position (is_tally_of command) tallies.now }
 {
-    if is_same(&command, &tallies.first()?.command) {
-        return Some(0);
-    }
-    place_among(tallies, command)
-}
-
-/// The place of the command's tally, where it is not the first.
-#[inline(never)]
-fn place_among(tallies: &[Tally], command: Command) -> Option<usize>
-    ensures { result ≡ position (is_tally_of command) tallies.now }
-{
-    tallies
-        .iter()
-        .position(|tally| is_same(&command, &tally.command))
+    tallies.iter().position(|tally| tally.is_of(command))
 }
 
 /// The place of the command's tally, which is made where there is none.
-#[inline(always)]
 fn tally_of(tallies: &mut Vec<Tally>, command: Command) -> Result<usize, AllocError>
     ensures place { IfOk result (λ at. IsFirst command tallies.new.items at) }
     ensures tallies { OnOk result (tallies.new.items ≡ with_tally (λ t. t) command tallies.old.items) }
@@ -132,7 +182,6 @@ fn tally_of(tallies: &mut Vec<Tally>, command: Command) -> Result<usize, AllocEr
 }
 
 /// Adds the tally of a command that has none. Its place.
-#[inline(never)]
 fn add_tally(tallies: &mut Vec<Tally>, command: Command) -> Result<usize, AllocError>
     requires { position (is_tally_of command) tallies.old.items ≡ None }
     ensures place { IfOk result (λ at. IsFirst command tallies.new.items at) }
@@ -140,16 +189,12 @@ fn add_tally(tallies: &mut Vec<Tally>, command: Command) -> Result<usize, AllocE
     ensures err { OnErr result (tallies.new.items ≡ tallies.old.items) }
 {
     let at = tallies.len();
-    tallies.push(Tally {
-        command,
-        echoes: NodeSet::new(),
-        readies: NodeSet::new(),
-    })?;
+    tallies.push(Tally::new(command))?;
     Ok(at)
 }
 
 /// Adds a name to the ECHOs for a command. How many nodes support it then.
-#[inline(always)]
+#[inline(never)]
 fn add_echo(
     tallies: &mut Vec<Tally>,
     name: NodeName,
@@ -160,13 +205,11 @@ fn add_echo(
     ensures err { OnErr result (tallies.new.items ≡ tallies.old.items) }
 {
     let at = tally_of(tallies, command)?;
-    let tally = &mut tallies[at];
-    tally.echoes.insert(name);
-    Ok(tally.support())
+    Ok(tallies[at].add_echo(name))
 }
 
 /// Adds a name to the READYs for a command. How many nodes support it then.
-#[inline(always)]
+#[inline(never)]
 fn add_ready(
     tallies: &mut Vec<Tally>,
     name: NodeName,
@@ -177,9 +220,54 @@ fn add_ready(
     ensures err { OnErr result (tallies.new.items ≡ tallies.old.items) }
 {
     let at = tally_of(tallies, command)?;
-    let tally = &mut tallies[at];
-    tally.readies.insert(name);
-    Ok(tally.support())
+    Ok(tallies[at].add_ready(name))
+}
+
+/// Adds a name to the ECHOs of the first command, which this is where there is none yet. How many nodes support it
+/// then; `None`, which changes nothing, where the first is another.
+#[inline(always)]
+fn echo_first(first: &mut Option<Tally>, name: NodeName, command: Command) -> Option<Support>
+    ensures some { IfSome result (IsFirstChanged (echoed_by name) command first.old first.new) }
+    ensures none { IfNone result (IsOther command first.old × (first.new ≡ first.old)) }
+{
+    match first {
+        Some(tally) => {
+            if tally.is_of(command) {
+                Some(tally.add_echo(name))
+            } else {
+                None
+            }
+        }
+        None => {
+            let mut tally = Tally::new(command);
+            let support = tally.add_echo(name);
+            *first = Some(tally);
+            Some(support)
+        }
+    }
+}
+
+/// Adds a name to the READYs of the first command, as [`echo_first`] does.
+#[inline(always)]
+fn ready_first(first: &mut Option<Tally>, name: NodeName, command: Command) -> Option<Support>
+    ensures some { IfSome result (IsFirstChanged (ready_by name) command first.old first.new) }
+    ensures none { IfNone result (IsOther command first.old × (first.new ≡ first.old)) }
+{
+    match first {
+        Some(tally) => {
+            if tally.is_of(command) {
+                Some(tally.add_ready(name))
+            } else {
+                None
+            }
+        }
+        None => {
+            let mut tally = Tally::new(command);
+            let support = tally.add_ready(name);
+            *first = Some(tally);
+            Some(support)
+        }
+    }
 }
 
 impl Tallies {
@@ -188,7 +276,8 @@ impl Tallies {
         ensures { result ≡ no_votes }
     {
         Tallies {
-            tallies: Vec::new(alloc),
+            first: None,
+            others: Vec::new(alloc),
         }
     }
 
@@ -204,7 +293,10 @@ impl Tallies {
         ensures support { IfOk result (λ support. support ≡ support_of self.new command) }
         ensures err { OnErr result (self.new ≡ self.old) }
     {
-        let support = add_echo(&mut self.tallies, name, command)?;
+        if let Some(support) = echo_first(&mut self.first, name, command) {
+            return Ok(support);
+        }
+        let support = add_echo(&mut self.others, name, command)?;
         Ok(support)
     }
 
@@ -220,7 +312,10 @@ impl Tallies {
         ensures support { IfOk result (λ support. support ≡ support_of self.new command) }
         ensures err { OnErr result (self.new ≡ self.old) }
     {
-        let support = add_ready(&mut self.tallies, name, command)?;
+        if let Some(support) = ready_first(&mut self.first, name, command) {
+            return Ok(support);
+        }
+        let support = add_ready(&mut self.others, name, command)?;
         Ok(support)
     }
 
@@ -228,8 +323,9 @@ impl Tallies {
     pub fn forget(&mut self)
         ensures { self.new ≡ no_votes }
     {
-        let alloc = *self.tallies.allocator();
-        self.tallies = Vec::new(alloc);
+        let alloc = *self.others.allocator();
+        self.first = None;
+        self.others = Vec::new(alloc);
     }
 
     /// How many commands have a vote.
@@ -237,6 +333,9 @@ impl Tallies {
         ensures commands { AreVoted self.now }
         ensures len { result ≡ length self.now.commands }
     {
-        self.tallies.len()
+        match self.first {
+            Some(_) => 1 + self.others.len(),
+            None => self.others.len(),
+        }
     }
 }

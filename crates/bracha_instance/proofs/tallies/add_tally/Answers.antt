@@ -1,7 +1,7 @@
-use Rattle.std.proofs.Common.{◌≡◌, false, [], ◌∷◌, ◌++◌, length, sym, ◌∙◌, subst, arith}
+use Rattle.std.proofs.Common.{◌≡◌, false, [], ◌∷◌, ◌++◌, length, sym, ap, ◌∙◌, subst, arith}
 use Rattle.std.specs.List.{list_any}
-use Rattle.bracha_instance.specs.Tallies.{is_tally_of, IsFirst}
-use Rattle.bracha_instance.proofs.TallyLemmas.{fresh, none-position, IsFirst-new, with_tally-new}
+use Rattle.bracha_instance.specs.Tallies.{no_names, is_tally_of, IsFirst}
+use Rattle.bracha_instance.proofs.TallyLemmas.{none-position, IsFirst-new, with_tally-new}
 use Rattle.bracha_instance.proofs.tallies.add_tally.Goals as goal
 use Rattle.bracha_instance.proofs.tallies.add_tally.Goals.{In_ok-push}
 
@@ -10,11 +10,8 @@ none_there c =
     none-position c.args.command c.args.tallies.now.items c.requires
 
 -- the tallies with a new one
-pushed : (c : In_ok-push) → c.push.new.self.items ≡ c.args.tallies.now.items ++ fresh c.args.command ∷ []
-pushed c =
-    c.in_ok-push.ensures.items
-    ∙ (λ i. c.args.tallies.now.items
-    ++ (record { command = c.args.command; echoes = c.new.ensures i; readies = c.new-2.ensures i }) ∷ [])
+pushed : (c : In_ok-push) → c.push.new.self.items ≡ c.args.tallies.now.items ++ no_names c.args.command ∷ []
+pushed c = c.in_ok-push.ensures.items ∙ ap (λ t. c.args.tallies.now.items ++ t ∷ []) c.new.ensures
 
 pub returns-clause-place : goal.returns-clause-place
 returns-clause-place c =

@@ -4,7 +4,10 @@ use Rattle.bracha_instance.proofs.TallyLemmas.{tallied-none, AreTallies-none}
 use Rattle.bracha_instance.proofs.tallies.Tallies.forget.Goals as goal
 
 pub invariant_of-self : goal.invariant_of-self
-invariant_of-self c = subst AreTallies (sym c.new.ensures.items) AreTallies-none
+invariant_of-self c = record {
+  tallies = subst AreTallies (sym c.new.ensures.items) AreTallies-none;
+  none = λ _. c.new.ensures.items;
+}
 
 pub returns : goal.returns
 returns c = ap tallied c.new.ensures.items ∙ tallied-none
