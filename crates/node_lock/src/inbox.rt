@@ -222,7 +222,7 @@ impl Inbox {
         Ok((Inbox { queue }, made))
     }
 
-    /// Puts a job at the end. The pass must be of this inbox.
+    /// Puts a job. The pass must be of this inbox.
     ///
     /// # Errors
     ///

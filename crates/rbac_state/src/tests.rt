@@ -295,8 +295,14 @@ fn due(alloc: Global, left: &[u32]) -> Result<Vec<u32>, AllocError> {
     Ok(users)
 }
 
-fn check_users(rt: &impl Abort, policy: &Policy, role: u16, due: &[u32]) -> Result<(), Fail> {
-    check_row(rt, 0, policy.assigned_users(role)?.as_slice(), due);
+fn check_users(
+    rt: &impl Abort,
+    row: usize,
+    policy: &Policy,
+    role: u16,
+    due: &[u32],
+) -> Result<(), Fail> {
+    check_row(rt, row, policy.assigned_users(role)?.as_slice(), due);
     Ok(())
 }
 
@@ -305,10 +311,10 @@ fn check_users(rt: &impl Abort, policy: &Policy, role: u16, due: &[u32]) -> Resu
 fn many_users_in_order(rt: HostRuntime) -> Result<(), Fail> {
     let mut policy = Policy::new(rt.alloc(), roles(rt.alloc())?);
     assign_scattered(&mut policy)?;
-    check_users(&rt, &policy, 2, &due(rt.alloc(), &[0, 2])?)?;
-    check_users(&rt, &policy, 3, &due(rt.alloc(), &[1, 3])?)?;
+    check_users(&rt, 0, &policy, 2, &due(rt.alloc(), &[0, 2])?)?;
+    check_users(&rt, 1, &policy, 3, &due(rt.alloc(), &[1, 3])?)?;
     deassign_scattered(&mut policy)?;
     apply_all(&mut policy, &[(0, Command::Clear { role: 2 })])?;
-    check_users(&rt, &policy, 2, &[])?;
-    check_users(&rt, &policy, 3, &due(rt.alloc(), &[3])?)
+    check_users(&rt, 2, &policy, 2, &[])?;
+    check_users(&rt, 3, &policy, 3, &due(rt.alloc(), &[3])?)
 }
