@@ -2,6 +2,7 @@
 
 use super::*;
 use std::alloc::Global;
+use std::io;
 use std::io::{ErrorKind, Read, Write};
 use std::test::Fail;
 
@@ -10,12 +11,17 @@ fn answers_are_handed_on(rt: HostRuntime) -> Result<(), Fail> {
     let mut buf = [0u8; 4];
     let broken = Faulty::new(b"abcdef".as_slice(), Mishap::Fail, 0, 1);
     let mut reader = Watched::new(Faulty::new(broken, Mishap::Interrupt, 0, 2));
-    for kind in [
+    let kinds = [
         ErrorKind::Interrupted,
         ErrorKind::Interrupted,
         ErrorKind::TimedOut,
-    ] {
-        assert!(rt; matches!(reader.read(&mut buf), Err(e) if e.kind() == kind));
+    ];
+    for (row, due) in kinds.into_iter().enumerate() {
+        let came = reader.read(&mut buf).map_err(|error| error.kind());
+        assert!(rt;
+            came == Err(due),
+            "read {row}: {due:?} is due, not {came:?}"
+        );
     }
     assert!(rt; matches!(reader.read(&mut buf), Ok(4)));
     assert!(rt; buf == *b"abcd");
@@ -26,12 +32,61 @@ fn answers_are_handed_on(rt: HostRuntime) -> Result<(), Fail> {
 #[test]
 fn a_writer_goes_wrong(rt: HostRuntime) -> Result<(), Fail> {
     let mut writer = Faulty::new(Vec::new(rt.alloc()), Mishap::Short, 1, 1);
-    for (text, due) in [(b"ab", 2), (b"cd", 1)] {
-        assert!(rt; matches!(writer.write(text), Ok(n) if n == due));
+    for (row, (text, due)) in [(b"ab", 2), (b"cd", 1)].into_iter().enumerate() {
+        let came = writer.write(text).map_err(|error| error.kind());
+        assert!(rt;
+            came == Ok(due),
+            "write {row}: {due} bytes are due, not {came:?}"
+        );
     }
     assert!(rt; writer.flush().is_ok() && writer.made() == 2);
     assert!(rt; writer.inner().as_slice() == b"abc".as_slice());
     Ok(())
+}
+
+/// A reader that fills the buffer and answers that time ran out all the same.
+#[derive(Drop)]
+struct FillsAndFails;
+
+impl Read for FillsAndFails {
+    fn read(&mut self, buf: &mut [u8]) -> io::Result<usize> {
+        buf.fill(7);
+        Err(io::Error::from(ErrorKind::TimedOut))
+    }
+}
+
+/// A writer that takes all, and whose flush answers that the pipe is broken.
+#[derive(Drop)]
+struct FlushFails;
+
+impl Write for FlushFails {
+    fn write(&mut self, buf: &[u8]) -> io::Result<usize> {
+        Ok(buf.len())
+    }
+
+    fn flush(&mut self) -> io::Result<()> {
+        Err(io::Error::from(ErrorKind::BrokenPipe))
+    }
+}
+
+/// The buffer comes back as the reader left it, and a flush that fails is no failed write.
+#[test]
+fn failures_are_handed_on(rt: HostRuntime) {
+    let mut buf = [0u8; 4];
+    let mut reader = Watched::new(FillsAndFails);
+    let came = reader.read(&mut buf).map_err(|error| error.kind());
+    assert!(rt;
+        came == Err(ErrorKind::TimedOut) && buf == [7; 4],
+        "{came:?}, {buf:?}"
+    );
+    assert!(rt; reader.reads() == 1 && reader.faults() == 1 && reader.breaks() == 1);
+
+    let mut writer = Watched::new(FlushFails);
+    let came = writer.write(b"ab").map_err(|error| error.kind());
+    assert!(rt; came == Ok(2), "{came:?}");
+    let came = writer.flush().map_err(|error| error.kind());
+    assert!(rt; came == Err(ErrorKind::BrokenPipe), "{came:?}");
+    assert!(rt; writer.faults() == 0 && writer.breaks() == 0);
 }
 
 /// Mishaps of so many calls, and whether a reader and a writer get through them.

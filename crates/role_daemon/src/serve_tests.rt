@@ -28,8 +28,9 @@ where
     Ok(ports)
 }
 
-/// Whether a node alone answers as it must, whatever else comes to its port for peers.
-fn talk_to_one<R>(rt: &R, alloc: Global, peers: u16, client: u16) -> Result<bool, Fail>
+/// What is wrong with a node's answers, which are as they must be whatever else comes to its port for peers; nothing if
+/// nothing is.
+fn talk_to_one<R>(rt: &R, alloc: Global, peers: u16, client: u16) -> Result<String, Fail>
 where
     R: Net<Listener = TcpListener, Stream = TcpStream> + Clock,
 {
@@ -39,8 +40,8 @@ where
     let mut zeros = connected(rt, peers)?;
     zeros.write_all(&[0; FRAME_LEN])?;
     let stream = connected(rt, client)?;
-    let mut right = true;
-    for (line, due) in [
+    let mut wrong = String::new(alloc);
+    let rows = [
         (
             b"{\"op\":\"open\",\"user\":7}\n".as_slice(),
             "{\"session\":1}\n",
@@ -54,36 +55,48 @@ where
             "{\"issued\":0,\"reach\":0}\n",
         ),
         (STOP, "{\"stopped\":true}\n"),
-    ] {
-        right &= ask(alloc, &stream, line)?.as_str() == due;
+    ];
+    for (row, (line, due)) in rows.into_iter().enumerate() {
+        let came = ask(alloc, &stream, line)?;
+        if came.as_str() != due {
+            wrong.push_str(&format!(in alloc; "row {row}: {due:?} is due, not {came:?}; ")?)?;
+        }
     }
-    Ok(right)
+    Ok(wrong)
 }
 
-/// Whether a node alone serves and stops, and does not serve where another listens.
-fn one_node<R>(rt: &R, alloc: Global) -> Result<bool, Fail>
+/// What is wrong with a node alone, which serves and stops, and does not serve where another listens; nothing if nothing
+/// is.
+fn one_node<R>(rt: &R, alloc: Global) -> Result<String, Fail>
 where
     R: Net<Listener = TcpListener, Stream = TcpStream> + Threads + Wait + Clock + Sync,
 {
     let ports = free_ports(rt, alloc, 2)?;
     let (peers, client) = match ports.as_slice() {
         [peers, client] => (*peers, *client),
-        _ => return Ok(false),
+        _ => return Err("no ports".into()),
     };
     let text = text_of(alloc, 0, 0, &[peers], client)?;
     let shown = text.as_str();
-    let right = thread::scope(thread::scope_env(), rt, |scope| -> Result<bool, Fail> {
+    let mut wrong = thread::scope(thread::scope_env(), rt, |scope| -> Result<String, Fail> {
         let server = scope.spawn(move || serve_text(rt, alloc, shown))?;
-        let right = talk_to_one(rt, alloc, peers, client)?;
-        Ok(right && server.join(rt) == 0)
+        let mut wrong = talk_to_one(rt, alloc, peers, client)?;
+        if server.join(rt) != 0 {
+            wrong.push_str("it did not end well; ")?;
+        }
+        Ok(wrong)
     })?;
     let _held = TcpListener::bind(rt, local(client))?;
-    Ok(right && serve_text(rt, alloc, &text) == 4)
+    if serve_text(rt, alloc, &text) != 4 {
+        wrong.push_str("it serves where another listens")?;
+    }
+    Ok(wrong)
 }
 
 #[test]
 fn a_node_serves_and_stops(rt: HostRuntime) -> Result<(), Fail> {
-    assert!(rt; one_node(&rt, rt.alloc())?);
+    let wrong = one_node(&rt, rt.alloc())?;
+    assert!(rt; wrong.is_empty(), "{wrong}");
     Ok(())
 }
 

@@ -108,7 +108,13 @@ fn words(rt: HostRuntime) -> Result<(), Fail> {
         Ok(Words::Serve { file }) => assert!(rt; file.as_str() == "a"),
         _ => assert!(rt; false),
     }
-    for words in [["x"].as_slice(), &["--help"], &["serve"]] {
+    assert!(rt; matches!(words_of(alloc, &["--"])?, Ok(Words::Pipe)));
+    for words in [
+        ["x"].as_slice(),
+        &["--help"],
+        &["serve"],
+        &["--", "serve", "--cluster", "a"],
+    ] {
         match words_of(alloc, words)? {
             Ok(taken) => assert!(rt; false, "{words:?} are taken as {taken:?}"),
             Err(fault) => assert!(rt; fault.status() == 2, "{words:?}: {fault:?}"),
