@@ -1,4 +1,4 @@
--- Hashers that have taken the pads of a key of HMAC.
+-- Hashers that have taken the pads of a key of HMAC. Serves the code, and no public contract.
 use Rattle.std.specs.Prelude.{ℕ, List}
 use Rattle.sha2.specs.Hashers.{Holds256}
 use Rattle.sha2.specs.declared.Sha256.{Sha256}

@@ -1,4 +1,5 @@
--- What the steps of a run do to the bytes that are left and to the text that is due and not yet written.
+-- What the steps of a run do to the bytes that are left and to the text that is due and not yet written. Serves the
+-- code, and no public contract.
 use Rattle.std.specs.Prelude.{◌≡◌, ℕ, ◌-◌, ◌^◌, ◌≤◌, ◌⊎◌, Bool, true, false, List, []}
 use Rattle.std.specs.Prelude.{◌∷◌, ◌++◌, length, ⊤, Option, None, Some, Result, Ok, Err}
 use Rattle.std.specs.Io.KnownBytes.{Consumes, Appends, IsAtEnd}

@@ -62,7 +62,7 @@ pub enum ClusterFault {
     /// There are no such sizes.
     #[error(transparent)]
     Sizes(SizeFault),
-    /// A role is refused.
+    /// A role is refused; never for want of memory.
     #[error(transparent)]
     Table(TableFault),
     /// There was no memory.
