@@ -7,11 +7,12 @@ use Rattle.role_commands.specs.declared.command.Command.{Command}
 use Rattle.link_frames.specs.declared.kind.Kind.{Kind}
 use Rattle.link_frames.specs.declared.kind.Kind.TheVariants.{Send, Echo, Ready}
 use Rattle.bracha_instance.specs.States.{State}
-use Rattle.bracha_instance.specs.Taking.{newly, sent_for, kind_due}
+use Rattle.bracha_instance.specs.Taking.{newly, sent_for}
+use Rattle.bracha_instance.specs.NewTakes.{kind_due}
 use Rattle.bracha_instance.specs.Next.{only_if, after_echo, after_ready, after_kind}
 
 -- if there is a command, it is this one
-abbrev IsThis : Command → Option Command → Type 0
+abbrev pub IsThis : Command → Option Command → Type 0
 IsThis c o = IfSome o (λ x. x ≡ c)
 
 is_this-same : (c : Command) (o : Option Command) → IsThis c (newly o o)

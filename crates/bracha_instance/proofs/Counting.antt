@@ -39,9 +39,17 @@ pub counted_state : (s : Counts) (ts : List Take) (t : Take) (st now : State) �
 counted_state s ts t st now first step is =
     step ∙ sym (state_push s ts t ∙ ap (λ x. after s x t) (sym is) ∙ after-first s st t first)
 
-pub newly_same : (o : Option Command) → newly o o ≡ None
-newly_same None = refl
-newly_same (Some c) = refl
+-- what is new is there now, and nothing is where something was before, or where nothing changed
+pub newly_now : (before now : Option Command) (c : Command) → newly before now ≡ Some c → now ≡ Some c
+newly_now None now c e = e
+newly_now (Some d) now c e = absurd cc
+
+pub newly_again : (before now : Option Command) (c : Command) → before ≡ Some c → newly before now ≡ None
+newly_again before now c e = ap (λ o. newly o now) e
+
+pub newly_same : (before now : Option Command) → now ≡ before → newly before now ≡ None
+newly_same None now e = e
+newly_same (Some c) now e = refl
 
 pub sent_of : (s : Counts) (ts us : List Take) (st now : State) → st ≡ state s ts → now ≡ state s us →
     sent_for (newly st.echoed now.echoed) (newly st.readied now.readied) ≡ newly_sent s ts us
@@ -57,11 +65,12 @@ delivered_of s ts us st now is is_now = λ i. newly ((is i).delivered) ((is_now 
 pub nothing_sent : (s : Counts) (ts us : List Take) (st : State) → st ≡ state s ts → st ≡ state s us
     → None ≡ newly_sent s ts us
 nothing_sent s ts us st is is_now =
-    (λ i. sent_for (sym (newly_same st.echoed) i) (sym (newly_same st.readied) i)) ∙ sent_of s ts us st st is is_now
+    (λ i. sent_for (sym (newly_same st.echoed _ refl) i) (sym (newly_same st.readied _ refl) i))
+    ∙ sent_of s ts us st st is is_now
 
 pub nothing_delivered : (s : Counts) (ts us : List Take) (st : State) → st ≡ state s ts → st ≡ state s us
     → None ≡ newly_delivered s ts us
-nothing_delivered s ts us st is is_now = sym (newly_same st.delivered) ∙ delivered_of s ts us st st is is_now
+nothing_delivered s ts us st is is_now = sym (newly_same st.delivered _ refl) ∙ delivered_of s ts us st st is is_now
 
 front : (P : Take → Type 0) (ts : List Take) (t : Take) → All P (ts ++ t ∷ []) → All P ts
 front P [] t all k d within = absurd (not-suc-le-zero within)

@@ -1,9 +1,8 @@
 -- When a command may be readied or delivered, and the laws of what is.
 use Rattle.std.proofs.Common.{◌≡◌, ℕ, ◌≤◌, true, false, ◌||◌, nat_le, List, [], ◌∷◌, ◌++◌, map}
-use Rattle.std.proofs.Common.{find, take, Option, Some, None, option_map, IsSome, ap, ◌∙◌, arith}
+use Rattle.std.proofs.Common.{find, take, Some, None, option_map, IsSome, ap, ◌∙◌, arith}
 use Rattle.std.proofs.lemmas.Bool.{lt-leb, leb-true, le-leb, or_right}
 use Rattle.std.proofs.lemmas.List.Folds.{find-append}
-use Rattle.std.specs.Option.{option_or}
 use Rattle.std.specs.Ordering.{nat_cmp}
 use Rattle.std.specs.FinSet as sets
 use Rattle.quorum_sizes.specs.Sizes.{Counts, echo_quorum_of, amplify_of, deliver_of}
@@ -16,7 +15,7 @@ use Rattle.bracha_instance.specs.States.{votes}
 use Rattle.bracha_instance.specs.Laws.{ReadiesItsOwn, DeliversItsOwn, EchoStays, ReadyStays, DeliveryStays}
 use Rattle.bracha_instance.specs.Laws.{ReadyWasFirst, DeliveryWasFirst, ReadyComes, DeliveryComes}
 use Rattle.bracha_instance.specs.Next.{ready_now, deliver_now}
-use Rattle.bracha_instance.proofs.Voting.{map_or, supporters_in-votes, supporters_push-other, supporters-nobody}
+use Rattle.bracha_instance.proofs.Voting.{map_or, or_is, supporters_in-votes, supporters_push-other, supporters-nobody}
 use Rattle.bracha_instance.proofs.FirstDue.{due_push, due_stays, due_was_first, due_comes, not_due}
 
 -- By the maps of votes.
@@ -87,9 +86,6 @@ readies_its_own s ts t = due_push (may_ready s) (ready_others s) (ready_nobodys 
 pub delivers_its_own : DeliversItsOwn
 unfolding delivered
 delivers_its_own s ts t = due_push (may_deliver s) (deliver_others s) (deliver_nobodys s) ts t
-
-or_is : (o more : Option Command) (c : Command) → o ≡ Some c → option_or o more ≡ Some c
-or_is o more c e = ap (λ x. option_or x more) e
 
 pub echo_stays : EchoStays
 unfolding echoed

@@ -55,7 +55,7 @@ find_own p c only [] = refl
 find_own p c only (d ∷ ds) =
     ap (cond (p d) (Some d)) (find_own p c only ds) ∙ own_by p c d only (same_command d c) refl (p c) refl
 
-no_some : {X : Type 0} (o : Option X) → o ≡ None → is_some o ≡ true → ⊥
+pub no_some : {X : Type 0} (o : Option X) → o ≡ None → is_some o ≡ true → ⊥
 no_some o none some = both_ways (is_some o) (ap is_some none) some
 
 some_unless_none : {X : Type 0} (o : Option X) → (o ≡ None → ⊥) → IsSome o

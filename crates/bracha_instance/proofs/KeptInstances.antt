@@ -8,7 +8,6 @@ use Rattle.std.specs.Option.{option_or}
 use Rattle.std.specs.FinMap as maps
 use Rattle.std.specs.FinSet as sets
 use Rattle.std.specs.Ordering.{nat_cmp}
-use Rattle.std.proofs.lemmas.Bool.{both_ways}
 use Rattle.std.proofs.lemmas.List.Elements.{All-head, All-tail}
 use Rattle.quorum_sizes.specs.Sizes.{Counts, most_nodes, echo_quorum_of, amplify_of, deliver_of}
 use Rattle.quorum_sizes.proofs.Exported.{len_below}
@@ -30,6 +29,7 @@ use Rattle.bracha_instance.specs.Instances.{instance_state, IsInstance}
 use Rattle.bracha_instance.specs.Supported.{CountsSupported}
 use Rattle.bracha_instance.proofs.Same.{same_command-true}
 use Rattle.bracha_instance.proofs.VoteMaps.{contains-names_of, names_of-insert, names_of-empty}
+use Rattle.bracha_instance.proofs.FirstDue.{no_some}
 use Rattle.bracha_instance.proofs.NameCounts.{one_more_name}
 use Rattle.bracha_instance.proofs.TallyLemmas.{length-with_command}
 use Rattle.bracha_instance.proofs.Voting.{contains-voters, supporters_in-votes}
@@ -93,9 +93,6 @@ pub free_ready : (a : Inside) (p : ℕ) → IsInstance a → is_some a.delivered
     → maps.get a.votes.readies p ≡ None
 free_ready a p h early is = no_vote a.votes.readies a.readiers p (h.readiers (none_of a.delivered early)) is
 
-not_some : {X : Type 0} (o : Option X) → o ≡ None → is_some o ≡ true → ⊥
-not_some o none some = both_ways (is_some o) (ap is_some none) some
-
 pub echo_kept : (a : Inside) (p : ℕ) (c : Command) (now : Option Command) (echoers : Names) (v : Tallied) →
     IsInstance a → is_some a.delivered ≡ false → sets.contains a.echoers p ≡ false →
     echoers ≡ sets.insert a.echoers p → sets.len echoers ≤ most_nodes → v ≡ with_echo a.votes p c →
@@ -108,7 +105,7 @@ echo_kept a p c now echoers v h early new is fit more =
           ∙ ap (λ s. sets.insert s p) (h.echoers none)
           ∙ sym is;
       readiers = λ _. ap (λ (w : Tallied). names_of w.readies) more ∙ h.readiers none;
-      forgotten = λ some. absurd (not_some a.delivered none some);
+      forgotten = λ some. absurd (no_some a.delivered none some);
       few =
           let before : length a.votes.commands ≤ sets.len a.echoers + sets.len a.readiers = h.few in
           let after = ap (λ (w : Tallied). length w.commands) more in
@@ -130,7 +127,7 @@ ready_kept a p c now readiers v h early new is fit more =
           ∙ names_of-insert a.votes.readies p c
           ∙ ap (λ s. sets.insert s p) (h.readiers none)
           ∙ sym is;
-      forgotten = λ some. absurd (not_some a.delivered none some);
+      forgotten = λ some. absurd (no_some a.delivered none some);
       few =
           let before : length a.votes.commands ≤ sets.len a.echoers + sets.len a.readiers = h.few in
           let after = ap (λ (w : Tallied). length w.commands) more in

@@ -13,7 +13,8 @@ use Rattle.bracha_instance.specs.States.{Votes}
 use Rattle.bracha_instance.specs.Next.{supporters_in}
 use Rattle.bracha_instance.specs.Tallies.{Row, vote_all, votes_in, names_for, RowsAgree}
 use Rattle.bracha_instance.proofs.Same.{same_command-true, same_command-refl}
-use Rattle.bracha_instance.proofs.VoteMaps.{same_votes, get-insert, contains-insert, supporters_in-empty}
+use Rattle.quorum_sizes.proofs.Exported.{contains-insert}
+use Rattle.bracha_instance.proofs.VoteMaps.{same_votes, get-insert, supporters_in-empty}
 use Rattle.bracha_instance.proofs.VoteMaps.{supporters_in-insert_same, supporters_in-insert_other}
 
 -- The votes of some rows.

@@ -71,9 +71,10 @@ state-ready_votes s ts = refl
 
 -- What another kind's message leaves.
 
-idle_by : (o : Option Command) (b : Bool) (c : Command) → (o ≡ None → b ≡ false) → or_else_if o b c ≡ o
-idle_by None b c never = ap (λ x. cond x (Some c) None) (never refl)
-idle_by (Some d) b c never = refl
+-- what is never due is not kept
+pub or_else_if-never : (o : Option Command) (b : Bool) (c : Command) → (o ≡ None → b ≡ false) → or_else_if o b c ≡ o
+or_else_if-never None b c never = ap (λ x. cond x (Some c) None) (never refl)
+or_else_if-never (Some d) b c never = refl
 
 -- where no vote for the command is new, nothing is readied
 readied_same : (s : Counts) (ts : List Take) (t : Take) →
@@ -82,7 +83,7 @@ readied_same : (s : Counts) (ts : List Take) (t : Take) →
     readied s (ts ++ t ∷ []) ≡ readied s ts
 readied_same s ts t echoes readies =
     readies_its_own s ts t
-    ∙ idle_by (readied s ts) (may_ready s (ts ++ t ∷ []) t.command) t.command
+    ∙ or_else_if-never (readied s ts) (may_ready s (ts ++ t ∷ []) t.command) t.command
     (λ none. may_ready-alike s ts (ts ++ t ∷ []) t.command echoes readies ∙ not_ready s ts none t.command)
 
 -- where no READY for the command is new, nothing is delivered
@@ -91,7 +92,7 @@ delivered_same : (s : Counts) (ts : List Take) (t : Take)
     delivered s (ts ++ t ∷ []) ≡ delivered s ts
 delivered_same s ts t readies =
     delivers_its_own s ts t
-    ∙ idle_by (delivered s ts) (may_deliver s (ts ++ t ∷ []) t.command) t.command
+    ∙ or_else_if-never (delivered s ts) (may_deliver s (ts ++ t ∷ []) t.command) t.command
     (λ none. may_deliver-alike s ts (ts ++ t ∷ []) t.command readies ∙ not_deliverable s ts none t.command)
 
 abbrev SameVotes : Kind → List Take → List Take → Type 0

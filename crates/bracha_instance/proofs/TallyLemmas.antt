@@ -117,8 +117,8 @@ IsFirst-new c (t ∷ tallies) none =
     let apart = or_parts (is_tally_of c t) _ none in (apart.0, IsFirst-new c tallies apart.1)
 
 -- a write at the place of its tally changes that of c
-pub set-with_tally : (change : TallyValue → TallyValue) (c : Command) (tallies : List TallyValue) (at : ℕ) (d : TallyValue)
-    → IsFirst c tallies at → slice_set tallies at (change (get_or tallies at d)) ≡ with_tally change c tallies
+pub set-with_tally : (change : TallyValue → TallyValue) (c : Command) (tallies : List TallyValue) (at : ℕ)
+    (d : TallyValue) → IsFirst c tallies at → slice_set tallies at (change (get_or tallies at d)) ≡ with_tally change c tallies
 unfolding with_tally
 set-with_tally change c [] at d first = absurd first
 set-with_tally change c (t ∷ tallies) zero d first =
@@ -163,8 +163,8 @@ tally_at c [] at d first = absurd first
 tally_at c (t ∷ tallies) zero d first = first
 tally_at c (t ∷ tallies) (suc at) d first = tally_at c tallies at d first.1
 
-IsFirst-set : (c : Command) (tallies : List TallyValue) (at : ℕ) (t : TallyValue) → IsFirst c tallies at → is_tally_of c t ≡ true
-    → IsFirst c (slice_set tallies at t) at
+IsFirst-set : (c : Command) (tallies : List TallyValue) (at : ℕ) (t : TallyValue) → IsFirst c tallies at
+    → is_tally_of c t ≡ true → IsFirst c (slice_set tallies at t) at
 IsFirst-set c [] at t first same = absurd first
 IsFirst-set c (x ∷ tallies) zero t first same = same
 IsFirst-set c (x ∷ tallies) (suc at) t first same = (first.0, IsFirst-set c tallies at t first.1 same)
@@ -208,7 +208,8 @@ rows-with_tally pick change more c command picked none (t ∷ tallies) =
     by_tally true rest = λ i. (command t i, picked t i) ∷ map (λ (t : TallyValue). (t.command, pick t)) tallies
     by_tally false rest = ap (λ rows. (t.command, pick t) ∷ rows) rest
 
-commands-with_tally : (change : TallyValue → TallyValue) (c : Command) → ((t : TallyValue) → (change t).command ≡ t.command) →
+commands-with_tally : (change : TallyValue → TallyValue) (c : Command)
+    → ((t : TallyValue) → (change t).command ≡ t.command) →
     (tallies : List TallyValue) → map command_in (with_tally change c tallies) ≡ with_command c (map command_in tallies)
 unfolding with_tally with_command
 commands-with_tally change c command [] = ap (λ d. d ∷ []) (command (no_names c))

@@ -6,16 +6,13 @@ use Rattle.std.specs.Ordering.{nat_cmp}
 use Rattle.std.specs.Cmp.{nat_cmp_total, unsigned_tied}
 use Rattle.std.specs.FinMap as maps
 use Rattle.std.specs.FinSet as sets
+use Rattle.quorum_sizes.proofs.Exported.{same_names, contains-insert}
 use Rattle.role_commands.specs.declared.command.Command.{Command}
 use Rattle.role_commands.specs.Same.{same_command}
-use Rattle.bracha_instance.specs.Broadcast.{Names, is_for}
+use Rattle.bracha_instance.specs.Broadcast.{is_for}
 use Rattle.bracha_instance.specs.States.{Votes}
 use Rattle.bracha_instance.specs.Kept.{names_of}
 use Rattle.bracha_instance.specs.Next.{supporters_in}
-
--- two sets with the same members are the same
-pub same_names : (s t : Names) → ((q : ℕ) → sets.contains s q ≡ sets.contains t q) → s ≡ t
-same_names s t is = sets.same_set nat_cmp_total maps.nat_cmp-IsAntisymmetric s t is
 
 -- two maps that answer alike are the same
 pub same_votes : (v w : Votes) → ((q : ℕ) → maps.get v q ≡ maps.get w q) → v ≡ w
@@ -25,9 +22,6 @@ pub get-insert : (v : Votes) (p : ℕ) (c : Command) (q : ℕ)
     → maps.get (maps.insert v p c) q ≡ cond (q == p) (Some c) (maps.get v q)
 get-insert v p c q = maps.get-insert nat_cmp_total v p c q
     ∙ ap (λ b. cond b (Some c) (maps.get v q)) (unsigned_tied q p)
-
-pub contains-insert : (s : Names) (p q : ℕ) → sets.contains (sets.insert s p) q ≡ ((q == p) || sets.contains s q)
-contains-insert s p q = sets.contains-insert nat_cmp_total s p q ∙ ap (λ b. b || sets.contains s q) (unsigned_tied q p)
 
 pub contains-names_of : (v : Votes) (q : ℕ) → sets.contains (names_of v) q ≡ maps.contains_key v q
 unfolding names_of
@@ -46,7 +40,7 @@ pub names_of-empty : names_of maps.empty ≡ sets.empty
 names_of-empty = same_names _ _ (λ q.
     contains-names_of maps.empty q ∙ ap is_some (maps.get-empty nat_cmp q) ∙ sym (sets.contains-empty nat_cmp q))
 
-some_and : (c : Command) (o : Option Command) → (is_some o && is_for c o) ≡ is_for c o
+pub some_and : (c : Command) (o : Option Command) → (is_some o && is_for c o) ≡ is_for c o
 some_and c None = refl
 some_and c (Some d) = refl
 

@@ -20,8 +20,8 @@ use Rattle.bracha_instance.specs.States.{votes}
 use Rattle.bracha_instance.specs.Kept.{names_of}
 use Rattle.bracha_instance.specs.Next.{supporters_in}
 use Rattle.bracha_instance.proofs.Same.{same_kind-true, same_kind-refl}
-use Rattle.bracha_instance.proofs.VoteMaps.{same_names, same_votes, get-insert, contains-insert}
-use Rattle.bracha_instance.proofs.VoteMaps.{contains-names_of, contains-supporters_in}
+use Rattle.quorum_sizes.proofs.Exported.{same_names, contains-insert}
+use Rattle.bracha_instance.proofs.VoteMaps.{same_votes, get-insert, contains-names_of, contains-supporters_in, some_and}
 
 -- Options.
 
@@ -86,7 +86,7 @@ pub vote_push-again : (kind : Kind) (name : ℕ) (ts : List Take) (t : Take) →
 vote_push-again kind name ts t voted = vote_push kind name ts t
     ∙ again_by kind name ts t voted (is_vote_of kind name t) refl
 
-or_is : (o more : Option Command) (c : Command) → o ≡ Some c → option_or o more ≡ Some c
+pub or_is : (o more : Option Command) (c : Command) → o ≡ Some c → option_or o more ≡ Some c
 or_is o more c e = ap (λ x. option_or x more) e
 
 -- a vote stays
@@ -146,10 +146,6 @@ pub get-votes : (kind : Kind) (ts : List Take) (q : ℕ) → maps.get (votes kin
 unfolding votes vote
 get-votes kind ts q = maps.get-from_entries nat_cmp_total (map pair_of (filter (is_of_kind kind) ts)) q
     ∙ vote_by kind q ts
-
-some_and : (c : Command) (o : Option Command) → (is_some o && is_for c o) ≡ is_for c o
-some_and c None = refl
-some_and c (Some d) = refl
 
 pub contains-supporters : (kind : Kind) (c : Command) (ts : List Take) (q : ℕ)
     → sets.contains (supporters kind c ts) q ≡ is_for c (vote kind q ts)

@@ -1,6 +1,5 @@
 -- What one more message causes: whether it counts, what the node sends to all, and what it delivers.
-use Rattle.std.specs.Prelude.{◌≡◌, ℕ, Bool, true, false, List, All, if◌then◌else◌, is_some}
-use Rattle.std.specs.Prelude.{Option, Some, None, option_map}
+use Rattle.std.specs.Prelude.{◌≡◌, ℕ, Bool, List, All, if◌then◌else◌, is_some, Option, Some, None}
 use Rattle.quorum_sizes.specs.Sizes.{Counts}
 use Rattle.role_commands.specs.declared.command.Command.{Command}
 use Rattle.link_frames.specs.declared.kind.Kind.{Kind}
@@ -10,8 +9,6 @@ use Rattle.bracha_instance.specs.Broadcast.{Take, vote, echoed, readied, deliver
 use Rattle.bracha_instance.specs.States.{State}
 use Rattle.bracha_instance.specs.declared.instance.Effect.{Effect}
 use Rattle.bracha_instance.specs.declared.instance.Effect.TheVariants.{Idle, Counted}
-use Rattle.bracha_instance.specs.declared.instance.Caused.{Caused}
-use Rattle.bracha_instance.specs.declared.instance.Taken.{Taken}
 
 -- all SENDs are from one node, the owner
 abbrev pub SendsAreFrom : ℕ → List Take → Type 0
@@ -37,21 +34,6 @@ abbrev pub sent_for : Option Command → Option Command → Option (Kind × Comm
 sent_for (Some c) r = Some (Echo, c)
 sent_for None (Some c) = Some (Ready, c)
 sent_for None None = None
-
--- the kind of that message, by whether anything was newly echoed, or readied
-abbrev pub kind_due : Bool → Bool → Option Kind
-kind_due true readies = Some Echo
-kind_due false true = Some Ready
-kind_due false false = None
-
--- what a message that counts caused: all of it is for the message's own command
-abbrev pub taken_for : Command → Caused → Taken
-taken_for c caused =
-    record {
-      effect = Counted;
-      broadcast = option_map (λ kind. (kind, c)) caused.send;
-      delivered = if caused.delivers then Some c else None;
-    }
 
 -- what the node sends to all when it has taken `after` and had taken `before`
 abbrev pub newly_sent : Counts → List Take → List Take → Option (Kind × Command)

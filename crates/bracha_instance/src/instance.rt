@@ -7,8 +7,9 @@ ghost use Rattle.quorum_sizes.specs.Sizes.{Counts, echo_quorum_of, amplify_of, d
 ghost use Rattle.role_commands.specs.declared.command.Command.{Command};
 ghost use Rattle.bracha_instance.specs.Broadcast.{Take, vote};
 ghost use Rattle.bracha_instance.specs.States.{state};
+ghost use Rattle.bracha_instance.specs.NewTakes.{kind_due, taken_for};
 ghost use Rattle.bracha_instance.specs.Taking.{SendsAreFrom, has_voted, effect_of, newly};
-ghost use Rattle.bracha_instance.specs.Taking.{kind_due, taken_for, newly_sent, newly_delivered};
+ghost use Rattle.bracha_instance.specs.Taking.{newly_sent, newly_delivered};
 ghost use Rattle.bracha_instance.specs.Next.{only_if, after_send, after_echo, after_ready, after_kind};
 ghost use Rattle.bracha_instance.specs.Supported.{CountsSupported};
 
@@ -55,10 +56,7 @@ impl Caused {
     pub fn taken(self, command: Command) -> Taken
         ensures { result ≡ taken_for command self }
     {
-        let broadcast = match self.send {
-            Some(kind) => Some((kind, command)),
-            None => None,
-        };
+        let broadcast = self.send.map(|kind| (kind, command));
         let delivered = if self.delivers { Some(command) } else { None };
         Taken {
             effect: Effect::Counted,

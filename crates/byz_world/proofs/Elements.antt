@@ -1,5 +1,5 @@
 -- Elements of lists by their numbers.
-use Rattle.std.proofs.Common.{◌≡◌, ℕ, zero, suc, ◌+◌, ◌<◌, ⊎_elim, List, [], ◌∷◌}
+use Rattle.std.proofs.Common.{◌≡◌, ℕ, zero, suc, ◌+◌, ⊎_elim, List, [], ◌∷◌}
 use Rattle.std.proofs.Common.{◌++◌, length, Option, Some, None, refl, sym, ap, ◌∙◌, subst, arith}
 use Rattle.std.specs.Prelude.{slice_get, Contains}
 use Rattle.std.specs.List.{flat_map}
@@ -12,16 +12,6 @@ pub at_front : {A : Type 0} (xs ys : List A) (k : ℕ) (x : A) → slice_get xs 
 at_front [] ys k x e = absurd cc
 at_front (y ∷ xs) ys zero x e = e
 at_front (y ∷ xs) ys (suc k) x e = at_front xs ys k x e
-
-pub before_seam : {A : Type 0} (xs ys : List A) (k : ℕ) → k < length xs → slice_get (xs ++ ys) k ≡ slice_get xs k
-before_seam [] ys k h = absurd (omega (arith, h))
-before_seam (x ∷ xs) ys zero h = refl
-before_seam (x ∷ xs) ys (suc k) h = before_seam xs ys k (omega (arith, h))
-
--- what stands right behind a list
-pub at_seam : {A : Type 0} (xs ys : List A) (y : A) → slice_get (xs ++ y ∷ ys) (length xs) ≡ Some y
-at_seam [] ys y = refl
-at_seam (x ∷ xs) ys y = at_seam xs ys y
 
 pub at_tail : {A : Type 0} (xs ys : List A) (k : ℕ) → slice_get ys k ≡ slice_get (xs ++ ys) (length xs + k)
 at_tail [] ys k = let e : 0 + k ≡ k = omega arith in ap (slice_get ys) (sym e)

@@ -3,6 +3,7 @@ use Rattle.std.proofs.Common.{◌≡◌, ℕ, zero, suc, ◌<◌, Bool, true, �
 use Rattle.std.proofs.Common.{Contains, Option, Some, None, refl, sym, ap, ◌∙◌, subst, arith, ltb-true, eqb-true}
 use Rattle.std.specs.List.{list_all}
 use Rattle.std.proofs.lemmas.Bool.{and_parts}
+use Rattle.role_commands.proofs.Exported.{if_some}
 use Rattle.role_commands.specs.declared.command.Command.{Command}
 use Rattle.link_frames.specs.Packets.{message_of}
 use Rattle.link_frames.specs.declared.kind.Kind.{Kind}
@@ -21,7 +22,7 @@ use Rattle.byz_world.proofs.Computed.{names_end, readied-now}
 use Rattle.byz_world.proofs.Example.{honest, honest-is, example_is_run, example_delivers}
 use Rattle.byz_world.proofs.Histories.{taken_by, taken_whole, IsTakenIn, taken_in}
 use Rattle.byz_world.proofs.Pooled.{pooled_is_sent, has_sent_is}
-use Rattle.byz_world.proofs.Votes.{said_by, if_own}
+use Rattle.byz_world.proofs.Votes.{said_by}
 
 -- a correct node is one of three
 by_name : (P : ℕ → Type 0) → P 0 → P 1 → P 2 → (name : ℕ) → honest name ≡ true → P name
@@ -107,7 +108,7 @@ said_only : (name : ℕ) (kind : Kind) (owner place : ℕ) (c : Command) → hon
     said_by four example_run name kind owner place ≡ Some c
     → ((owner ≡ 0) × (place ≡ 0) × (c ≡ user_seven)) × FromZero kind name
 said_only name Send owner place c is e =
-    let own = if_own (owner == name) _ c e in
+    let own = if_some (owner == name) _ c e in
     let here = issued_by name is place c own.1 in
     ((eqb-true owner name own.0 ∙ here.0, here.1, here.2), λ _. here.0)
 said_only name Echo owner place c is e =

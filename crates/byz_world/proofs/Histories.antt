@@ -1,9 +1,9 @@
 -- The history of a node in a run: how it goes on, and where what the node took comes from.
 use Rattle.std.proofs.Common.{◌≡◌, ℕ, ◌<◌, Bool, true, false, ◌==◌, ◌&&◌, if◌then◌else◌, List, [], ◌∷◌, take, slice_get}
-use Rattle.std.proofs.Common.{Some, Result, Err, refl, sym, ap, ◌∙◌, subst, eqb-true, ltb-true, take_all, le_refl}
+use Rattle.std.proofs.Common.{Some, None, Result, Err, refl, sym, ap, ◌∙◌, subst, eqb-true, ltb-true, take_all, le_refl}
 use Rattle.std.proofs.Common.{length}
 use Rattle.std.specs.List.{filter_map}
-use Rattle.std.proofs.lemmas.Bool.{and_parts}
+use Rattle.std.proofs.lemmas.Bool.{and_parts, and_from, eq-eqb}
 use Rattle.std.proofs.lemmas.Option.{cond_some}
 use Rattle.link_frames.specs.Packets.{PacketValue}
 use Rattle.bracha_instance.specs.Broadcast.{Take}
@@ -24,6 +24,12 @@ use Rattle.byz_world.proofs.Lists.{front_taken, front_picked, slice_get-taken}
 -- the messages that a node took at a place of an owner's stream
 abbrev pub taken_by : Run → ℕ → ℕ → ℕ → List Take
 taken_by run node owner place = takes_at owner place (packets (history_of node run))
+
+-- a packet is taken at its own place
+pub own_take : (p : PacketValue) → take_at p.owner p.place p ≡ Some (take_of p)
+own_take p =
+    ap (λ b. if b then Some (take_of p)
+    else None) (and_from _ _ (eq-eqb p.owner p.owner refl) (eq-eqb p.place p.place refl))
 
 -- Fronts of a run.
 
@@ -55,7 +61,7 @@ pub record IsTakenIn (run : Run) (m node owner place : ℕ) (t : Take) : Type 0 
   pub place_is : packet.place ≡ place
   pub message_is : take_of packet ≡ t
 
-packet_of_event : (e : Event) (p : PacketValue) → packet_in e ≡ Some p → e ≡ event.Take p
+pub packet_of_event : (e : Event) (p : PacketValue) → packet_in e ≡ Some p → e ≡ event.Take p
 packet_of_event (event.Issue c) p is = absurd cc
 packet_of_event (event.Take q) p is = cc
 packet_of_event (event.Client act) p is = absurd cc

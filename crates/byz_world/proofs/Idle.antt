@@ -1,9 +1,9 @@
 -- A packet of the pool that is idle where it is sent to was taken there, and the other way round.
-use Rattle.std.proofs.Common.{◌≡◌, ℕ, ◌+◌, ◌<◌, Bool, true, false, cond, ◌&&◌, ◌==◌, List, ◌++◌, length, take}
+use Rattle.std.proofs.Common.{◌≡◌, ℕ, ◌+◌, ◌<◌, Bool, true, false, cond, List, ◌++◌, length, take}
 use Rattle.std.proofs.Common.{Option, Some, None, Result, Ok, Err, refl, sym, ap, ◌∙◌, subst, length-append, arith}
 use Rattle.std.specs.Prelude.{if◌then◌else◌, nat_le, is_some, slice_get, option_map, Contains}
 use Rattle.std.specs.List.{filter_map}
-use Rattle.std.proofs.lemmas.Bool.{and_from}
+use Rattle.std.proofs.lemmas.Bool.{and_from, eq-eqb}
 use Rattle.std.proofs.lemmas.Bool.Decides.{nat_tests}
 use Rattle.quorum_sizes.specs.Sizes.{Counts}
 use Rattle.quorum_sizes.specs.NodeSets.{Nodes}
@@ -33,7 +33,7 @@ use Rattle.byz_world.specs.Inside.{is_idle}
 use Rattle.byz_world.proofs.Elements.{contained, number_of}
 use Rattle.byz_world.proofs.Lists.{IsIn, IsFront, IsPicked, picked_from, is_picked}
 use Rattle.byz_world.proofs.Lists.{found_there, front_taken, front_picked}
-use Rattle.byz_world.proofs.Histories.{taken_by, taken_whole, IsTakenIn, taken_in, routed}
+use Rattle.byz_world.proofs.Histories.{taken_by, taken_whole, own_take, packet_of_event, IsTakenIn, taken_in, routed}
 use Rattle.byz_world.proofs.Votes.{IsFound, vote_found, said_by, said_stays, sent_before}
 use Rattle.byz_world.specs.Pools.{WasSent}
 use Rattle.byz_world.proofs.Pooled.{has_sent_is}
@@ -143,19 +143,11 @@ voted_is (Some c) e = (c, refl)
 votes_for : (takes : List Take) (t : Take) (k : ℕ) → slice_get takes k ≡ Some t → effect_of takes t ≡ effect.Idle
 unfolding vote
 votes_for takes t k at =
-    let passes : is_vote_of t.kind t.from t ≡ true = and_from _ _ (same_kind-refl t.kind) (own t.from) in
+    let passes : is_vote_of t.kind t.from t ≡ true = and_from _ _ (same_kind-refl t.kind) (eq-eqb t.from t.from refl) in
     let found = found_there (is_vote_of t.kind t.from) takes t k at passes in
     ap (λ o. cond (is_some (option_map command_of o)) effect.Idle effect.Counted) found.1
-  where
-    own : (a : ℕ) → (a == a) ≡ true
-    own a = grind (arith, nat_tests)
 
 -- What was taken is idle.
-
-packet_event : (e : Event) (p : PacketValue) → packet_in e ≡ Some p → e ≡ event.Take p
-packet_event (event.Issue c) p is = absurd cc
-packet_event (event.Take q) p is = cc
-packet_event (event.Client act) p is = absurd cc
 
 pub taken_is_open : (config : ConfigValue) (me : ℕ) (history : List Event) (p : PacketValue) (k : ℕ)
     → IsLegal config me history →
@@ -167,13 +159,6 @@ taken_is_open config me history p k legal at =
     let then' = was_open config me (take k history) p (legal k (event.Take p) at) in
     subst (λ ps. IsOpen config.roles.sizes me ps p) (sym front.1)
     (stays_open config.roles.sizes me (packets (take k history)) front.0 p then')
-
-own_take : (p : PacketValue) → take_at p.owner p.place p ≡ Some (take_of p)
-own_take p = let own : (p.owner == p.owner && p.place == p.place) ≡ true = and_from _ _ (same p.owner) (same p.place) in
-    ap (λ b. if b then Some (take_of p) else None) own
-  where
-    same : (a : ℕ) → (a == a) ≡ true
-    same a = grind (arith, nat_tests)
 
 taken_votes : (history : List Event) (p : PacketValue) → IsIn (packets history) p →
     effect_of (takes_at p.owner p.place (packets history)) (take_of p) ≡ effect.Idle
@@ -189,7 +174,7 @@ unfolding packets
 taken_is_idle config me history p legal c =
     let found : IsIn (packets history) p = number_of (packets history) p c in
     let from : IsPicked packet_in history p = picked_from packet_in history p found.0 found.1 in
-    let e : from.0 ≡ event.Take p = packet_event from.0 p from.2 in
+    let e : from.0 ≡ event.Take p = packet_of_event from.0 p from.2 in
     let open' = taken_is_open config me history p from.1.0 legal (from.1.1 ∙ ap Some e) in
     early_idle _ _ (idle_take config me history p open' (taken_votes history p found))
 

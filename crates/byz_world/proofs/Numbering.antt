@@ -7,11 +7,12 @@ use Rattle.std.proofs.Math.Nat.{mod-add-div'}
 use Rattle.std.proofs.lemmas.Nat.{mod_below}
 use Rattle.std.proofs.lemmas.List.FromFn.{length-map-range_with_len}
 use Rattle.std.proofs.lemmas.Option.{slice_get-map}
+use Rattle.role_commands.proofs.Exported.{slice_get-front}
 use Rattle.link_frames.specs.Packets.{packet_of}
 use Rattle.role_node.specs.Configs.{ConfigValue}
 use Rattle.byz_world.specs.Runs.{Run}
 use Rattle.byz_world.specs.Pools.{Sent, messages, packets_of, pool}
-use Rattle.byz_world.proofs.Elements.{before_seam, at_tail}
+use Rattle.byz_world.proofs.Elements.{at_tail}
 use Rattle.byz_world.proofs.Pooled.{name_at}
 
 packets-length : (nodes : ℕ) (sent : Sent) → length (packets_of nodes sent) ≡ nodes
@@ -44,7 +45,7 @@ packet_at nodes (first ∷ sent) zero to h =
     let same : 0 * nodes + to ≡ to = omega arith in
     let within : to < length (packets_of nodes first) = omega (arith, packets-length nodes first, h) in
     ap (slice_get (flat_map (packets_of nodes) (first ∷ sent))) same
-    ∙ before_seam (packets_of nodes first) (flat_map (packets_of nodes) sent) to within
+    ∙ slice_get-front (packets_of nodes first) (flat_map (packets_of nodes) sent) to within
     ∙ own_packet nodes to first h
 packet_at nodes (first ∷ sent) (suc number) to h =
     let split : suc number * nodes + to ≡ nodes + (number * nodes + to) = grind arith in

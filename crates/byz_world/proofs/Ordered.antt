@@ -5,10 +5,10 @@ use Rattle.std.specs.Prelude.{slice_get, option_map, count_by}
 use Rattle.std.proofs.lemmas.Bool.Decides.{nat_tests}
 use Rattle.std.proofs.lemmas.List.Sums.{sum_by-append}
 use Rattle.std.proofs.lemmas.Map.Views.{exact_unsigned_eq}
+use Rattle.role_commands.proofs.Exported.{slice_get-front, slice_get-seam}
 use Rattle.role_node.specs.declared.event.Event.{Event}
 use Rattle.byz_world.specs.Pools.{listed}
 use Rattle.byz_world.specs.Inside.{next_event, run_after}
-use Rattle.byz_world.proofs.Elements.{at_seam, before_seam}
 
 -- how often a name stands among these
 abbrev pub times : ℕ → List ℕ → ℕ
@@ -43,7 +43,7 @@ same_event h h' at e is name k within false other = ap (λ es. slice_get es k) (
 same_event h h' at e is name k within true own =
     let same : at ≡ name = exact_unsigned_eq at name own in
     let longer : h' name ≡ h name ++ e ∷ [] = subst (λ n. h' n ≡ h n ++ e ∷ []) same is.own in
-    ap (λ es. slice_get es k) longer ∙ before_seam (h name) (e ∷ []) k within
+    ap (λ es. slice_get es k) longer ∙ slice_get-front (h name) (e ∷ []) k within
 
 -- the run of the longer order is the run with one pair more
 pub run_after-push : (h h' : ℕ → List Event) (past order : List ℕ) (at : ℕ) (e : Event) → IsLonger h h' at e →
@@ -53,7 +53,7 @@ unfolding run_after
 run_after-push h h' past [] at e is counts =
     let number : times at past ≡ length (h at) = ap (times at) (sym (append-nil past)) ∙ counts at in
     let next : slice_get (h' at) (times at past) ≡ Some e =
-    (λ i. slice_get (is.own i) (number i)) ∙ at_seam (h at) [] e in
+    (λ i. slice_get (is.own i) (number i)) ∙ slice_get-seam (h at) [] e in
     ap (λ o. listed (option_map (λ x. (at, x)) o) ++ []) next
 run_after-push h h' past (name ∷ order) at e is counts =
     let step : List ℕ = past ++ name ∷ [] in

@@ -1,9 +1,10 @@
 -- Passes over the pool: each prolongs the run by packets that count, and where one adds nothing none counts.
 use Rattle.std.proofs.Common.{◌≡◌, ℕ, zero, suc, ◌+◌, ◌-◌, ◌<◌, ◌≤◌, ◌⊎◌, inl, inr, ⊎_elim, Bool, true, false}
-use Rattle.std.proofs.Common.{◌&&◌, ◌==◌, List, [], ◌∷◌, ◌++◌, length, take, Option, Some, None, Result, Ok, Err}
+use Rattle.std.proofs.Common.{◌&&◌, ◌==◌, List, [], ◌∷◌, ◌++◌, length, take, Option, Some, None, Ok, Err}
 use Rattle.std.proofs.Common.{refl, sym, ap, ◌∙◌, subst, append-nil, append_assoc, length-append, arith}
-use Rattle.std.specs.Prelude.{if◌then◌else◌, not, nat_le, nat_lt, map, slice_get, option_map}
+use Rattle.std.specs.Prelude.{if◌then◌else◌, not, nat_lt, map, slice_get, option_map}
 use Rattle.std.specs.List.{range_with_len}
+use Rattle.std.proofs.lemmas.Bool.{ltb-true}
 use Rattle.std.proofs.lemmas.Bool.Decides.{nat_tests}
 use Rattle.std.proofs.lemmas.Map.Views.{exact_unsigned_eq}
 use Rattle.std.proofs.lemmas.Option.{slice_get_within}
@@ -12,12 +13,6 @@ use Rattle.std.proofs.lemmas.List.FromFn.{map-range_with_len_more}
 use Rattle.quorum_sizes.specs.NodeSets.{Nodes}
 use Rattle.link_frames.specs.Packets.{PacketValue}
 use Rattle.role_node.proofs.Exported.{legal_within}
-use Rattle.role_node.specs.Answers.{outlook_with_room, unless_full, answered, reply_to}
-use Rattle.role_node.specs.Answers.{answer_due, is_recorded, IsLegal}
-use Rattle.bracha_instance.specs.declared.instance.Effect.{Effect}
-use Rattle.bracha_instance.specs.declared.instance.Effect.TheVariants as effect
-use Rattle.role_node.specs.declared.event.Reply.{Reply}
-use Rattle.role_node.specs.declared.faults.NodeFault.{NodeFault}
 use Rattle.role_node.specs.Configs.{ConfigValue}
 use Rattle.role_node.specs.declared.event.Event.{Event}
 use Rattle.role_node.specs.declared.event.Event.TheVariants as event
@@ -280,9 +275,6 @@ passes_prolong (suc most) w = by (pass_adds w) refl (passes_prolong most (after_
     by true adds rest = subst (IsProlonged w) (sym (passes_on most w adds))
         (prolonged_more w (after_pass w) (after_passes most (after_pass w)) (pass_prolongs w) rest)
 
-less : (a b : ℕ) → nat_lt a b ≡ true → a < b
-less a b e = grind (arith, nat_tests)
-
 less_not : (a b : ℕ) → b ≤ a → nat_lt a b ≡ false
 less_not a b h = grind (arith, nat_tests)
 
@@ -306,7 +298,7 @@ last_is_idle (suc most) w is long =
     by true adds rest =
         let same : longest_run (after_pass w).config ≡ longest_run w.config =
         ap longest_run (same_config w (after_pass w) (pass_prolongs w)) in
-        let grown = less _ _ adds in
+        let grown = ltb-true _ _ adds in
         ap pass_adds (passes_on most w adds) ∙ rest (omega (arith, same, long, grown))
 
 pub settled_prolongs : (w : WorldValue) → IsProlonged w (settled w)

@@ -11,6 +11,7 @@ use Rattle.std.proofs.lemmas.List.FromFn.{length-range_with_len, get_or-range_wi
 use Rattle.std.proofs.lemmas.Map.Views.{exact_unsigned_eq}
 use Rattle.quorum_sizes.specs.Sizes.{Counts}
 use Rattle.quorum_sizes.specs.NodeSets.{Nodes}
+use Rattle.role_commands.proofs.Exported.{slice_get-seam}
 use Rattle.role_commands.specs.declared.command.Command.{Command}
 use Rattle.link_frames.specs.declared.kind.Kind.{Kind}
 use Rattle.link_frames.specs.declared.kind.Kind.TheVariants.{Send, Echo, Ready}
@@ -29,7 +30,7 @@ use Rattle.byz_world.specs.Runs.{Run, history_of, is_correct, of_kind, has_sent,
 use Rattle.byz_world.specs.Pools.{Sent, listed, sends_next, messages_after, messages, packets_of}
 use Rattle.byz_world.specs.Pools.{pool, WasSent}
 use Rattle.byz_world.specs.Laws.{PoolIsWhatWasSent}
-use Rattle.byz_world.proofs.Elements.{at_seam, number_of, contained, contains_listed}
+use Rattle.byz_world.proofs.Elements.{number_of, contained, contains_listed}
 use Rattle.byz_world.proofs.Elements.{listed_contains, contains_flat, flat_contains}
 use Rattle.byz_world.proofs.Sending.{said, said_stays, said_newly, answered_is_said}
 use Rattle.byz_world.proofs.Pushing.{history_of-append, history_of-none, history_of-own}
@@ -74,7 +75,7 @@ recorded_after config past rest node e legal =
     let split : history_of node (past ++ (node, e) ∷ rest) ≡ h ++ e ∷ history_of node rest =
     history_of-append node past ((node, e) ∷ rest) ∙ ap (λ es. h ++ es) (history_of-own node e rest) in
     let at : slice_get (history_of node (past ++ (node, e) ∷ rest)) (length h) ≡ Some e =
-    ap (λ es. slice_get es (length h)) split ∙ at_seam h (history_of node rest) e in
+    ap (λ es. slice_get es (length h)) split ∙ slice_get-seam h (history_of node rest) e in
     let before : take (length h) (history_of node (past ++ (node, e) ∷ rest)) ≡ h =
     ap (take (length h)) split ∙ take-append_seam h (e ∷ history_of node rest) in
     let P : List Event → Type 0 = λ es. IsTrue (is_recorded (answer_due config node es e)) in
@@ -130,7 +131,7 @@ said_is_sent config past (pair ∷ run) node m legal now =
     (node, m)). inr (Contains-append_right _ (messages_after config step run) (node, m) later))
     (said_is_sent config step run node m (subst P split legal) (subst Q split now))
 
-nothing_taken : (owner place : ℕ) → takes_at owner place [] ≡ []
+pub nothing_taken : (owner place : ℕ) → takes_at owner place [] ≡ []
 unfolding takes_at
 nothing_taken owner place = refl
 

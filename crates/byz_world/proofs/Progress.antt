@@ -9,11 +9,12 @@ use Rattle.std.proofs.lemmas.Bool.Decides.{nat_tests}
 use Rattle.std.proofs.lemmas.Option.{slice_get_within}
 use Rattle.quorum_sizes.specs.Sizes.{Counts}
 use Rattle.quorum_sizes.specs.NodeSets.{Nodes}
+use Rattle.role_commands.proofs.Exported.{if_some}
 use Rattle.role_commands.specs.declared.command.Command.{Command}
 use Rattle.link_frames.specs.Packets.{PacketValue, message_of}
 use Rattle.link_frames.specs.declared.kind.Kind.{Kind}
 use Rattle.link_frames.specs.declared.kind.Kind.TheVariants.{Send, Echo, Ready}
-use Rattle.bracha_instance.specs.Broadcast.{Take, echoed, readied, delivered}
+use Rattle.bracha_instance.specs.Broadcast.{echoed, readied, delivered}
 use Rattle.bracha_instance.specs.Taking.{effect_of}
 use Rattle.bracha_instance.specs.declared.instance.Effect.{Effect}
 use Rattle.bracha_instance.specs.declared.instance.Effect.TheVariants as effect
@@ -44,7 +45,7 @@ use Rattle.byz_world.proofs.Rest.{IsAtRestAt, delivered_there}
 use Rattle.byz_world.proofs.Safety.{streamed}
 use Rattle.byz_world.proofs.Sound.{pooled_is_sound}
 use Rattle.byz_world.proofs.Telling.{foreign_is_unsent, correct_is_node}
-use Rattle.byz_world.proofs.Votes.{said_by, if_own}
+use Rattle.byz_world.proofs.Votes.{said_by}
 
 -- What is before the end of its window, and does not count, is idle.
 
@@ -172,7 +173,7 @@ module _ (config : ConfigValue) (liars : Nodes) (run : Run) (cluster : IsCluster
       said_by s run node kind owner place ≡ Some c → place < reach_of config run node owner + window
   sent_within node Send owner place c own e =
       let P : ℕ → Type 0 = λ o. place < reach_of config run node o + window in
-      let mine = if_own (owner == node) _ c e in
+      let mine = if_some (owner == node) _ c e in
       let within = slice_get_within (issued (history_of node run)) place c mine.1 in
       let few = issues_within config node (history_of node run) (cluster.legal node) in
       subst P (own refl) (omega (arith, within, few))

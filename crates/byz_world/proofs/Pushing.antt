@@ -1,10 +1,10 @@
 -- A run with one pair more: its histories, and what was sent in it.
-use Rattle.std.proofs.Common.{◌≡◌, ℕ, true, false, ◌==◌, [], ◌∷◌, ◌++◌, Some, None}
-use Rattle.std.proofs.Common.{refl, sym, ap, ◌∙◌, append-nil, append_assoc, arith}
+use Rattle.std.proofs.Common.{◌≡◌, ℕ, false, ◌==◌, [], ◌∷◌, ◌++◌, Some, None}
+use Rattle.std.proofs.Common.{refl, sym, ap, ◌∙◌, append-nil, append_assoc}
 use Rattle.std.specs.Prelude.{if◌then◌else◌}
 use Rattle.std.specs.List.{filter_map, cons_option}
 use Rattle.std.proofs.lemmas.List.Elements.{filter_map-append}
-use Rattle.std.proofs.lemmas.Bool.Decides.{nat_tests}
+use Rattle.std.proofs.lemmas.Bool.{eq-eqb}
 use Rattle.role_node.specs.Configs.{ConfigValue}
 use Rattle.role_node.specs.declared.event.Event.{Event}
 use Rattle.byz_world.specs.Runs.{Run, event_at, history_of}
@@ -19,15 +19,12 @@ pub history_of-none : (node : ℕ) → history_of node [] ≡ []
 unfolding history_of
 history_of-none node = refl
 
-own_name : (a : ℕ) → (a == a) ≡ true
-own_name a = grind (arith, nat_tests)
-
 -- a pair of the node is its first event ..
 pub history_of-own : (node : ℕ) (e : Event) (later : Run)
     → history_of node ((node, e) ∷ later) ≡ e ∷ history_of node later
 unfolding history_of
 history_of-own node e later =
-    ap (λ b. cons_option (if b then Some e else None) (filter_map (event_at node) later)) (own_name node)
+    ap (λ b. cons_option (if b then Some e else None) (filter_map (event_at node) later)) (eq-eqb node node refl)
 
 -- .. and of no other
 pub history_of-other : (node : ℕ) (pair : ℕ × Event) (later : Run) → (pair.0 == node) ≡ false →

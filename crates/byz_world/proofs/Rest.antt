@@ -1,7 +1,7 @@
 -- A cluster at rest: what correct nodes have sent, all correct nodes have counted, so what one delivers, all do.
 use Rattle.std.proofs.Common.{◌≡◌, ℕ, ◌-◌, ◌<◌, ◌≤◌, Bool, true, false, ◌==◌, ◌&&◌, not, if◌then◌else◌}
 use Rattle.std.specs.Prelude.{IsTrue, Contains}
-use Rattle.std.proofs.Common.{IsSome, length, take, slice_get, option_map, Option, Some, None, refl}
+use Rattle.std.proofs.Common.{length, take, slice_get, option_map, Option, Some, None, refl}
 use Rattle.std.proofs.Common.{sym, ap, ◌∙◌, arith, take_all, le_refl, ltb-true, eq-eqb}
 use Rattle.std.specs.FinSet as sets
 use Rattle.std.specs.Cmp.{nat_cmp_total}
@@ -9,6 +9,7 @@ use Rattle.std.proofs.lemmas.Bool.{and_parts, and_from, or_left, or_right, leb-t
 use Rattle.quorum_sizes.specs.Sizes.{Counts, echo_quorum_of, amplify_of, deliver_of}
 use Rattle.quorum_sizes.specs.NodeSets.{Nodes, AreNodes}
 use Rattle.quorum_sizes.proofs.Exported.{correct_are_enough}
+use Rattle.role_commands.proofs.Exported.{some_value}
 use Rattle.role_commands.specs.declared.command.Command.{Command}
 use Rattle.link_frames.specs.Packets.{PacketValue, packet_of}
 use Rattle.link_frames.specs.declared.kind.Kind.{Kind}
@@ -30,14 +31,10 @@ use Rattle.byz_world.proofs.Elements.{number_of}
 use Rattle.byz_world.proofs.Pooled.{sent_is_pooled, is_has_sent, some_is_for}
 use Rattle.byz_world.proofs.Counts.{len_within, len_covered, len_all}
 use Rattle.byz_world.proofs.Lists.{IsIn, is_picked, front_itself, front_taken, found_there}
-use Rattle.byz_world.proofs.Histories.{taken_by}
+use Rattle.byz_world.proofs.Histories.{taken_by, own_take}
 use Rattle.byz_world.proofs.Votes.{said_by, said_stays, vote_before, echo_was_issued}
 use Rattle.byz_world.proofs.Safety.{IsCorrect, correct_if, correct_among, supporters_are, supporter_said}
 use Rattle.byz_world.proofs.Safety.{whole_front, ready_for_one, deliver_one, ready_was_issued, delivered_was_issued}
-
-some_value : {A : Type 0} (o : Option A) → IsSome o → (x : A) × (o ≡ Some x)
-some_value None is = absurd cc
-some_value (Some x) is = (x, refl)
 
 some_same : {A : Type 0} (o : Option A) (x y : A) → o ≡ Some x → x ≡ y → o ≡ Some y
 some_same o x y e same = e ∙ ap Some same
@@ -48,11 +45,6 @@ same_answer : {A : Type 0} (a b : Option A) → ((x : A) → a ≡ Some x → b 
 same_answer None None to from = refl
 same_answer None (Some x) to from = from x refl
 same_answer (Some x) b to from = sym (to x refl)
-
-at_place : (p : PacketValue) → take_at p.owner p.place p ≡ Some (take_of p)
-at_place p =
-    ap (λ b. if b then Some (take_of p)
-    else None) (and_from _ _ (eq-eqb p.owner p.owner refl) (eq-eqb p.place p.place refl))
 
 own_send : (b : Bool) (o : Option Command) (c : Command) → b ≡ true → o ≡ Some c → (if b then o else None) ≡ Some c
 own_send true o c is e = e
@@ -85,7 +77,7 @@ module _ (config : ConfigValue) (liars : Nodes) (run : Run) (owner place : ℕ)
       let p : PacketValue = packet_of name i m in
       let pooled = sent_is_pooled config liars run name i m cluster (is_has_sent s run name m e) (node_of i correct) in
       let number = number_of (packets (history_of i run)) p (rest p pooled correct refl refl) in
-      is_picked (take_at owner place) (packets (history_of i run)) p (take_of p) number.0 number.1 (at_place p)
+      is_picked (take_at owner place) (packets (history_of i run)) p (take_of p) number.0 number.1 (own_take p)
 
   voted : (i name : ℕ) (kind : Kind) (c : Command) → IsHonest i → IsHonest name →
       said_by s run name kind owner place ≡ Some c → vote kind name (taken_by run i owner place) ≡ Some c

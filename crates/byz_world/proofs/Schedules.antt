@@ -1,12 +1,12 @@
 -- Schedules of packets of the pool: they end, and where none counts any more the cluster is at rest.
 use Rattle.std.proofs.Common.{◌≡◌, ℕ, ◌+◌, ◌≤◌, ◌⊎◌, inl, inr, ⊎_elim, Bool, true, false, ◌&&◌, List, []}
-use Rattle.std.proofs.Common.{zero, suc, ◌∷◌, ◌++◌, length, Option, Some, None, refl, sym, ap, ◌∙◌, length-append}
+use Rattle.std.proofs.Common.{zero, suc, ◌∷◌, ◌++◌, length, Some, refl, sym, ap, ◌∙◌, length-append}
 use Rattle.std.proofs.Common.{arith}
 use Rattle.std.specs.Prelude.{slice_get, Contains}
-use Rattle.std.specs.List.{filter_map, cons_option}
 use Rattle.std.proofs.lemmas.Bool.{and_parts}
 use Rattle.std.proofs.lemmas.List.Elements.{Contains-append_right}
 use Rattle.quorum_sizes.specs.NodeSets.{Nodes}
+use Rattle.role_commands.proofs.Exported.{filter_map-length}
 use Rattle.link_frames.specs.Packets.{PacketValue}
 use Rattle.role_node.specs.Configs.{ConfigValue}
 use Rattle.byz_world.specs.Pools.{pool}
@@ -61,17 +61,9 @@ stuck_or_not config liars run =
 
 -- Room.
 
-picked-length : {A B : Type 0} (h : A → Option B) (xs : List A) → length (filter_map h xs) ≤ length xs
-picked-length h [] = omega arith
-picked-length h (x ∷ xs) = by (h x) (filter_map h xs) (length xs) (picked-length h xs)
-  where
-    by : {B : Type 0} (o : Option B) (ys : List B) (n : ℕ) → length ys ≤ n → length (cons_option o ys) ≤ suc n
-    by None ys n h = omega (arith, h)
-    by (Some y) ys n h = omega (arith, h)
-
 history-length : (node : ℕ) (run : Run) → length (history_of node run) ≤ length run
 unfolding history_of
-history-length node run = picked-length (event_at node) run
+history-length node run = filter_map-length (event_at node) run
 
 prolonged-length : (node : ℕ) (run more : Run) →
     length (history_of node (run ++ more)) ≤ length (history_of node run) + length more

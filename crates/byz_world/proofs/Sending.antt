@@ -1,13 +1,14 @@
 -- What one more event has a node send: its answer says it, and what was sent before stays.
 use Rattle.std.proofs.Common.{◌≡◌, ℕ, ◌<◌, ◌⊎◌, inl, inr, ⊎_elim, Bool, true, false, cond, ◌&&◌, ◌==◌, List, [], ◌∷◌}
-use Rattle.std.proofs.Common.{◌++◌, length, Option, Some, None, Result, Ok, Err, refl, sym, ap, ◌∙◌, subst, arith}
+use Rattle.std.proofs.Common.{◌++◌, length, Option, Some, None, Result, Ok, Err, refl, sym, ap, ◌∙◌, subst}
 use Rattle.std.specs.Prelude.{if◌then◌else◌, slice_get, option_map}
 use Rattle.std.specs.Option.{option_or}
 use Rattle.std.proofs.lemmas.List.Elements.{filter_map-append}
-use Rattle.std.proofs.lemmas.Bool.{and_parts}
-use Rattle.std.proofs.lemmas.Bool.Decides.{nat_tests}
+use Rattle.std.proofs.lemmas.Bool.{and_parts, eq-eqb}
+use Rattle.std.proofs.lemmas.Option.{same_Some}
 use Rattle.std.proofs.lemmas.Map.Views.{exact_unsigned_eq}
 use Rattle.quorum_sizes.specs.Sizes.{Counts}
+use Rattle.role_commands.proofs.Exported.{slice_get-seam}
 use Rattle.role_commands.specs.Tables.{Table}
 use Rattle.role_commands.specs.declared.command.Command.{Command}
 use Rattle.link_frames.specs.declared.kind.Kind.{Kind}
@@ -17,7 +18,6 @@ use Rattle.link_frames.specs.Packets.{PacketValue}
 use Rattle.link_frames.specs.Kinds.{same_kind}
 use Rattle.bracha_instance.proofs.Exported as bracha
 use Rattle.bracha_instance.specs.Broadcast.{Take, is_for, supporters, echoed, readied, may_ready}
-use Rattle.bracha_instance.specs.Laws.{or_else_if}
 use Rattle.bracha_instance.specs.Taking.{newly, sent_for, newly_sent}
 use Rattle.bracha_instance.specs.declared.instance.Effect.{Effect}
 use Rattle.bracha_instance.specs.declared.instance.Effect.TheVariants as effect
@@ -36,7 +36,7 @@ use Rattle.role_node.specs.declared.event.Event.TheVariants as event
 use Rattle.role_node.specs.declared.event.Reply.{Reply}
 use Rattle.role_node.specs.declared.faults.NodeFault.{NodeFault}
 use Rattle.byz_world.specs.Runs.{of_kind}
-use Rattle.byz_world.proofs.Elements.{at_front, at_seam}
+use Rattle.byz_world.proofs.Elements.{at_front}
 
 -- what the node has sent of this message's kind, owner and place
 abbrev pub said : Counts → ℕ → List Event → Message → Option Command
@@ -97,10 +97,6 @@ said_stays s me before later m c e = stays_by s me before later m.kind m.owner m
 
 -- A SEND readies nothing.
 
-none_ready : (o : Option Command) (b : Bool) (c : Command) → (o ≡ None → b ≡ false) → or_else_if o b c ≡ o
-none_ready None b c h = ap (λ t. option_or None (cond t (Some c) None)) (h refl)
-none_ready (Some d) b c h = refl
-
 not_a_send : (kind : Kind) → (kind ≡ Send → ⊥) → same_kind kind Send ≡ false
 not_a_send Send other = absurd (other refl)
 not_a_send Echo other = refl
@@ -116,7 +112,7 @@ send_readies_nothing : (s : Counts) (ts : List Take) (t : Take) → t.kind ≡ S
     → readied s (ts ++ t ∷ []) ≡ readied s ts
 send_readies_nothing s ts t send =
     bracha.readies_its_own s ts t
-    ∙ none_ready (readied s ts) (may_ready s (ts ++ t ∷ []) t.command) t.command
+    ∙ bracha.or_else_if-never (readied s ts) (may_ready s (ts ++ t ∷ []) t.command) t.command
     (λ none.
     bracha.may_ready-alike s ts (ts ++ t ∷ []) t.command
     (supporters_of_send Echo t.command ts t (λ e. absurd cc) send)
@@ -125,17 +121,9 @@ send_readies_nothing s ts t send =
 
 -- A packet that counts sends what is new.
 
-newly_is : (a b : Option Command) (c : Command) → newly a b ≡ Some c → b ≡ Some c
-newly_is None b c e = e
-newly_is (Some d) b c e = absurd cc
-
 new_is_newly : (a b : Option Command) (c : Command) → a ≡ None → b ≡ Some c → newly a b ≡ Some c
 new_is_newly None b c n e = e
 new_is_newly (Some d) b c n e = absurd cc
-
-old_is_not_new : (a b : Option Command) (d : Command) → a ≡ Some d → newly a b ≡ None
-old_is_not_new None b d e = absurd cc
-old_is_not_new (Some d') b d e = refl
 
 none_is_new : (a b : Option Command) → a ≡ None → b ≡ None → newly a b ≡ None
 none_is_new a b e f = λ i. newly (e i) (f i)
@@ -161,7 +149,7 @@ ready_alone : (s : Counts) (ts : List Take) (t : Take) (c : Command) → readied
     newly (echoed ts) (echoed (ts ++ t ∷ [])) ≡ None
 ready_alone s ts t c none e =
     ⊎_elim
-    (λ (was : (d : Command) × (echoed ts ≡ Some d)). old_is_not_new _ _ was.0 was.1)
+    (λ (was : (d : Command) × (echoed ts ≡ Some d)). bracha.newly_again _ _ was.0 was.1)
     (λ (was : echoed ts ≡ None).
     ⊎_elim
     (λ (now : (d : Command) × (echoed (ts ++ t ∷ []) ≡ Some d)).
@@ -332,18 +320,12 @@ said_newly config me history e m recorded h =
 
 -- What the answer sends was newly sent.
 
-same_some : {A : Type 0} (x y : A) → Some x ≡ Some y → x ≡ y
-same_some x y e = cc
-
-own_name : (a : ℕ) → (a == a) ≡ true
-own_name a = grind (arith, nat_tests)
-
 sent_by_take : (s : Counts) (history : List Event) (p : PacketValue) (e r : Option Command) (m : Message) →
     option_map (said_at p) (sent_for e r) ≡ Some m →
     ((c : Command) × (e ≡ Some c) × (message Echo p.owner p.place c ≡ m)) ⊎ ((c : Command) × (r
     ≡ Some c) × (message Ready p.owner p.place c ≡ m))
-sent_by_take s history p (Some c) r m h = inl (c, refl, same_some _ _ h)
-sent_by_take s history p None (Some c) m h = inr (c, refl, same_some _ _ h)
+sent_by_take s history p (Some c) r m h = inl (c, refl, same_Some _ _ h)
+sent_by_take s history p None (Some c) m h = inr (c, refl, same_Some _ _ h)
 sent_by_take s history p None None m h = absurd cc
 
 take_said : (s : Counts) (me : ℕ) (history : List Event) (p : PacketValue) (m : Message)
@@ -356,12 +338,12 @@ take_said s me history p m h =
     ⊎_elim
     (λ (echo : (c : Command) × (newly (echoed before) (echoed after) ≡ Some c) × (message Echo p.owner p.place c ≡ m)).
     let now : P (message Echo p.owner p.place echo.0) = ap echoed (takes_with p.owner p.place history p)
-    ∙ newly_is _ _ _ echo.1 in
+    ∙ bracha.newly_now _ _ _ echo.1 in
     subst P echo.2 now)
     (λ (ready : (c : Command) × (newly (readied s before) (readied s after)
     ≡ Some c) × (message Ready p.owner p.place c ≡ m)).
     let now : P (message Ready p.owner p.place ready.0) = ap (readied s) (takes_with p.owner p.place history p)
-    ∙ newly_is _ _ _ ready.1 in
+    ∙ bracha.newly_now _ _ _ ready.1 in
     subst P ready.2 now)
     (sent_by_take s history p (newly (echoed before) (echoed after)) (newly (readied s before) (readied s after)) m h)
 
@@ -373,15 +355,15 @@ issue_said : (s : Counts) (me : ℕ) (history : List Event) (c : Command) (m : M
 issue_said s me history c m h =
     let P : Message → Type 0 = λ x. said s me (history ++ event.Issue c ∷ []) x ≡ Some x.command in
     let now : P (message Send me (length (issued history)) c) =
-    if_same (me == me) _ _ (own_name me)
+    if_same (me == me) _ _ (eq-eqb me me refl)
     ∙ ap (λ cs. slice_get cs (length (issued history))) (issued-Issue history c)
-    ∙ at_seam (issued history) [] c in
+    ∙ slice_get-seam (issued history) [] c in
     subst P h now
 
 said_by : (roles : Table) (me : ℕ) (history : List Event) (e : Event) (m : Message)
     → sent_as roles me history e ≡ Some m →
     said roles.sizes me (history ++ e ∷ []) m ≡ Some m.command
-said_by roles me history (event.Issue c) m h = issue_said roles.sizes me history c m (same_some _ _ h)
+said_by roles me history (event.Issue c) m h = issue_said roles.sizes me history c m (same_Some _ _ h)
 said_by roles me history (event.Take p) m h = take_said roles.sizes me history p m h
 said_by roles me history (event.Client (Open user)) m h = absurd cc
 said_by roles me history (event.Client (Activate session user role)) m h = absurd cc

@@ -6,6 +6,7 @@ use Rattle.std.proofs.lemmas.Map.Views.{exact_unsigned_eq}
 use Rattle.std.proofs.lemmas.Option.{slice_get_within}
 use Rattle.quorum_sizes.specs.Sizes.{Counts}
 use Rattle.quorum_sizes.specs.NodeSets.{Nodes}
+use Rattle.role_commands.proofs.Exported.{if_some}
 use Rattle.role_commands.specs.declared.command.Command.{Command}
 use Rattle.link_frames.proofs.Exported.{due_again}
 use Rattle.link_frames.specs.Packets.{PacketValue, IsSound, place_count, packet_of, packet_due, message_of}
@@ -22,7 +23,7 @@ use Rattle.byz_world.specs.Pools.{Sent, messages, pool}
 use Rattle.byz_world.specs.Runs.{Run, history_of, of_kind, has_sent, IsClusterRun}
 use Rattle.byz_world.proofs.Histories.{taken_by, some_taken}
 use Rattle.byz_world.proofs.Pooled.{pooled_is_sent, has_sent_is, message_is_sent}
-use Rattle.byz_world.proofs.Votes.{said_by, if_own}
+use Rattle.byz_world.proofs.Votes.{said_by}
 
 own_send : (s : Counts) (me : ℕ) (history : List Event) (owner place : ℕ) (c : Command) (b : Bool) → (owner == me) ≡ b →
     ◌≡◌ {A = Option Command} (if b then slice_get (issued history) place else None) (Some c) → me ≡ owner
@@ -50,7 +51,7 @@ module _ (config : ConfigValue) (liars : Nodes) (run : Run) (cluster : IsCluster
   said_in_range : (node : ℕ) (kind : Kind) (owner place : ℕ) (c : Command) →
       said_by s run node kind owner place ≡ Some c → place < place_count
   said_in_range node Send owner place c e =
-      let mine = if_own (owner == node) _ c e in
+      let mine = if_some (owner == node) _ c e in
       let there = slice_get_within (issued (history_of node run)) place c mine.1 in
       let few = issued_within config node (history_of node run) (cluster.legal node) in
       omega (arith, there, few)

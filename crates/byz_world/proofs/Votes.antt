@@ -1,10 +1,11 @@
 -- Votes and what was sent: a correct node's vote, wherever it was counted, is for what that node had sent.
-use Rattle.std.proofs.Common.{◌≡◌, ℕ, ◌<◌, Bool, true, false, ◌==◌, if◌then◌else◌, List, length, take, find}
+use Rattle.std.proofs.Common.{◌≡◌, ℕ, ◌<◌, true, ◌==◌, List, length, take, find}
 use Rattle.std.proofs.Common.{slice_get, option_map, Option, Some, None, refl, sym, ap, ◌∙◌, eqb-true}
 use Rattle.std.specs.FinSet as sets
 use Rattle.std.proofs.lemmas.Bool.{and_parts}
 use Rattle.quorum_sizes.specs.Sizes.{Counts}
 use Rattle.quorum_sizes.specs.NodeSets.{Nodes}
+use Rattle.role_commands.proofs.Exported.{if_some}
 use Rattle.role_commands.specs.declared.command.Command.{Command}
 use Rattle.link_frames.specs.Packets.{message_of}
 use Rattle.link_frames.specs.declared.packet.Message.{Message}
@@ -104,12 +105,6 @@ vote_before config liars run m node owner place takes cluster front kind name c 
           ∙ ap Some found.4;
     }
 
--- an answer that is given under a test: the test holds, and that is the answer
-pub if_own : (b : Bool) (o : Option Command) (c : Command) → (if b then o else None) ≡ Some c
-    → (b ≡ true) × (o ≡ Some c)
-if_own true o c e = (refl, e)
-if_own false o c e = absurd cc
-
 send_by : (takes : List Take) (c : Command) (o : Option Take) → find (is_of_kind Send) takes ≡ o
     → option_map command_of o ≡ Some c →
     (t : Take) × IsIn takes t × (t.kind ≡ Send) × (t.command ≡ c)
@@ -146,7 +141,7 @@ echo_was_issued config liars run node owner place c cluster correct e =
     ∙ sent_before config liars run (length run) node owner place t cluster from (ap (is_correct s liars) sender
     ∙ correct)
     ∙ ap Some found.3 in
-    (if_own (owner == owner) _ c (said_stays s from.at run owner Send owner place c sent)).1
+    (if_some (owner == owner) _ c (said_stays s from.at run owner Send owner place c sent)).1
 
 -- Supporters.
 

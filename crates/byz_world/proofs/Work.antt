@@ -8,7 +8,8 @@ use Rattle.std.specs.Option.{option_or}
 use Rattle.std.proofs.lemmas.Bool.{and_parts, and_from, cases_lt}
 use Rattle.quorum_sizes.specs.Sizes.{Counts}
 use Rattle.quorum_sizes.specs.NodeSets.{Nodes}
-use Rattle.quorum_sizes.proofs.Exported.{count}
+use Rattle.quorum_sizes.proofs.Exported.{count, count-most}
+use Rattle.role_commands.proofs.Exported.{slice_get-seam}
 use Rattle.role_commands.specs.declared.command.Command.{Command}
 use Rattle.link_frames.specs.Packets.{PacketValue, SentByOwner}
 use Rattle.link_frames.specs.declared.kind.Kind.{Kind}
@@ -29,20 +30,12 @@ use Rattle.role_node.specs.declared.event.Event.TheVariants as event
 use Rattle.role_node.specs.declared.faults.NodeFault.{NodeFault}
 use Rattle.byz_world.specs.Progress.{most_at_place}
 use Rattle.byz_world.specs.Runs.{Run, history_of, IsClusterRun}
-use Rattle.byz_world.proofs.Elements.{at_seam}
 use Rattle.byz_world.proofs.Histories.{taken_by, pair_in}
 use Rattle.byz_world.proofs.Idle.{counted_early, was_open, open_outlook}
 use Rattle.byz_world.proofs.Sending.{own_instance}
+use Rattle.byz_world.proofs.Pooled.{nothing_taken}
 
 -- Counts.
-
-count_most : (p : ℕ → Bool) (n : ℕ) → count p n ≤ n
-count_most p zero = omega arith
-count_most p (suc n) = by (p n) (count p n) n (count_most p n)
-  where
-    by : (b : Bool) (x n : ℕ) → x ≤ n → cond b (suc x) x ≤ suc n
-    by true x n h = omega (arith, h)
-    by false x n h = omega (arith, h)
 
 cond_keeps : (a b : Bool) (x y : ℕ) → (a ≡ true → b ≡ true) → x ≤ y → cond a (suc x) x ≤ cond b (suc y) y
 cond_keeps true true x y keeps h = omega (arith, h)
@@ -113,9 +106,9 @@ votes_in s owner takes =
 
 few_votes : (s : Counts) (owner : ℕ) (takes : List Take) → votes_in s owner takes ≤ most_at_place s
 few_votes s owner takes =
-    let sends = count_most (λ _. has_vote Send takes owner) 1 in
-    let echoes = count_most (has_vote Echo takes) s.nodes in
-    let readies = count_most (has_vote Ready takes) s.nodes in
+    let sends = count-most (λ _. has_vote Send takes owner) 1 in
+    let echoes = count-most (has_vote Echo takes) s.nodes in
+    let readies = count-most (has_vote Ready takes) s.nodes in
     omega (arith, sends, echoes, readies)
 
 more_by : (s : Counts) (owner : ℕ) (takes : List Take) (t : Take) → t.from < s.nodes →
@@ -240,14 +233,10 @@ few_after config me owner place past [] legal owned few =
 few_after config me owner place past (e ∷ rest) legal owned few =
     let split : past ++ e ∷ rest ≡ (past ++ e ∷ []) ++ rest = sym (append_assoc past (e ∷ []) rest) in
     let next = few_next config me owner place past e (recorded_next config me past rest e legal)
-    (λ p is. owned (length past) p (at_seam past rest e ∙ ap Some is)) few in
+    (λ p is. owned (length past) p (slice_get-seam past rest e ∙ ap Some is)) few in
     subst (IsFew config.roles.sizes owner place) (sym split)
     (few_after config me owner place (past ++ e ∷ []) rest (subst (IsLegal config me) split legal)
     (subst SendsOwned split owned) next)
-
-none_about : (owner place : ℕ) → takes_at owner place [] ≡ []
-unfolding takes_at
-none_about owner place = refl
 
 sends_owned : (config : ConfigValue) (liars : Nodes) (run : Run) (node : ℕ) → IsClusterRun config liars run →
     SendsOwned (history_of node run)
@@ -264,7 +253,7 @@ pub few_at_place : (config : ConfigValue) (liars : Nodes) (run : Run) (node owne
     IsClusterRun config liars run → length (taken_by run node owner place) ≤ most_at_place config.roles.sizes
 few_at_place config liars run node owner place cluster =
     let s : Counts = config.roles.sizes in
-    let start : about owner place [] ≡ [] = ap (takes_at owner place) packets-none ∙ none_about owner place in
+    let start : about owner place [] ≡ [] = ap (takes_at owner place) packets-none ∙ nothing_taken owner place in
     let P : List Take → Type 0 = λ ts. length ts ≤ votes_in s owner ts in
     let few : IsFew s owner place (history_of node run) =
     few_after config node owner place [] (history_of node run) (cluster.legal node)

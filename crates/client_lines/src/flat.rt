@@ -12,6 +12,8 @@ use fast_float::Numeral;
 use json::{Reader, Scratch, Token};
 use std::alloc::AllocError;
 
+const MINUS: u8 = b'-';
+
 /// What a line says, if it is such an object and begins with its brace; `None` says nothing of the line.
 ///
 /// # Errors
@@ -88,16 +90,13 @@ fn whole_number(digits: &str) -> Option<u64>
 }
 
 fn has_minus(bytes: &[u8]) -> bool
-    ensures { result ≡ (slice_index bytes.now 0 == 45) }
+    ensures { result ≡ (slice_index bytes.now 0 == MINUS) }
 {
-    !bytes.is_empty() && bytes[0] == b'-'
+    !bytes.is_empty() && bytes[0] == MINUS
 }
 
 fn unsigned(numeral: &Numeral<'_>) -> Option<u64>
     ensures { IfSome result (λ n. number_from false numeral.now ≡ Some (unsigned n)) }
 {
-    match numeral.to_u64() {
-        Some(number) => Some(number),
-        None => None,
-    }
+    numeral.to_u64()
 }

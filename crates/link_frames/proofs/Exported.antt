@@ -7,7 +7,8 @@
 --     text_by-.., bad_by-..      a line program, line by line
 --     written_more      a list of which one item more is written
 --     Ran, Ran-..      a line program that was run so far; Ended, Whole: how it ends; ..Between: between two moments
---     HasBytes-done, some_tail, tail_of, tail_at_end      what an input is of which a part was read
+--     HasBytes-done, some_tail, nothing_left, tail_of, tail_at_end      what an input is of which a part was read
+--     front_read      the front of a buffer whose rest was read into
 --     sealed_is_opened, one_frame, length-frame, frames_differ      the laws of frames
 --     due_takes, due_again      the packet of a message is due exactly where it is sound
 --     length-hmac, open_takes, open_again, opened_is_sound      what is opened is the packet's frame
@@ -26,7 +27,8 @@ pub use Rattle.link_frames.proofs.ProgramEndLemmas.{Ended, EndedBetween, Whole, 
 pub use Rattle.link_frames.proofs.ProgramEndLemmas.{Ran-front, Ran-silent}
 pub use Rattle.link_frames.proofs.ProgramEndLemmas.{Ran-passed_last, Ran-end, Ran-last, Ran-bad_line, Ran-bad_last}
 pub use Rattle.link_frames.proofs.ProgramEndLemmas.{Ran-too_long, WroteFront-nothing, HasBytes-done, some_tail}
-pub use Rattle.link_frames.proofs.ProgramEndLemmas.{tail_of, tail_at_end}
+pub use Rattle.link_frames.proofs.ProgramEndLemmas.{nothing_left, tail_of, tail_at_end}
+pub use Rattle.link_frames.proofs.FrameReadLemmas.{front_read}
 pub use Rattle.link_frames.proofs.FrameLaws.{sealed_is_opened, one_frame, length-frame, frames_differ}
 pub use Rattle.link_frames.proofs.PacketReading.{due_takes, due_again}
 pub use Rattle.link_frames.proofs.OpeningLemmas.{length-hmac, open_takes, open_again, opened_is_sound}

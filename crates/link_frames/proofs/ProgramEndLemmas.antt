@@ -35,7 +35,7 @@ pub tail_at_end : (known : Option (List ℕ)) (front : List ℕ) → IsAtEnd kno
 tail_at_end None front end = tt
 tail_at_end (Some ys) front end = ap (λ l. front ++ l) end ∙ append-nil front
 
-nothing_left : (p : Option (List ℕ)) → IsAtEnd p → HasBytes p []
+pub nothing_left : (p : Option (List ℕ)) → IsAtEnd p → HasBytes p []
 nothing_left None end = tt
 nothing_left (Some ys) end = end
 

@@ -52,7 +52,7 @@ pub fn read_patiently<R: Read>(
     if reader.reads() == u64::MAX {
         return Err(DeviceFault);
     }
-    for tries in 0..MOST_TRIES {
+    for _tries in 0..MOST_TRIES {
         match reader.read(buffer) {
             Ok(count) => return Ok(count),
             Err(error) if is_interruption(&error) => {}
@@ -73,7 +73,7 @@ fn write_patiently<W: Write>(writer: &mut Watched<W>, bytes: &[u8]) -> Result<us
     ensures err { OnErr result (CallFailed (watched_tally writer.old) (watched_tally writer.new)) }
     ensures reads { watched_reads writer.new ≡ watched_reads writer.old }
 {
-    for tries in 0..MOST_TRIES {
+    for _tries in 0..MOST_TRIES {
         match writer.write(bytes) {
             Ok(0) => return Err(DeviceFault),
             Ok(count) => return Ok(count),

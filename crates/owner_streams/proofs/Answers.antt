@@ -2,6 +2,7 @@
 use Rattle.std.proofs.Common.{◌≡◌, ℕ, zero, suc, ◌+◌, ◌≤◌, List, [], ◌∷◌, ◌++◌}
 use Rattle.std.proofs.Common.{length, Option, Some, None, refl, sym, ap, ◌∙◌, arith}
 use Rattle.std.specs.Prelude.{slice_get}
+use Rattle.std.proofs.lemmas.Option.{same_Some}
 use Rattle.owner_streams.specs.Places.{cons_if, answers_from}
 
 -- the list has the answers at k and after it, and at its end there is none
@@ -36,9 +37,6 @@ answers_are_all ask k (suc most) none =
     answer_or_end ask k (ask k) _ refl (answers_are_all ask (k + 1) most (λ i h. let past : k + suc most ≤ i =
     omega arith in none i past))
 
-heads : {A : Type 0} (x y : A) → Some x ≡ Some y → x ≡ y
-heads x y e = cc
-
 -- the answers are one list
 pub answers_are_one : {A : Type 0} (ask : ℕ → Option A) (k : ℕ) (xs ys : List A) → HasAnswers ask k xs
     → HasAnswers ask k ys
@@ -49,7 +47,7 @@ answers_are_one ask k [] (y ∷ ys) p q =
 answers_are_one ask k (x ∷ xs) [] p q =
     absurd (let e : Some x ≡ None = sym (p 0 (omega arith)) ∙ q 0 (omega arith) in cc)
 answers_are_one ask k (x ∷ xs) (y ∷ ys) p q =
-    let first : x ≡ y = heads x y (sym (p 0 (omega arith)) ∙ q 0 (omega arith)) in
+    let first : x ≡ y = same_Some x y (sym (p 0 (omega arith)) ∙ q 0 (omega arith)) in
     let rest : xs ≡ ys =
     answers_are_one ask (k + 1) xs ys
     (λ i h. let e : k + 1 + i ≡ k + suc i = omega arith in let within : suc i ≤ length (x ∷ xs) = omega arith in

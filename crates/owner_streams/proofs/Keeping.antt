@@ -12,6 +12,7 @@ use Rattle.bracha_instance.specs.States.{State, state}
 use Rattle.bracha_instance.specs.Next.{after}
 use Rattle.bracha_instance.specs.Taking.{newly}
 use Rattle.bracha_instance.specs.declared.instance.Taken.{Taken}
+use Rattle.role_commands.proofs.Exported.{some_value}
 use Rattle.role_commands.specs.declared.command.Command.{Command}
 use Rattle.owner_streams.specs.Places.{place_count, take_of, takes_at}
 use Rattle.owner_streams.specs.Slots.{state_in, delivered_in, IsTaken}
@@ -22,10 +23,6 @@ use Rattle.owner_streams.proofs.Reaching.{delivered_is}
 
 some_of : {A : Type 0} (o : Option A) (x : A) → o ≡ Some x → IsSome o
 some_of o x e = ap is_some e
-
-the_some : {A : Type 0} (o : Option A) → IsSome o → (x : A) × (o ≡ Some x)
-the_some None h = absurd cc
-the_some (Some x) h = (x, refl)
 
 not_there : (owner a b : ℕ) → b ≢ a → ((owner == owner) && (a == b)) ≡ false
 not_there owner a b apart = let turned : a ≢ b = λ e. apart (sym e) in grind (arith, nat_tests)
@@ -62,7 +59,7 @@ still_run s before after p n others one states run place h =
     let known = states p.place in
     let there : IsSome (delivered_in (before p.place)) =
     subst (λ k. IsSome (delivered_in (before k))) e (run place h) in
-    let c = the_some _ there in
+    let c = some_value _ there in
     let first : delivered s known.0 ≡ Some c.0 = sym (delivered_is s (before p.place) known.0 known.1) ∙ c.1 in
     let now : delivered_in (after p.place) ≡ Some c.0 =
     delivered_is s (after p.place) (known.0 ++ take_of p ∷ []) (one known.0 known.1)

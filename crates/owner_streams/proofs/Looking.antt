@@ -1,23 +1,22 @@
 -- The effect that is looked up at what is kept is the one that is due.
 use Rattle.std.proofs.Common.{◌≡◌, ◌+◌, ◌<◌, ◌≤◌, ⊎_elim, Bool, true, false, cond, List, [], ◌∷◌, ◌++◌}
-use Rattle.std.proofs.Common.{ℕ, Option, Some, None, Result, Ok, Err, refl, sym, ap, ◌∙◌, arith}
+use Rattle.std.proofs.Common.{ℕ, Option, Some, None, Ok, Err, refl, sym, ap, ◌∙◌, arith}
 use Rattle.std.specs.Prelude.{nat_le, is_some}
 use Rattle.std.proofs.lemmas.Bool.{cases_lt}
 use Rattle.std.proofs.lemmas.Bool.Decides.{nat_tests}
 use Rattle.quorum_sizes.specs.Sizes.{Counts}
+use Rattle.role_commands.proofs.Exported.{same_Ok}
 use Rattle.link_frames.specs.Packets.{PacketValue, SentByOwner}
 use Rattle.bracha_instance.proofs.Exported.{voted_at}
 use Rattle.bracha_instance.specs.Broadcast.{Take, vote}
 use Rattle.bracha_instance.specs.States.{State, state}
 use Rattle.bracha_instance.specs.Taking.{SendsAreFrom}
-use Rattle.bracha_instance.specs.declared.instance.Effect.{Effect}
 use Rattle.bracha_instance.specs.declared.instance.Effect.TheVariants.{Idle, Counted}
 use Rattle.owner_streams.specs.Places.{window, take_of, takes_at}
 use Rattle.owner_streams.specs.Steps.{SendsAreOwners, step_due, effect_due}
 use Rattle.owner_streams.specs.Slots.{state_in, voted_in}
 use Rattle.owner_streams.specs.Kept.{reach_in, held, look_in, IsOwnerStream, AreStatesOf}
 use Rattle.owner_streams.specs.declared.owner_stream.OwnerStream.{OwnerStream}
-use Rattle.owner_streams.specs.declared.steps.StreamFault.{StreamFault}
 use Rattle.owner_streams.specs.declared.steps.StreamFault.TheVariants.{Beyond}
 use Rattle.owner_streams.proofs.Reaching.{reach_is_due}
 use Rattle.owner_streams.proofs.Senders.{one_sender}
@@ -54,9 +53,6 @@ counted_test : (b : Bool) → cond b Idle Counted ≡ Counted → b ≡ false
 counted_test true e = absurd cc
 counted_test false e = refl
 
-same_ok : (x y : Effect) → ◌≡◌ {A = Result Effect StreamFault} (Ok x) (Ok y) → x ≡ y
-same_ok x y e = cc
-
 -- a packet that counts was not taken at its place
 pub look_counted : (a : OwnerStream) (p : PacketValue) → look_in a p ≡ Ok Counted
     → voted_in (held a p.place) p.kind p.from ≡ false
@@ -65,4 +61,4 @@ look_counted a p is =
     let test : nat_le (reach_in a + window) p.place ≡ false = grind (arith, nat_tests) in
     let v = voted_in (held a p.place) p.kind p.from in
     let seen : look_in a p ≡ Ok (cond v Idle Counted) = rw test refl in
-    counted_test v (same_ok _ _ (sym seen ∙ is))
+    counted_test v (same_Ok _ _ (sym seen ∙ is))

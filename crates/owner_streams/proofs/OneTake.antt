@@ -5,7 +5,8 @@ use Rattle.std.specs.declared.alloc.AllocError.{AllocError}
 use Rattle.quorum_sizes.specs.Sizes.{Counts}
 use Rattle.bracha_instance.specs.Broadcast.{Take}
 use Rattle.bracha_instance.specs.States.{State, state}
-use Rattle.bracha_instance.specs.Taking.{taken_for, newly_sent, newly_delivered}
+use Rattle.bracha_instance.specs.NewTakes.{taken_for}
+use Rattle.bracha_instance.specs.Taking.{newly_sent, newly_delivered}
 use Rattle.bracha_instance.specs.declared.instance.Caused.{Caused}
 use Rattle.owner_streams.specs.Slots.{state_in, IsAnswerAt}
 

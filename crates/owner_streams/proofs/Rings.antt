@@ -10,6 +10,7 @@ use Rattle.std.proofs.lemmas.List.{get_or_past, get_or-set_other}
 use Rattle.std.proofs.lemmas.List.FromFn.{length-map-range_with_len, get_or-map-range_with_len}
 use Rattle.std.proofs.lemmas.Bool.{cases_lt, cases_eq, both_ways}
 use Rattle.std.proofs.lemmas.Bool.Decides.{nat_tests}
+use Rattle.role_commands.proofs.Exported.{slice_get-front, slice_get-seam}
 use Rattle.bracha_instance.specs.States.{State}
 use Rattle.owner_streams.specs.Places.{window}
 use Rattle.owner_streams.specs.Slots.{slot_at, delivered_in}
@@ -47,15 +48,6 @@ same_slot : (a b : ℕ) → b ≡ a + window → b % window ≡ a % window
 same_slot a b e = omega arith
 
 -- Lists.
-
-slice_get-front : {A : Type 0} (xs ys : List A) (k : ℕ) → k < length xs → slice_get (xs ++ ys) k ≡ slice_get xs k
-slice_get-front [] ys k h = absurd (omega arith)
-slice_get-front (x ∷ xs) ys zero h = refl
-slice_get-front (x ∷ xs) ys (suc k) h = slice_get-front xs ys k (omega arith)
-
-slice_get-last : {A : Type 0} (xs : List A) (x : A) → slice_get (xs ++ x ∷ []) (length xs) ≡ Some x
-slice_get-last [] x = refl
-slice_get-last (y ∷ xs) x = slice_get-last xs x
 
 cleared : (ring : List (Option State)) (k : ℕ) → slot_at (slice_set ring k None) k ≡ None
 cleared [] k = refl
@@ -132,7 +124,7 @@ held-moved below ring st front place =
     (λ (at : place ≡ length below).
     ap (held_in more free) at
     ∙ held-below more free (length below) (omega arith)
-    ∙ slice_get-last below st
+    ∙ slice_get-seam below [] st
     ∙ sym (ap (held_in below ring) at ∙ front))
     (λ (apart : place ≢ length below).
     let after : length below < place = later (length below) place from apart in

@@ -1,20 +1,21 @@
 -- The step that is due to a packet, from what is kept at its place.
 use Rattle.std.proofs.Common.{◌≡◌, ℕ, ◌+◌, ◌<◌, ◌≤◌, ⊎_elim, Bool, true, false, cond, List, [], ◌∷◌}
-use Rattle.std.proofs.Common.{◌++◌, Option, Some, None, Result, Ok, Err, refl, sym, ap, ◌∙◌, arith}
+use Rattle.std.proofs.Common.{◌++◌, Option, Some, None, Ok, Err, refl, sym, ap, ◌∙◌, arith}
 use Rattle.std.specs.Prelude.{nat_le, is_some}
 use Rattle.std.proofs.lemmas.Bool.{cases_lt, cases_Bool}
 use Rattle.std.proofs.lemmas.Bool.Decides.{nat_tests}
 use Rattle.quorum_sizes.specs.Sizes.{Counts}
+use Rattle.role_commands.proofs.Exported.{same_Ok}
 use Rattle.role_commands.specs.declared.command.Command.{Command}
 use Rattle.link_frames.specs.declared.kind.Kind.{Kind}
 use Rattle.link_frames.specs.declared.kind.Kind.TheVariants.{Send, Echo, Ready}
 use Rattle.std.specs.FinSet as sets
 use Rattle.std.specs.Ordering.{nat_cmp}
 use Rattle.link_frames.specs.Packets.{PacketValue}
-use Rattle.bracha_instance.proofs.Exported.{voted, state_push, state-echoed, state-readied, state-delivered}
+use Rattle.bracha_instance.proofs.Exported.{voted, state_push, state-echoed, state-readied, state-delivered, newly_same}
 use Rattle.bracha_instance.specs.Broadcast.{Take, vote, voters, delivered, echoed, readied}
 use Rattle.bracha_instance.specs.States.{State, state}
-use Rattle.bracha_instance.specs.Taking.{effect_of, newly, sent_for, newly_sent, newly_delivered, has_voted}
+use Rattle.bracha_instance.specs.Taking.{effect_of, sent_for, newly_sent, newly_delivered, has_voted}
 use Rattle.bracha_instance.specs.Next.{after, after_kind}
 use Rattle.bracha_instance.specs.declared.instance.Effect.{Effect}
 use Rattle.bracha_instance.specs.declared.instance.Effect.TheVariants.{Idle, Counted}
@@ -67,10 +68,6 @@ step_is s packets p taken from to counts t f e =
     ap (newly_delivered s before) (takes_at-own packets p) ∙ sym t.delivered in
     λ i. record { effect = counts i; broadcast = broadcast i; delivered = delivered i; from = f i; to = e i }
 
-not_new : (o now : Option Command) → now ≡ o → newly o now ≡ None
-not_new None now e = e
-not_new (Some c) now e = refl
-
 nothing_sent : (a b : Option Command) → a ≡ None → b ≡ None → sent_for a b ≡ None
 nothing_sent a b e f = λ i. sent_for (e i) (f i)
 
@@ -90,9 +87,10 @@ idle_step_is s packets p n idle same f e =
     let done : delivered s after ≡ delivered s before = sym (state-delivered s after) ∙ ap (λ st. st.delivered) same
     ∙ state-delivered s before in
     let broadcast : newly_sent s before after ≡ None =
-    nothing_sent _ _ (not_new (echoed before) (echoed after) echo) (not_new (readied s before) (readied s after) ready)
-    in
-    let delivery : newly_delivered s before after ≡ None = not_new (delivered s before) (delivered s after) done in
+    nothing_sent _ _ (newly_same (echoed before) (echoed after) echo)
+    (newly_same (readied s before) (readied s after) ready) in
+    let delivery : newly_delivered s before after ≡ None =
+    newly_same (delivered s before) (delivered s after) done in
     λ i. record { effect = idle i; broadcast = broadcast i; delivered = delivery i; from = f i; to = e i }
 
 -- a packet that is not refused is before the end of the window
@@ -109,16 +107,13 @@ idle_test : (b : Bool) → Idle ≡ cond b Idle Counted → b ≡ true
 idle_test true e = refl
 idle_test false e = absurd cc
 
-same_ok : {A B : Type 0} (x y : A) → ◌≡◌ {A = Result A B} (Ok x) (Ok y) → x ≡ y
-same_ok x y e = cc
-
 -- one that is idle changes nothing at its place
 pub look_idle : (a : OwnerStream) (p : PacketValue) → Ok Idle ≡ look_in a p
     → voted_in (held a p.place) p.kind p.from ≡ true
 look_idle a p is =
     let within : p.place < reach_in a + window = look_within a p Idle is in
     let test : nat_le (reach_in a + window) p.place ≡ false = grind (arith, nat_tests) in
-    idle_test _ (same_ok _ _ (is ∙ rw test refl))
+    idle_test _ (same_Ok _ _ (is ∙ rw test refl))
 
 pub voted_changes_nothing : (s : Counts) (slot : Option State) (t : Take) → voted_in slot t.kind t.from ≡ true
     → (takes : List Take) → state_in s slot ≡ state s takes →
@@ -133,7 +128,7 @@ voted_changes_nothing s (Some st) t v takes is =
 pub effect_is : (s : Counts) (packets : List PacketValue) (p : PacketValue) (e : Effect)
     → step_due s packets p ≡ Ok (step_of s packets p) →
     Ok e ≡ effect_due (step_due s packets p) → effect_of (takes_at p.owner p.place packets) (take_of p) ≡ e
-effect_is s packets p e due is = sym (same_ok e _ (is ∙ ap effect_due due))
+effect_is s packets p e due is = sym (same_Ok e _ (is ∙ ap effect_due due))
 
 pub counts : (e : Effect) → (e ≡ Idle → ⊥) → e ≡ Counted
 counts Idle other = absurd (other refl)

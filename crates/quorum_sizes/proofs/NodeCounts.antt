@@ -145,7 +145,8 @@ len-count (suc n) names below = at_last n names below (sets.contains names n) re
         (λ e. true≢false (sym h ∙ ap (sets.contains names) e ∙ lacks)))
         ∙ ap (λ b. cond b (suc (count (sets.contains names) n)) (count (sets.contains names) n)) (sym lacks)
 
-count-most : (p : ℕ → Bool) (n : ℕ) → count p n ≤ n
+-- a count is of n at most
+pub count-most : (p : ℕ → Bool) (n : ℕ) → count p n ≤ n
 count-most p zero = omega arith
 count-most p (suc n) =
     let below = count-most p n in

@@ -106,6 +106,7 @@ pub fn quorums_meet(sizes: &Sizes, a: &NodeSet, b: &NodeSet) -> NodeSet
         echo_quorum_of sizes.now ≤ sets.len a.now → echo_quorum_of sizes.now ≤ sets.len b.now →
         sizes.now.liars < sets.len result }
 {
+    // that fewer than a third may lie is known here only of sizes that the body reads
     let _n = sizes.n();
     NodeSet {
         word: a.word & b.word,

@@ -1,8 +1,8 @@
 //! A relation that is looked up from either side.
 
-ghost use Rattle.std.specs.Prelude.{◌≡◌, ◌<◌, ◌≤◌, ◌+◌, ◌||◌, ◌&&◌, not, [], filter, OnOk, OnErr};
+ghost use Rattle.std.specs.Prelude.{◌≡◌, ◌<◌, ◌≤◌, ◌+◌, ◌*◌, ◌||◌, ◌&&◌, not, [], filter, OnOk, OnErr};
 ghost use Rattle.std.specs.Ordering.{eq_by_cmp};
-ghost use Rattle.rbac_state.specs.inside.Blocks.{items_in};
+ghost use Rattle.rbac_state.specs.inside.Blocks.{block_size, items_in};
 ghost use Rattle.rbac_state.specs.inside.Relations.{IsKeptBothWays, SamePairs, relates, room_of};
 
 use crate::blocks;
@@ -40,7 +40,7 @@ impl<A: Ord + Copy + Drop, B: Ord + Copy + Drop> Relation<A, B> {
     /// Only for want of memory, where there is less room than that. The pairs stay as they were.
     #[inline(always)]
     pub fn make_room(&mut self, least: usize) -> Result<(), AllocError>
-        requires few { least ≤ 128 }
+        requires few { 4 * least ≤ block_size }
         requires kept { IsKeptBothWays A.cmp B.cmp self.old }
         ensures kept { IsKeptBothWays A.cmp B.cmp self.new }
         ensures ok { OnOk result (least ≤ room_of self.new) }
@@ -56,7 +56,7 @@ impl<A: Ord + Copy + Drop, B: Ord + Copy + Drop> Relation<A, B> {
 
     /// Makes room for so many pairs, which are more than there is room for.
     fn free(&mut self, room: usize) -> Result<(), AllocError>
-        requires few { room ≤ 256 }
+        requires few { 2 * room ≤ block_size }
         requires more { room_of self.old ≤ room }
         requires kept { IsKeptBothWays A.cmp B.cmp self.old }
         ensures kept { IsKeptBothWays A.cmp B.cmp self.new }

@@ -7,6 +7,7 @@
 --     same_command-self, same_command_is      `same_command` tells whether two commands are one
 --     length-bytes_of, bytes_of_injective, command_again, command_takes      a command's bytes
 --     get-entries      a table's entries are a finite map
+--     slice_get-.., filter_map-length, some_value, if_some, same_Ok      general facts about lists, options and results
 pub use Rattle.role_commands.proofs.SplitWordLemmas.{split_word_is, split_word-front, split_word-word}
 pub use Rattle.role_commands.proofs.SplitWordLemmas.{split_word-decimal, split_word-joined, plain_word, decimal_plain}
 pub use Rattle.role_commands.proofs.NumberLemmas.{number_of-decimal, number_of_spelled, byte_read}
@@ -20,3 +21,5 @@ pub use Rattle.role_commands.proofs.SameLemmas.{same_command-self, same_command_
 pub use Rattle.role_commands.proofs.ByteLemmas.{length-bytes_of, bytes_of_injective}
 pub use Rattle.role_commands.proofs.ByteReading.{command_again, command_takes, IsBytes-part}
 pub use Rattle.role_commands.proofs.TableLemmas.{get-entries}
+pub use Rattle.role_commands.proofs.ListFacts.{slice_get-front, slice_get-seam, filter_map-length, some_value}
+pub use Rattle.role_commands.proofs.ListFacts.{if_some, same_Ok}

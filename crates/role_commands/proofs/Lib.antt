@@ -2,6 +2,7 @@ pub mod ByteLemmas
 pub mod ByteReading
 pub mod Exported
 pub mod FirstWordLemmas
+pub mod ListFacts
 pub mod NumberLemmas
 pub mod PlainText
 pub mod SameLemmas

@@ -2,6 +2,7 @@
 --     one_answer, one_under      a question has one answer, after a history and under relations and sessions
 --     issued-Issue, packets-Take ..      the parts of a history, as one more event comes
 --     stream_other, stream_same      the streams, as one more packet is taken
+--     step_is_own      what a packet causes is for its own command
 --     legal, relations_are      what entries and a node's state say of its history
 --     at_push, events-push, entries_push ..      entries, as one more is recorded
 --     recorded_next, along_legal, legal_within ..      what holds of each legal history
@@ -13,6 +14,7 @@ pub use Rattle.role_node.proofs.HistoryLemmas.{packets-Client, client_events-Iss
 pub use Rattle.role_node.proofs.HistoryLemmas.{client_events-Client}
 pub use Rattle.role_node.proofs.HistoryLemmas.{issued-none, packets-none, client_events-none, client_events-length}
 pub use Rattle.role_node.proofs.StreamLemmas.{stream_other, stream_same, policy_same}
+pub use Rattle.role_node.proofs.CauseLemmas.{step_is_own}
 pub use Rattle.role_node.proofs.KeptLemmas.{relations_are, legal_inside}
 pub use Rattle.role_node.proofs.EntryLemmas.{at_push, events-push, events-length, entries_push, no_entries}
 pub use Rattle.role_node.proofs.EntryLemmas.{legal, counted_is_due, counted_is_recorded, counted_with_room}

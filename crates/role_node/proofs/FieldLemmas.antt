@@ -2,6 +2,7 @@
 use Rattle.std.proofs.Common.{◌≡◌, ℕ, ◌<◌, ◌≤◌, Bool, true, false, ◌&&◌, ◌==◌, List, [], ◌∷◌, ◌++◌, length}
 use Rattle.std.proofs.Common.{Some, None, Result, Ok, Err, refl, sym, ap, ◌∙◌, subst, arith, length-append}
 use Rattle.std.specs.Prelude.{if◌then◌else◌, nat_le, nat_lt}
+use Rattle.std.proofs.lemmas.Bool.{ltb-true}
 use Rattle.std.proofs.lemmas.Bool.Decides.{nat_tests}
 use Rattle.role_commands.specs.Tables.{Table}
 use Rattle.bracha_instance.specs.declared.instance.Effect.{Effect}
@@ -95,9 +96,6 @@ last_two true true false e = absurd cc
 last_two true false c e = absurd cc
 last_two false b c e = absurd cc
 
-below : (x n : ℕ) → nat_lt x n ≡ true → x < n
-below x n e = grind (arith, nat_tests)
-
 counted_by : (routed : Bool) (r : Result Effect StreamFault)
     → (if routed then of_effect_due r else Err fault.Misrouted) ≡ Ok effect.Counted → r ≡ Ok effect.Counted
 counted_by true (Ok e) h = cc
@@ -119,8 +117,8 @@ in_range roles me history a (Take p) h e room =
     (routed_by (is_routed roles.sizes me p) _ e) in
     let due : effect_due (step_due roles.sizes (packets history) p) ≡ Ok effect.Counted =
     counted_by (is_routed roles.sizes me p) _ e in (
-      rw h.sizes (below p.from roles.sizes.nodes both.0),
-      rw h.sizes (below p.owner roles.sizes.nodes both.1),
+      rw h.sizes (ltb-true p.from roles.sizes.nodes both.0),
+      rw h.sizes (ltb-true p.owner roles.sizes.nodes both.1),
       (packets history, h.streams, h.sends, rw h.sizes due),
     )
 in_range roles me history a (Client act) h e room =

@@ -1,8 +1,9 @@
 -- What one more event adds to the parts of a history.
-use Rattle.std.proofs.Common.{◌≡◌, ◌+◌, ◌≤◌, List, [], ◌∷◌, ◌++◌, length, Option}
-use Rattle.std.proofs.Common.{Some, None, refl, ap, ◌∙◌, append-nil, arith}
+use Rattle.std.proofs.Common.{◌≡◌, ◌≤◌, List, [], ◌∷◌, ◌++◌, length, Option}
+use Rattle.std.proofs.Common.{Some, None, refl, ap, ◌∙◌, append-nil}
 use Rattle.std.specs.List.{filter_map, cons_option}
 use Rattle.std.proofs.lemmas.List.Elements.{filter_map-append}
+use Rattle.role_commands.proofs.Exported.{filter_map-length}
 use Rattle.role_commands.specs.declared.command.Command.{Command}
 use Rattle.link_frames.specs.Packets.{PacketValue}
 use Rattle.role_sessions.specs.declared.event.ClientEvent.{ClientEvent}
@@ -73,18 +74,7 @@ pub client_events-none : client_events [] ≡ []
 unfolding client_events
 client_events-none = refl
 
-cons_no_longer : {Y : Type 0} (o : Option Y) (ys : List Y) → length (cons_option o ys) ≤ length ys + 1
-cons_no_longer None ys = omega arith
-cons_no_longer (Some y) ys = omega arith
-
-kept_no_longer : {X Y : Type 0} (f : X → Option Y) (xs : List X) → length (filter_map f xs) ≤ length xs
-kept_no_longer f [] = omega arith
-kept_no_longer f (x ∷ xs) =
-    let step = cons_no_longer (f x) (filter_map f xs) in
-    let rest = kept_no_longer f xs in
-    omega arith
-
 -- no more acts than events
 pub client_events-length : (history : List Event) → length (client_events history) ≤ length history
 unfolding client_events
-client_events-length history = kept_no_longer act_in history
+client_events-length history = filter_map-length act_in history

@@ -1,9 +1,10 @@
 -- What holds of each legal history: each event of it was recorded after those before it.
-use Rattle.std.proofs.Common.{◌≡◌, ℕ, ◌<◌, ◌≤◌, true, false, List, [], ◌∷◌, ◌++◌, length, Some, Result, Ok, Err}
+use Rattle.std.proofs.Common.{◌≡◌, ℕ, ◌<◌, ◌≤◌, true, false, List, [], ◌∷◌, ◌++◌, length, Result, Ok, Err}
 use Rattle.std.proofs.Common.{refl, sym, ap, ◌∙◌, subst, arith, append-nil, append_assoc, length-append}
-use Rattle.std.specs.Prelude.{IsTrue, nat_le, slice_get}
+use Rattle.std.specs.Prelude.{IsTrue, nat_le}
 use Rattle.std.proofs.Math.Seq.{take-append_seam}
 use Rattle.std.proofs.lemmas.Bool.Decides.{nat_tests}
+use Rattle.role_commands.proofs.Exported.{slice_get-seam}
 use Rattle.role_commands.specs.declared.command.Command.{Command}
 use Rattle.bracha_instance.specs.declared.instance.Effect.{Effect}
 use Rattle.bracha_instance.specs.declared.instance.Effect.TheVariants as effect
@@ -19,16 +20,12 @@ use Rattle.role_node.proofs.HistoryLemmas.{issued-Issue, issued-Take, issued-Cli
 use Rattle.role_node.proofs.EntryLemmas.{counted_with_room}
 use Rattle.role_node.proofs.FieldLemmas.{second_test}
 
-at_seam : (past rest : List Event) (e : Event) → slice_get (past ++ e ∷ rest) (length past) ≡ Some e
-at_seam [] rest e = refl
-at_seam (first ∷ past) rest e = at_seam past rest e
-
 -- an event is recorded after what was before it
 pub recorded_next : (config : ConfigValue) (me : ℕ) (past rest : List Event) (e : Event) →
     IsLegal config me (past ++ e ∷ rest) → is_recorded (answer_due config me past e) ≡ true
 recorded_next config me past rest e legal =
     let P : List Event → Type 0 = λ es. IsTrue (is_recorded (answer_due config me es e)) in
-    subst P (take-append_seam past (e ∷ rest)) (legal (length past) e (at_seam past rest e))
+    subst P (take-append_seam past (e ∷ rest)) (legal (length past) e (slice_get-seam past rest e))
 
 -- what each recorded event keeps stays so along a legal history
 pub along_legal : (config : ConfigValue) (me : ℕ) (P : List Event → Type 0) →

@@ -80,8 +80,8 @@ impl Answers {
 
 /// The place of an operation and an object. Objects that follow one another have different places.
 fn place_of(operation: u16, object: u32) -> usize
-    ensures { result < 16 }
+    ensures { result < PLACES }
 {
     let mixed = object ^ u32::from(operation).wrapping_mul(0x9E37_79B1);
-    ((mixed ^ (mixed >> 16)) % 16) as usize
+    (mixed ^ (mixed >> 16)) as usize % PLACES
 }

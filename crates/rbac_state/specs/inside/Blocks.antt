@@ -1,6 +1,6 @@
 -- A long list as it is kept: in blocks of bounded size, so that an item put or taken away moves few others.
 use Rattle.std.specs.Prelude.{◌≡◌, ℕ, ◌+◌, ◌<◌, ◌≤◌, Bool, true, false, List, [], ◌∷◌, ◌++◌, length, take, drop}
-use Rattle.std.specs.Prelude.{if◌then◌else◌, vec_len, vec_capacity, slice_index_or}
+use Rattle.std.specs.Prelude.{if◌then◌else◌, vec_len, vec_capacity}
 use Rattle.std.proofs.Common.{zero, suc}
 use Rattle.std.specs.List.{AllByRecursion, HoldsAt, flat_map}
 use Rattle.std.specs.declared.vec.Vec.{Vec}

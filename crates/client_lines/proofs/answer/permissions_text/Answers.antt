@@ -1,7 +1,8 @@
 use Rattle.std.proofs.Common.{◌∙◌, ℕ, List, ap, ◌++◌, codes, get_or, string_bytes, take}
 use Rattle.std.specs.List.{flat_map}
 use Rattle.client_lines.specs.AnswerTexts.{permission_text}
-use Rattle.client_lines.proofs.Joins.{written_more, all_joined, permission-grouped, permission-whole}
+use Rattle.link_frames.proofs.Exported.{written_more}
+use Rattle.client_lines.proofs.Joins.{all_joined, permission-grouped, permission-whole}
 use Rattle.client_lines.proofs.answer.permissions_text.Goals as goal
 
 pub loop-operation-preserved : goal.loop-operation-preserved

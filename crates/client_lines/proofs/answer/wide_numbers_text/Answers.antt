@@ -1,7 +1,8 @@
 use Rattle.std.proofs.Common.{◌∙◌, ℕ, List, ap, ◌++◌, codes, get_or, take}
 use Rattle.std.specs.Fmt.{decimal}
 use Rattle.std.specs.List.{flat_map}
-use Rattle.client_lines.proofs.Joins.{written_more, all_joined}
+use Rattle.link_frames.proofs.Exported.{written_more}
+use Rattle.client_lines.proofs.Joins.{all_joined}
 use Rattle.client_lines.proofs.answer.wide_numbers_text.Goals as goal
 
 pub loop-number-preserved : goal.loop-number-preserved

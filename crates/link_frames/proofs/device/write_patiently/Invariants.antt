@@ -6,5 +6,5 @@ use Rattle.link_frames.proofs.device.write_patiently.Given as goal
 abbrev pub invariant-loop-tries : goal.invariant-loop-tries
 invariant-loop-tries g l =
     Waited (g.W.Write.contents (watched_inner l.initial.writer)) (g.W.Write.contents (watched_inner l.writer))
-    (watched_tally l.initial.writer) (watched_tally l.writer) l.tries
+    (watched_tally l.initial.writer) (watched_tally l.writer) l._tries
     × (watched_reads l.writer ≡ watched_reads l.initial.writer)

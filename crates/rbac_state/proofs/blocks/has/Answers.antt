@@ -1,4 +1,4 @@
-use Rattle.std.proofs.Common.{◌≡◌, ◌<◌, length, subst, sym, ◌∙◌, ap, arith}
+use Rattle.std.proofs.Common.{subst, sym, ◌∙◌, ap}
 use Rattle.std.specs.List.Sorted.{IsStrictlySortedBy}
 use Rattle.rbac_state.specs.inside.Relations.{is_among}
 use Rattle.rbac_state.proofs.PlaceLemmas.{block_ascends, has_item}

@@ -28,10 +28,9 @@ returns-clause-broadcast c = λ s takes is.
 
     no_ready : false ≡ is_some (newly c.args.self.now.readied c.count.new.self.readied)
     no_ready =
-        sym (ap (λ o. is_some (newly c.args.self.now.readied o)) c.count.ensures.readied
-        ∙ ap is_some (newly_same c.args.self.now.readied))
+        sym (ap is_some (newly_same c.args.self.now.readied c.count.new.self.readied c.count.ensures.readied))
 
 pub returns-clause-delivered : goal.returns-clause-delivered
 returns-clause-delivered c = λ s takes is.
-    sym (ap (newly c.args.self.now.delivered) c.count.ensures.delivered ∙ newly_same c.args.self.now.delivered)
+    sym (newly_same c.args.self.now.delivered c.count.new.self.delivered c.count.ensures.delivered)
     ∙ delivered_of s takes _ c.args.self.now c.count.new.self is (returns-clause-state c s takes is)

@@ -4,18 +4,18 @@ use Rattle.bracha_instance.proofs.tallies.Tally.add_ready.Goals as goal
 
 pub overflow_add-self : goal.overflow_add-self
 overflow_add-self c =
-    let more = counted c.self.inside.readies c.insert.new.self c.args.name c.self.inside.ready_count true c.self.invariant.1
-    c.insert.ensures.set (sym c.if-insert.true ∙ c.insert.ensures.fresh) in
+    let more = counted c.self.inside.readies c.insert.new.self c.args.name c.self.inside.ready_count true
+    c.self.invariant.1 c.insert.ensures.set (sym c.if-insert.true ∙ c.insert.ensures.fresh) in
     omega (arith, more, c.insert.ensures.most)
 
 pub invariant_of-self : goal.invariant_of-self
 invariant_of-self c =
-    let more = counted c.self.inside.readies c.insert.new.self c.args.name c.self.inside.ready_count true c.self.invariant.1
-    c.insert.ensures.set (sym c.if-insert.true ∙ c.insert.ensures.fresh) in
+    let more = counted c.self.inside.readies c.insert.new.self c.args.name c.self.inside.ready_count true
+    c.self.invariant.1 c.insert.ensures.set (sym c.if-insert.true ∙ c.insert.ensures.fresh) in
     (c.self.invariant.0, more)
 
 pub invariant_of-self-else-insert : goal.invariant_of-self-else-insert
 invariant_of-self-else-insert c =
-    let same = counted c.self.inside.readies c.insert.new.self c.args.name c.self.inside.ready_count false c.self.invariant.1
-    c.insert.ensures.set (sym c.if-insert.false ∙ c.insert.ensures.fresh) in
+    let same = counted c.self.inside.readies c.insert.new.self c.args.name c.self.inside.ready_count false
+    c.self.invariant.1 c.insert.ensures.set (sym c.if-insert.false ∙ c.insert.ensures.fresh) in
     (c.self.invariant.0, same)

@@ -1,6 +1,6 @@
 use Rattle.std.proofs.Common.{◌≡◌, ◌+◌, ◌<◌, [], ◌∷◌, ◌++◌, Ok, sym, ap, ◌∙◌, subst, arith}
 use Rattle.std.specs.Prelude.{IsSome, is_some, if◌then◌else◌, Some, None}
-use Rattle.bracha_instance.specs.Taking.{taken_for}
+use Rattle.bracha_instance.specs.NewTakes.{taken_for}
 use Rattle.bracha_instance.specs.declared.instance.Effect.TheVariants.{Counted}
 use Rattle.owner_streams.specs.Kept.{reach_in, held}
 use Rattle.owner_streams.specs.Places.{window, take_of, takes_at}

@@ -1,4 +1,4 @@
-use Rattle.std.proofs.Common.{ℕ, sym, ap, ◌∙◌, subst, arith}
+use Rattle.std.proofs.Common.{sym, ap, ◌∙◌, subst, arith}
 use Rattle.std.specs.List.Sorted.{IsStrictlySortedBy}
 use Rattle.rbac_state.specs.inside.Relations.{pair_cmp, is_among}
 use Rattle.rbac_state.proofs.SplitLemmas.{less_room}

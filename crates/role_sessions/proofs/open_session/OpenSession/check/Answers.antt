@@ -1,4 +1,4 @@
-use Rattle.std.proofs.Common.{◌≡◌, ◌==◌, true, sym, ◌∙◌, arith}
+use Rattle.std.proofs.Common.{sym, ◌∙◌, arith}
 use Rattle.role_sessions.specs.Decisions.{relations_of}
 use Rattle.role_sessions.proofs.RememberLemmas.{found_right, put_right, put_past}
 use Rattle.role_sessions.proofs.open_session.OpenSession.check.Goals as goal

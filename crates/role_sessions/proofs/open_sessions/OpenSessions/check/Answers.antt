@@ -1,4 +1,4 @@
-use Rattle.std.proofs.Common.{Some, None, sym, ap, subst, ◌∙◌, rules}
+use Rattle.std.proofs.Common.{Some, sym, ap, subst, ◌∙◌, rules}
 use Rattle.std.specs.FinMap as map
 use Rattle.role_sessions.specs.Decisions.{relations_of, verdict}
 use Rattle.role_sessions.specs.Kept.{KeptAreRight}

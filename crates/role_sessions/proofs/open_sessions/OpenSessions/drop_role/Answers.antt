@@ -1,4 +1,4 @@
-use Rattle.std.proofs.Common.{Some, ap, subst, ◌∙◌, rules}
+use Rattle.std.proofs.Common.{Some, ap, subst, rules}
 use Rattle.role_sessions.specs.inside.Changes.{without_role}
 use Rattle.role_sessions.specs.Kept.{KeepsRight}
 use Rattle.role_sessions.specs.inside.Remembered.{RemembersNothing, sessions_in, open_value, as_sessions}

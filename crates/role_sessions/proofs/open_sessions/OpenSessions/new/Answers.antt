@@ -1,5 +1,4 @@
 use Rattle.std.proofs.Common.{sym, ap, subst, ◌∙◌}
-use Rattle.std.specs.FinMap as map
 use Rattle.role_sessions.specs.inside.Remembered.{sessions_in, kept_by, IsTable}
 use Rattle.role_sessions.proofs.OpenLemmas.{map_of}
 use Rattle.role_sessions.proofs.TableLemmas.{table_of_none, kept_by-none}
