@@ -31,4 +31,10 @@ pub mod Telling
 pub mod Stepping
 pub mod Arriving
 pub mod Settling
+pub mod BlockTakes
+pub mod BlockMembers
+pub mod BlockNotes
+pub mod BlockRuns
+pub mod BlockMerge
+pub mod BlockWorld
 pub mod Exported

@@ -37,7 +37,7 @@ own_packet nodes to sent h =
     slice_get-map (λ n. packet_of sent.0 n sent.1) (range_with_len 0 nodes) to
     ∙ ap (option_map (λ n. packet_of sent.0 n sent.1)) (name_at nodes to h)
 
-packet_at : (nodes : ℕ) (sent : List Sent) (number to : ℕ) → to < nodes →
+pub packet_at : (nodes : ℕ) (sent : List Sent) (number to : ℕ) → to < nodes →
     slice_get (flat_map (packets_of nodes) sent) (number * nodes + to)
     ≡ option_map (λ s. packet_of s.0 to s.1) (slice_get sent number)
 packet_at nodes [] number to h = refl

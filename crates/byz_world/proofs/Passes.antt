@@ -39,10 +39,10 @@ use Rattle.byz_world.proofs.Telling.{correct_is_node}
 -- A packet that is given.
 
 -- it comes to a correct node, the pool has room, and it counts
-abbrev goes_in : WorldValue → PacketValue → Bool
+abbrev pub goes_in : WorldValue → PacketValue → Bool
 goes_in w p = is_correct_in w p.to && (not (is_pool_full w) && counts_now w.config w.run p)
 
-abbrev pair_of : PacketValue → ℕ × Event
+abbrev pub pair_of : PacketValue → ℕ × Event
 pair_of p = (p.to, event.Take p)
 
 pairs_by : (w : WorldValue) (p : PacketValue) (a b c : Bool) → counts_now w.config w.run p ≡ c →
@@ -52,12 +52,12 @@ pairs_by w p false b c e = refl
 pairs_by w p true true c e = refl
 pairs_by w p true false c e = ap (λ t. if t then pair_of p ∷ [] else []) e
 
-arrived : (w : WorldValue) (p : PacketValue) →
+pub arrived : (w : WorldValue) (p : PacketValue) →
     recorded_pair w (arrives w p) ≡ (if goes_in w p then pair_of p ∷ [] else [])
 arrived w p = pairs_by w p (is_correct_in w p.to) (is_pool_full w) (counts_now w.config w.run p) refl
 
 -- what a step that gives a packet adds to the run
-abbrev added : WorldValue → ℕ → Run
+abbrev pub added : WorldValue → ℕ → Run
 added w k = recorded_pair w (arrival w (Give k))
 
 one_or_none : (w : WorldValue) (k : ℕ) (o : Option PacketValue) → slice_get (pool w.config w.run) k ≡ o →
@@ -86,7 +86,7 @@ one_or_none w k (Some p) at =
 
 -- Runs that are prolonged.
 
-prolonged_none : (w : WorldValue) → IsProlonged w w
+pub prolonged_none : (w : WorldValue) → IsProlonged w w
 prolonged_none w = ([], sym (same_run w), λ t pair at. absurd cc)
 
 prolongation_more : (config : ConfigValue) (liars : Nodes) (run before later : Run) →

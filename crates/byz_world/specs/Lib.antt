@@ -16,3 +16,4 @@ pub mod Checks
 pub mod Headline
 pub mod Fields
 pub mod Asking
+pub mod Blocks

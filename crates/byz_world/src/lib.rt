@@ -5,6 +5,7 @@
 //! `specs/Headline.antt` the promise of the whole.
 #![tactic(auto)]
 
+mod block;
 mod cursor;
 mod faults;
 mod keys;

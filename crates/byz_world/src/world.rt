@@ -1,6 +1,6 @@
 //! A cluster of which some nodes lie.
 
-ghost use Rattle.std.specs.Prelude.{◌≡◌, ℕ, ◌<◌, ◌≤◌, ◌*◌, ◌++◌, ◌∷◌, [], List, length, not, nat_lt, ◌&&◌};
+ghost use Rattle.std.specs.Prelude.{◌≡◌, ℕ, ◌<◌, ◌≤◌, ◌+◌, ◌*◌, ◌++◌, ◌∷◌, [], List, length, not, nat_lt, ◌&&◌};
 ghost use Rattle.std.specs.Prelude.{slice_get, min, IfOk, IfSome, OnOk, OnErr, Ok, Some, IsTrue, ◌↔◌, if◌then◌else◌};
 ghost use Rattle.std.specs.Option.{option_copied};
 ghost use Rattle.std.specs.Vec.{vec_len, vec_capacity};
@@ -17,7 +17,9 @@ ghost use Rattle.byz_world.specs.LabKeys.{ring_due};
 ghost use Rattle.byz_world.specs.Pools.{pool};
 ghost use Rattle.byz_world.specs.Worlds.{new_world, is_correct_in, node_due};
 ghost use Rattle.byz_world.specs.Steps.{arrival, opened_at, unless_forged, arrives, is_forged, is_pool_full};
-ghost use Rattle.byz_world.specs.Steps.{with_run, adds, after_step, after_steps, IsStepAnswer};
+ghost use Rattle.byz_world.specs.Steps.{with_run, adds, after_step, after_steps, after_gives, IsStepAnswer};
+ghost use Rattle.byz_world.specs.Settled.{IsProlonged};
+ghost use Rattle.byz_world.specs.Blocks.{IsBlock, StartsBlock};
 ghost use Rattle.byz_world.specs.Agreement.{agree_due};
 ghost use Rattle.byz_world.specs.Laws.{reach_of};
 ghost use Rattle.byz_world.specs.Resting.{IsAtRest};
@@ -28,6 +30,7 @@ ghost use Rattle.byz_world.specs.Worlds.{IsClusterRunOf};
 ghost use Rattle.byz_world.specs.declared.step.Step.{Step};
 ghost use Rattle.byz_world.specs.declared.step.Step.TheVariants.{Issue, Give, Lie, Bytes, Client};
 
+use crate::block::{give_to_each, note_block};
 use crate::cursor::PacketCursor;
 use crate::faults::WorldFault;
 use crate::keys::{keys_of, new_keys};
@@ -42,6 +45,10 @@ use role_node::{Answer, ClientEvent, Config, Entry, Event, Node, NodeFault, Ques
 use role_sessions::Verdict;
 use std::alloc::{AllocError, Global};
 use std::marker::Model;
+
+/// So many messages are given at once at most, and not fewer packets than these.
+const BLOCK_MOST: u32 = 64;
+const BLOCK_LEAST: u32 = 16;
 
 /// A cluster of which some nodes lie: the correct nodes, and what happened at them.
 ///
@@ -144,6 +151,73 @@ impl World {
             WorldFault::Memory => Err(AllocError),
             _ => Ok(()),
         }
+    }
+
+    /// Gives packets of the pool, one after another from this number on, whatever comes of each: as many as may be given
+    /// at once, at least one, and at most `most`. How many they were.
+    ///
+    /// # Errors
+    ///
+    /// Only for want of memory. What was given until then stays so.
+    pub fn give_some(&mut self, first: u32, most: u32) -> Result<u32, AllocError>
+        requires first { first < length (pool self.old.config self.old.run) }
+        requires most { 0 < most }
+        ensures some { IfOk result (λ count. 0 < count) }
+        ensures most { IfOk result (λ count. count ≤ most) }
+        ensures pooled { IfOk result (λ count. first + count ≤ length (pool self.old.config self.old.run)) }
+        ensures after { IfOk result (λ count. self.new ≡ after_gives self.old first count) }
+        ensures prolonged { IsProlonged self.old self.new }
+        ensures run { IsClusterRunOf self.new }
+    {
+        let count = self.block_at(first, most);
+        if count == 0 {
+            self.pass_packet(first)?;
+            return Ok(1);
+        }
+        let nodes = u32::from(self.sizes().n());
+        self.give_block((first / nodes) as usize, count as usize)?;
+        Ok(count * nodes)
+    }
+
+    /// How many messages may be given at once from this packet on: none where it is not the first of a message, or
+    /// where they are too few packets to be worth it.
+    fn block_at(&self, packet: u32, most: u32) -> u32
+        requires { packet < length (pool self.now.config self.now.run) }
+        ensures block { 0 < result → StartsBlock self.now packet most result }
+        ensures run { IsClusterRunOf self.now }
+    {
+        let nodes = u32::from(self.sizes().n());
+        let pooled = self.sent_len();
+        let count = ((pooled - packet).min(most) / nodes).min(BLOCK_MOST);
+        if packet % nodes != 0 || count * nodes < BLOCK_LEAST {
+            return 0;
+        }
+        if self.config.limit() < pooled + (count * nodes + 1) * nodes {
+            return 0;
+        }
+        count
+    }
+
+    /// Gives so many messages of the pool from this one on, to one node after another.
+    fn give_block(&mut self, first: usize, count: usize) -> Result<(), AllocError>
+        requires { IsBlock self.old first count }
+        ensures after { let n = self.old.config.roles.sizes.nodes in
+            OnOk result (self.new ≡ after_gives self.old (first * n) (count * n)) }
+        ensures prolonged { IsProlonged self.old self.new }
+        ensures run { IsClusterRunOf self.new }
+    {
+        let sizes = self.sizes();
+        let room = count * usize::from(sizes.n());
+        let mut marks = Vec::new(*self.order.allocator());
+        self.order.try_reserve(room)?;
+        self.sent.try_reserve(room)?;
+        let given = give_to_each(
+            &mut self.members,
+            &self.sent[first..first + count],
+            &mut marks,
+        );
+        note_block(&mut self.order, &mut self.sent, &sizes, first, count, &marks);
+        given
     }
 
     /// As `pass`. Packets of the pool come by the million: this hands on no answer.

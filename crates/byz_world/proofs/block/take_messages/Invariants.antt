@@ -1,0 +1,6 @@
+use Rattle.std.proofs.Common.{Some}
+use Rattle.byz_world.specs.Blocks.{TookFirst}
+use Rattle.byz_world.proofs.block.take_messages.Given as goal
+
+abbrev pub invariant-loop-one : goal.invariant-loop-one
+invariant-loop-one l = TookFirst l.one-index (Some l.fn.node) (Some l.node) l.sent l.fn.marks.items l.marks.items
