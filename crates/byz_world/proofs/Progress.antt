@@ -13,7 +13,7 @@ use Rattle.role_commands.specs.declared.command.Command.{Command}
 use Rattle.link_frames.specs.Packets.{PacketValue, message_of}
 use Rattle.link_frames.specs.declared.kind.Kind.{Kind}
 use Rattle.link_frames.specs.declared.kind.Kind.TheVariants.{Send, Echo, Ready}
-use Rattle.bracha_instance.specs.Broadcast.{Take, echoed, readied, delivered}
+use Rattle.bracha_instance.specs.Broadcast.{echoed, readied, delivered}
 use Rattle.bracha_instance.specs.Taking.{effect_of}
 use Rattle.bracha_instance.specs.declared.instance.Effect.{Effect}
 use Rattle.bracha_instance.specs.declared.instance.Effect.TheVariants as effect
