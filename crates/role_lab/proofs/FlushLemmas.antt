@@ -224,23 +224,24 @@ goes_many {first} {limit} {done} zero lab after goes h e =
     let number : done ≡ done + 0 = omega arith in
     subst (λ k. Goes first limit k after) number (subst (Goes first limit done) same goes)
 goes_many {first} {limit} {done} (suc count) lab after goes h e =
-    by (gave_on count lab) refl e
+    by (gave_on count lab) refl e (λ next was. goes_many count lab next goes (omega (arith, h)) was)
   where
     last : (next : Lab) (o : Option ℕ) → next_number next ≡ o → gave_on count lab ≡ Some next →
-        option_map (λ k. after_doing next (Give k)) o ≡ Some after → Goes first limit (done + suc count) after
-    last next None some was e = absurd cc
-    last next (Some number) some was e =
+        option_map (λ k. after_doing next (Give k)) o ≡ Some after → Goes first limit (done + count) next →
+        Goes first limit (done + suc count) after
+    last next None some was e before = absurd cc
+    last next (Some number) some was e before =
         let is : after_doing next (Give number) ≡ after = cc in
-        let before = goes_many count lab next goes (omega (arith, h)) was in
         let index : done + count + 1 ≡ done + suc count = omega arith in
         subst (λ k. Goes first limit k after) index
         (goes-on number after before (omega (arith, h)) some (sym is))
 
     by : (o : Option Lab) → gave_on count lab ≡ o →
         option_and_then (λ next. option_map (λ k. after_doing next (Give k)) (next_number next)) o ≡ Some after →
+        ((next : Lab) → gave_on count lab ≡ Some next → Goes first limit (done + count) next) →
         Goes first limit (done + suc count) after
-    by None was e = absurd cc
-    by (Some next) was e = last next (next_number next) refl was e
+    by None was e rest = absurd cc
+    by (Some next) was e rest = last next (next_number next) refl was e (rest next was)
 
 pub goes-many : {first : Lab} {limit done : ℕ} (count : ℕ) (lab after : Lab) → Goes first limit done lab →
     done + count ≤ limit → GivesOn lab count after → Goes first limit (done + count) after

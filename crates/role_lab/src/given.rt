@@ -42,7 +42,13 @@ impl Given {
     pub fn mark(&mut self, number: u32) -> Result<(), AllocError>
         ensures { OnOk result (given_in self.new ≡ with_number (given_in self.old) number) }
     {
-        let number = number as usize;
+        self.mark_at(number as usize)
+    }
+
+    fn mark_at(&mut self, number: usize) -> Result<(), AllocError>
+        requires { number < 2 ^ 33 }
+        ensures { OnOk result (given_in self.new ≡ with_number (given_in self.old) number) }
+    {
         set_flag(&mut self.flags, number)?;
         self.end = self.end.max(number + 1);
         Ok(())
@@ -54,11 +60,10 @@ impl Given {
     ///
     /// Only for want of memory.
     pub fn mark_many(&mut self, first: u32, count: u32) -> Result<(), AllocError>
-        requires { first + count < 2 ^ 32 }
         ensures { OnOk result (given_in self.new ≡ with_many (given_in self.old) first count) }
     {
         for number in 0..count {
-            self.mark(first + number)?;
+            self.mark_at(first as usize + number as usize)?;
         }
         Ok(())
     }
@@ -102,7 +107,7 @@ impl Given {
 
 /// Sets a flag, behind unset ones where there are too few.
 fn set_flag(flags: &mut Vec<bool>, number: usize) -> Result<(), AllocError>
-    requires { number < 2 ^ 32 }
+    requires { number < 2 ^ 33 }
     ensures set { OnOk result (flagged flags.new.items ≡ with_number (flagged flags.old.items) number) }
     ensures kept { (k : ℕ) → flagged flags.old.items k ≡ true → flagged flags.new.items k ≡ true }
     ensures err { OnErr result (flagged flags.new.items ≡ flagged flags.old.items) }
@@ -114,7 +119,7 @@ fn set_flag(flags: &mut Vec<bool>, number: usize) -> Result<(), AllocError>
 
 /// Adds unset flags until there are so many, some thousands at a time.
 fn pad(flags: &mut Vec<bool>, count: usize) -> Result<(), AllocError>
-    requires { count ≤ 2 ^ 32 }
+    requires { count ≤ 2 ^ 33 }
     ensures same { flagged flags.new.items ≡ flagged flags.old.items }
     ensures many { OnOk result (count ≤ length flags.new.items) }
 {

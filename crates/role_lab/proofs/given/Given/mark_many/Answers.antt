@@ -1,4 +1,4 @@
-use Rattle.std.proofs.Common.{sym, ap, ◌∙◌}
+use Rattle.std.proofs.Common.{◌+◌, sym, ap, ◌∙◌}
 use Rattle.role_lab.specs.inside.Kept.{given_in}
 use Rattle.role_lab.specs.Labs.{with_number}
 use Rattle.role_lab.proofs.FlushLemmas.{with_many-none, with_many-next}
@@ -9,5 +9,5 @@ loop-number-init c = sym (with_many-none (given_in c.args.self.now) c.args.first
 
 pub loop-number-preserved : goal.loop-number-preserved
 loop-number-preserved c =
-    c.in_ok-mark.ensures ∙ ap (λ given. with_number given _) c.loop-number.invariant
+    c.in_ok-mark_at.ensures ∙ ap (λ given. with_number given (c.args.first + c.loop-number.number)) c.loop-number.invariant
     ∙ with_many-next (given_in c.args.self.now) c.args.first c.loop-number.number
