@@ -116,7 +116,7 @@ with_many-kept given first zero j was = was
 with_many-kept given first (suc count) j was =
     with_number-kept (with_many given first count) (first + count) j (with_many-kept given first count j was)
 
-with_many-inside : (given : ℕ → Bool) (first count j : ℕ) → first ≤ j → j < first + count →
+pub with_many-inside : (given : ℕ → Bool) (first count j : ℕ) → first ≤ j → j < first + count →
     with_many given first count j ≡ true
 unfolding with_many
 with_many-inside given first zero j over under = absurd (omega (arith, over, under))

@@ -65,6 +65,9 @@ impl Given {
         for number in 0..count {
             self.mark_at(first as usize + number as usize)?;
         }
+        if self.least == first as usize {
+            self.least = first as usize + count as usize;
+        }
         Ok(())
     }
 
