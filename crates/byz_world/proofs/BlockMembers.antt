@@ -1,18 +1,17 @@
 -- Messages that are given to each member: the members before have taken all of them, and those behind none.
-use Rattle.std.proofs.Common.{◌≡◌, ◌≢◌, ℕ, zero, suc, ◌+◌, ◌-◌, ◌*◌, ◌<◌, ◌≤◌, ⊎_elim, List, [], ◌∷◌, ◌++◌, length, take}
-use Rattle.std.proofs.Common.{Option, Some, None, refl, sym, ap, ◌∙◌, subst, append-nil, append_assoc, length-append}
+use Rattle.std.proofs.Common.{◌≡◌, ◌≢◌, ℕ, zero, suc, ◌+◌, ◌-◌, ◌*◌, ◌<◌, ◌≤◌, ⊎_elim, List, [], ◌∷◌, length, take}
+use Rattle.std.proofs.Common.{Some, refl, sym, ap, ◌∙◌, subst}
 use Rattle.std.proofs.Common.{arith, take_all}
 use Rattle.std.specs.Prelude.{slice_get}
 use Rattle.std.proofs.lemmas.Bool.{cases_lt}
 use Rattle.std.proofs.lemmas.Option.{slice_get_within}
 use Rattle.std.proofs.Math.Nat.{mul-le-mul_right}
-use Rattle.role_node.specs.Nodes.{NodeValue}
 use Rattle.byz_world.specs.Pools.{Sent}
 use Rattle.byz_world.specs.Inside.{Members, member_in}
-use Rattle.byz_world.specs.Blocks.{member_after, member_marks, mark_in, TookFirst, TookSome, GaveSome, AreGiven}
+use Rattle.byz_world.specs.Blocks.{member_after, member_marks, mark_in, TookFirst, GaveSome, AreGiven}
 use Rattle.byz_world.specs.declared.block.Mark.{Mark}
-use Rattle.byz_world.proofs.BlockTakes.{member_after-none, member_marks-at, took-length, took_none}
-use Rattle.byz_world.proofs.Elements.{before_seam, at_tail, at_front}
+use Rattle.byz_world.proofs.BlockTakes.{member_after-none, member_marks-at, took-length}
+use Rattle.byz_world.proofs.Elements.{before_seam, at_tail}
 
 pub taken-length : {A : Type 0} (n : ℕ) (xs : List A) → n ≤ length xs → length (take n xs) ≡ n
 taken-length zero xs h = refl

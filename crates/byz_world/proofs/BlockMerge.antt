@@ -1,8 +1,8 @@
 -- The marks of a block, in the order of the packets: the run, the order and the messages go on as they are due.
-use Rattle.std.proofs.Common.{◌≡◌, ◌≢◌, ℕ, zero, suc, ◌+◌, ◌-◌, ◌*◌, ◌<◌, ◌≤◌, ⊎_elim, Bool, true, false, ◌==◌, ◌&&◌}
+use Rattle.std.proofs.Common.{◌≡◌, ℕ, zero, suc, ◌+◌, ◌-◌, ◌*◌, ◌<◌, ◌≤◌, ⊎_elim, Bool, true, false, ◌==◌, ◌&&◌}
 use Rattle.std.proofs.Common.{List, [], ◌∷◌, ◌++◌, length, take, Option, Some, None, refl, sym, ap, ◌∙◌, subst, arith}
-use Rattle.std.proofs.Common.{append-nil, append_assoc, length-append, take_all, Result, Ok, Err}
-use Rattle.std.specs.Prelude.{if◌then◌else◌, not, nat_lt, min, slice_get, map, option_map, IfSome, Contains, IsTrue, ◌/◌, ◌%◌}
+use Rattle.std.proofs.Common.{append-nil, append_assoc, length-append, Result, Ok, Err}
+use Rattle.std.specs.Prelude.{if◌then◌else◌, not, nat_lt, min, slice_get, map, option_map, IfSome, Contains}
 use Rattle.std.specs.List.{range_with_len}
 use Rattle.std.proofs.lemmas.Bool.{cases_lt}
 use Rattle.std.proofs.lemmas.Bool.Decides.{nat_tests}
@@ -10,7 +10,7 @@ use Rattle.std.proofs.lemmas.Option.{slice_get_within, slice_get_past}
 use Rattle.std.proofs.lemmas.Map.Views.{exact_unsigned_eq}
 use Rattle.std.proofs.lemmas.List.FromFn.{map-range_with_len_more}
 use Rattle.std.proofs.Math.Nat.{mul-le-mul_right}
-use Rattle.link_frames.specs.Packets.{PacketValue, packet_of, packet_due, message_of}
+use Rattle.link_frames.specs.Packets.{PacketValue, packet_of, packet_due}
 use Rattle.link_frames.specs.declared.kind.Kind.{Kind}
 use Rattle.link_frames.specs.declared.packet.Message.{Message}
 use Rattle.bracha_instance.specs.declared.instance.Effect.{Effect}
@@ -21,18 +21,16 @@ use Rattle.role_node.proofs.CauseLemmas.{step_is_own}
 use Rattle.role_node.specs.inside.Entries.{IsOwn}
 use Rattle.role_node.specs.Histories.{packets}
 use Rattle.role_node.specs.declared.faults.NodeFault.{NodeFault}
-use Rattle.role_node.specs.Answers.{answer_due, is_recorded, sent_by_answer, answered, outlook, reply_to, said_at}
-use Rattle.role_node.specs.Configs.{ConfigValue}
+use Rattle.role_node.specs.Answers.{sent_by_answer, answered, outlook, reply_to, said_at}
 use Rattle.role_node.specs.Nodes.{NodeValue, with_event}
-use Rattle.role_node.specs.declared.event.Event.{Event}
 use Rattle.role_node.specs.declared.event.Event.TheVariants as event
-use Rattle.byz_world.specs.Runs.{Run, history_of, IsCorrect, IsClusterRun}
-use Rattle.byz_world.specs.Pools.{Sent, listed, sends_next, messages, messages_after, pool}
+use Rattle.byz_world.specs.Runs.{Run, history_of}
+use Rattle.byz_world.specs.Pools.{Sent, listed, messages, pool}
 use Rattle.byz_world.specs.Worlds.{WorldValue, node_in, node_due, is_correct_in, IsClusterRunOf}
 use Rattle.byz_world.specs.Progress.{counts_now}
 use Rattle.byz_world.specs.Settled.{IsProlonged}
 use Rattle.byz_world.specs.Steps.{arrival, given, is_pool_full, recorded_pair, with_run, after_step, after_steps}
-use Rattle.byz_world.specs.Steps.{after_gives}
+use Rattle.byz_world.specs.Settled.{after_gives}
 use Rattle.byz_world.specs.declared.step.Step.TheVariants.{Give}
 use Rattle.byz_world.specs.Blocks.{counts_at, kind_of, sends_at, mark_of, taken, mark_due, after_take, after_takes, mark_in}
 use Rattle.byz_world.specs.Blocks.{noted_names, noted_messages, message_for, mark_of_row, row_names, row_messages}
@@ -45,13 +43,12 @@ use Rattle.byz_world.proofs.BlockNotes.{row_messages-next, block_names-none, blo
 use Rattle.byz_world.proofs.BlockNotes.{block_messages-none, block_messages-next}
 use Rattle.byz_world.proofs.Progress.{some_within}
 use Rattle.byz_world.proofs.BlockTakes.{after_takes-push, after_takes-none}
-use Rattle.byz_world.proofs.BlockMembers.{taken-length}
 use Rattle.byz_world.proofs.Elements.{contained, at_front}
 use Rattle.byz_world.proofs.Numbering.{pool-length, packet_at}
-use Rattle.byz_world.proofs.Passes.{give_prolongs, prolonged_more, prolonged_runs, prolonged_none, arrived, goes_in, pair_of, added}
+use Rattle.byz_world.proofs.Passes.{give_prolongs, prolonged_more, prolonged_runs, prolonged_none, arrived, pair_of, added}
 use Rattle.byz_world.proofs.Pushing.{history_of-push, history_of-push_other, messages-push}
 use Rattle.byz_world.proofs.Sound.{message_is_due}
-use Rattle.byz_world.proofs.Stepping.{after_where, same_run, after_steps-push, after_steps-none}
+use Rattle.byz_world.proofs.Stepping.{after_where, after_steps-push, after_steps-none}
 use Rattle.byz_world.proofs.Telling.{correct_is_node}
 
 -- A node that takes messages keeps its configuration and name.

@@ -1,12 +1,10 @@
 -- What the marks of a block add, node by node and message by message.
-use Rattle.std.proofs.Common.{◌≡◌, ℕ, zero, suc, ◌+◌, ◌*◌, ◌<◌, ◌≤◌, List, [], ◌∷◌, ◌++◌, length, Option, Some, None}
+use Rattle.std.proofs.Common.{◌≡◌, ℕ, zero, suc, ◌+◌, ◌*◌, ◌≤◌, List, [], ◌∷◌, ◌++◌, length, Option, Some, None}
 use Rattle.std.proofs.Common.{drop, refl, sym, ap, ◌∙◌, append-nil, append_assoc, length-append, arith}
-use Rattle.std.specs.Prelude.{slice_get, option_map}
-use Rattle.std.specs.Vec.{vec_len, vec_capacity}
-use Rattle.link_frames.specs.declared.kind.Kind.{Kind}
+use Rattle.std.specs.Prelude.{slice_get}
 use Rattle.link_frames.specs.declared.packet.Message.{Message}
-use Rattle.byz_world.specs.Pools.{Sent, listed}
-use Rattle.byz_world.specs.Blocks.{noted_names, noted_messages, message_for, row_names, row_messages, row_of}
+use Rattle.byz_world.specs.Pools.{Sent}
+use Rattle.byz_world.specs.Blocks.{noted_names, noted_messages, row_names, row_messages, row_of}
 use Rattle.byz_world.specs.Blocks.{mark_of_row, block_names, block_messages}
 use Rattle.byz_world.specs.declared.block.Mark.{Mark}
 use Rattle.byz_world.specs.declared.block.Mark.TheVariants.{Passed, Counted}
@@ -140,8 +138,13 @@ block_names-few marks count nodes (suc number) =
     ap (λ n. length (block_names marks count nodes n)) next ∙ ap length (block_names-next marks count nodes number)
     ∙ length-append (block_names marks count nodes number) row in
     let product : suc number * nodes ≡ number * nodes + nodes = grind arith in
-    omega (arith, long, block_names-few marks count nodes number, row_names-few (mark_of_row marks count number) nodes,
-    product)
+    omega (
+      arith,
+      long,
+      block_names-few marks count nodes number,
+      row_names-few (mark_of_row marks count number) nodes,
+      product,
+    )
 
 row_of-few : (marks : ℕ → Option Mark) (nodes : ℕ) (sent : Option Sent) → length (row_of marks nodes sent) ≤ nodes
 row_of-few marks nodes None = omega arith
@@ -157,8 +160,13 @@ block_messages-few marks sent count nodes (suc number) =
     ≡ length (block_messages marks sent count nodes number) + length row =
     length-append (block_messages marks sent count nodes number) row in
     let product : suc number * nodes ≡ number * nodes + nodes = grind arith in
-    omega (arith, long, block_messages-few marks sent count nodes number,
-    row_of-few (mark_of_row marks count number) nodes (slice_get sent number), product)
+    omega (
+      arith,
+      long,
+      block_messages-few marks sent count nodes number,
+      row_of-few (mark_of_row marks count number) nodes (slice_get sent number),
+      product,
+    )
 
 pub dropped-at : {A : Type 0} (first : ℕ) (xs : List A) (k : ℕ) →
     slice_get (drop first xs) k ≡ slice_get xs (first + k)

@@ -1,16 +1,15 @@
 -- Runs by their names, and what is said in a run that goes on.
-use Rattle.std.proofs.Common.{◌≡◌, ℕ, zero, suc, ◌+◌, ◌<◌, Bool, true, false, ◌==◌, List, [], ◌∷◌, ◌++◌, length, Option}
-use Rattle.std.proofs.Common.{Some, None, refl, sym, ap, ◌∙◌, subst, append-nil, append_assoc, length-append, arith}
+use Rattle.std.proofs.Common.{◌≡◌, ℕ, suc, Bool, true, false, ◌==◌, List, [], ◌∷◌, ◌++◌, length}
+use Rattle.std.proofs.Common.{Some, refl, sym, ap, ◌∙◌, subst, append-nil, append_assoc, arith}
 use Rattle.std.specs.Prelude.{slice_get, option_map}
 use Rattle.std.proofs.lemmas.Map.Views.{exact_unsigned_eq}
-use Rattle.quorum_sizes.specs.NodeSets.{Nodes}
 use Rattle.role_node.specs.Configs.{ConfigValue}
 use Rattle.role_node.specs.declared.event.Event.{Event}
-use Rattle.byz_world.specs.Runs.{Run, history_of, IsClusterRun}
+use Rattle.byz_world.specs.Runs.{Run, history_of}
 use Rattle.byz_world.specs.Pools.{listed, sends_next, messages_after, messages}
 use Rattle.byz_world.specs.Inside.{next_event, run_after}
 use Rattle.byz_world.proofs.Elements.{at_seam}
-use Rattle.byz_world.proofs.Ordered.{times, times-own, times-other, times-append}
+use Rattle.byz_world.proofs.Ordered.{times, times-own, times-other}
 use Rattle.byz_world.proofs.Pushing.{history_of-append, history_of-none, history_of-own, history_of-other}
 
 -- who recorded

@@ -1,8 +1,9 @@
 -- The fields of a world after a block of messages was given.
 use Rattle.std.proofs.Common.{◌≡◌, ℕ, zero, suc, ◌+◌, ◌-◌, ◌*◌, ◌<◌, ◌≤◌, ⊎_elim, Bool, true, false, ◌==◌}
-use Rattle.std.proofs.Common.{List, [], ◌∷◌, ◌++◌, length, take, drop, Option, Some, None, refl, sym, ap, ◌∙◌, subst, arith}
-use Rattle.std.proofs.Common.{append-nil, append_assoc, length-append, length-drop, take_all}
-use Rattle.std.specs.Prelude.{if◌then◌else◌, nat_lt, min, slice_get, option_map, ◌/◌, ◌%◌}
+use Rattle.std.proofs.Common.{List, [], ◌∷◌, ◌++◌, length, take, drop, Some, None, refl, sym, ap, ◌∙◌, subst, arith}
+use Rattle.std.proofs.Common.{append_assoc, length-append, length-drop, take_all}
+use Rattle.std.specs.Prelude.{if◌then◌else◌, nat_lt, min, slice_get, map, option_map, ◌/◌, ◌%◌}
+use Rattle.std.specs.List.{range_with_len}
 use Rattle.std.proofs.lemmas.Bool.{cases_lt}
 use Rattle.std.proofs.lemmas.Bool.Decides.{nat_tests}
 use Rattle.std.proofs.lemmas.Map.Views.{exact_unsigned_eq}
@@ -10,14 +11,14 @@ use Rattle.std.proofs.lemmas.List.FromFn.{map-range_with_len_more}
 use Rattle.std.proofs.Math.Nat.{mul-le-mul_right, mod-add-div'}
 use Rattle.quorum_sizes.specs.NodeSets.{Nodes}
 use Rattle.role_node.specs.Configs.{ConfigValue}
-use Rattle.role_node.specs.Nodes.{NodeValue}
 use Rattle.role_node.specs.declared.event.Event.{Event}
 use Rattle.byz_world.specs.Runs.{Run, history_of, IsClusterRun}
-use Rattle.byz_world.specs.Pools.{Sent, listed, messages, pool}
+use Rattle.byz_world.specs.Pools.{Sent, listed, messages, messages_after, pool}
 use Rattle.byz_world.specs.Worlds.{WorldValue, node_in, node_due, is_correct_in}
 use Rattle.byz_world.specs.Inside.{Members, member_in, history_in, next_event, run_after, run_in, world_in, IsWorldIn}
 use Rattle.byz_world.specs.Settled.{IsProlonged}
-use Rattle.byz_world.specs.Steps.{with_run, after_step, after_steps, after_gives}
+use Rattle.byz_world.specs.Steps.{with_run, after_step, after_steps}
+use Rattle.byz_world.specs.Settled.{after_gives}
 use Rattle.byz_world.specs.Blocks.{member_after, after_takes, mark_in, AreGiven, block_names, block_messages}
 use Rattle.byz_world.specs.Blocks.{block_most, IsBlock, StartsBlock}
 use Rattle.byz_world.specs.declared.step.Step.TheVariants.{Give}
@@ -25,10 +26,10 @@ use Rattle.byz_world.specs.declared.block.Mark.{Mark}
 use Rattle.byz_world.proofs.BlockMerge.{Merged, IsMarked, given_to, takes_are, merged_none, merged_block}
 use Rattle.byz_world.proofs.BlockMembers.{taken-length, at_taken}
 use Rattle.byz_world.proofs.BlockNotes.{dropped-at}
-use Rattle.byz_world.proofs.BlockRuns.{names, names-times, run_of_names, unnamed}
+use Rattle.byz_world.proofs.BlockRuns.{names, names-times, run_of_names, unnamed, messages-append}
 use Rattle.byz_world.proofs.Numbering.{pool-length}
 use Rattle.byz_world.proofs.Ordered.{times, times-append, times-own}
-use Rattle.byz_world.proofs.Passes.{prolonged_runs}
+use Rattle.byz_world.proofs.Passes.{prolonged_runs, gives_prolong}
 use Rattle.byz_world.proofs.Progress.{some_within}
 use Rattle.byz_world.proofs.Stepping.{after_steps-none, after_steps-push}
 
@@ -294,3 +295,31 @@ pub one_is_given : (w : WorldValue) (packet : ℕ) → after_step w (Give packet
 one_is_given w packet =
     ap (λ v. after_step v (Give packet)) (sym (after_steps-none w)) ∙ sym (after_steps-push w [] (Give packet))
     ∙ sym (ap (after_steps w) (map-range_with_len_more Give packet 0 packet (omega arith)))
+
+-- As layers above count them.
+
+pub after_gives-none : (w : WorldValue) (first : ℕ) → after_gives w first 0 ≡ w
+after_gives-none w first = after_steps-none w
+
+pub after_gives-next : (w : WorldValue) (first count : ℕ) →
+    after_step (after_gives w first count) (Give (first + count)) ≡ after_gives w first (count + 1)
+after_gives-next w first count =
+    sym (ap (after_steps w) (map-range_with_len_more Give first count (first + count) refl)
+    ∙ after_steps-push w (map Give (range_with_len first count)) (Give (first + count)))
+
+-- the pool gets no smaller
+pub after_gives-pool : (w : WorldValue) (first count : ℕ) →
+    length (pool w.config w.run)
+    ≤ length (pool (after_gives w first count).config (after_gives w first count).run)
+after_gives-pool w first count =
+    let n : ℕ = w.config.roles.sizes.nodes in
+    let on = gives_prolong w (range_with_len first count) in
+    let P : WorldValue → Type 0 = λ v. length (pool w.config w.run) ≤ length (pool v.config v.run) in
+    let said = messages w.config w.run in
+    let later = messages_after w.config w.run on.0 in
+    let long : length (messages w.config (w.run ++ on.0)) ≡ length said + length later =
+    ap length (messages-append w.config w.run on.0) ∙ length-append said later in
+    let rows : length said * n ≤ length (messages w.config (w.run ++ on.0)) * n =
+    mul-le-mul_right n (omega (arith, long)) in
+    subst P (sym on.1)
+    (omega (arith, rows, pool-length w.config w.run, pool-length w.config (w.run ++ on.0)))

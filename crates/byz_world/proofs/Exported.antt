@@ -7,6 +7,7 @@
 --     consistency, integrity, same_policy, at_rest      the laws of every run, or of one at rest
 --     nothing_is_stuck, work_is_bounded, fair_schedules_settle      the laws of runs that go on by what was sent
 --     settled_prolongs, settled_is, settled-config      a world that has settled
+--     after_gives-none, after_gives-next, after_gives-pool      packets that are given one after another
 --     ready_for_one ..      their parts, of a run with what is known of it; `taken_by` is what a node took at a place
 pub use Rattle.byz_world.proofs.Pooled.{sent_is_pooled, pooled_is_sent, pool_is_what_was_sent, has_sent_is}
 pub use Rattle.byz_world.proofs.Pooled.{is_has_sent, has_sent_stays, recorded_after}
@@ -23,3 +24,4 @@ pub use Rattle.byz_world.proofs.Progress.{nothing_is_stuck}
 pub use Rattle.byz_world.proofs.Prolonging.{work_is_bounded}
 pub use Rattle.byz_world.proofs.Schedules.{fair_schedules_settle, stuck_or_not}
 pub use Rattle.byz_world.proofs.Passes.{settled_prolongs, settled_is, settled-config}
+pub use Rattle.byz_world.proofs.BlockWorld.{after_gives-none, after_gives-next, after_gives-pool}

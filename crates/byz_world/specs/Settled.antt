@@ -20,9 +20,13 @@ pub record IsSettled (w : WorldValue) : Type 0 where
   pub stuck : is_pool_full w ≡ false → IsStuck w.config w.liars w.run
   pub rests : is_pool_full w ≡ false → HasRoom w.config w.liars w.run → IsAtRest w.config w.liars w.run
 
+-- the world after so many packets of the pool were given, one after another from this number on
+abbrev pub after_gives : WorldValue → ℕ → ℕ → WorldValue
+after_gives w first count = after_steps w (map Give (range_with_len first count))
+
 -- a pass gives each packet that the pool has, in the order of their numbers
 abbrev pub after_pass : WorldValue → WorldValue
-after_pass w = after_steps w (map Give (range_with_len 0 (length (pool w.config w.run))))
+after_pass w = after_gives w 0 (length (pool w.config w.run))
 
 -- whether something is recorded in it
 abbrev pub pass_adds : WorldValue → Bool

@@ -1,7 +1,6 @@
 -- What a step of the world does: the node and the event that it comes to, its answer, and the run after it.
 use Rattle.std.specs.Prelude.{◌≡◌, ⊤, ℕ, ◌+◌, Bool, not, ◌&&◌, nat_lt, IsTrue, List, [], if◌then◌else◌}
-use Rattle.std.specs.Prelude.{◌∷◌, ◌++◌, length, map, slice_get, is_some, Option, Some, None, Result, Ok, Err}
-use Rattle.std.specs.List.{range_with_len}
+use Rattle.std.specs.Prelude.{◌∷◌, ◌++◌, length, slice_get, is_some, Option, Some, None, Result, Ok, Err}
 use Rattle.link_frames.specs.Opening.{open_due}
 use Rattle.link_frames.specs.Packets.{PacketValue, IsSound, message_of}
 use Rattle.link_frames.specs.declared.opening.LinkFault.{LinkFault}
@@ -105,10 +104,6 @@ after_step w step = with_run w (w.run ++ recorded_pair w (arrival w step))
 unfoldable pub after_steps : WorldValue → List Step → WorldValue
 after_steps w [] = w
 after_steps w (step ∷ steps) = after_steps (after_step w step) steps
-
--- the world after so many packets of the pool were given, from this number on
-abbrev pub after_gives : WorldValue → ℕ → ℕ → WorldValue
-after_gives w first count = after_steps w (map Give (range_with_len first count))
 
 -- whether the step adds to the run
 abbrev pub adds : WorldValue → Step → Bool

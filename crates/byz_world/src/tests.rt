@@ -296,6 +296,41 @@ fn settling(rt: HostRuntime) -> Result<(), Fail> {
     settled(&rt, &mut world)
 }
 
+/// Gives packets from `first` on, where there are `most` at most, once more where memory was wanting. How many.
+fn some_given(world: &mut World, first: u32, most: u32) -> Result<u32, Fail> {
+    if first >= world.sent_len() || most == 0 {
+        return Err("no packets".into());
+    }
+    Ok(match world.give_some(first, most) {
+        Err(_) => world.give_some(first, most)?,
+        count => count?,
+    })
+}
+
+/// Packets from a number on, so many at most, and how many are given then: a SEND alone to four nodes is too few to be
+/// given at once; four ECHOs and four READYs are not, from the first packet of one on, and where so many may be given.
+static GIVEN: [(u32, u32, u32); 8] = [
+    (0, 99, 1),
+    (1, 99, 1),
+    (2, 99, 1),
+    (3, 99, 1),
+    (5, 99, 1),
+    (4, 99, 16),
+    (20, 15, 1),
+    (20, 99, 16),
+];
+
+#[test]
+fn many_packets_at_once(rt: HostRuntime) -> Result<(), Fail> {
+    let mut world = new_world(rt.alloc(), MOST_EVENTS, &[])?;
+    walk(&rt, rt.alloc(), &mut world, &[(Act::Issue, Due::Sends(0))])?;
+    for (first, most, due) in GIVEN.iter() {
+        let came = some_given(&mut world, *first, *most)?;
+        assert!(rt; came == *due, "packet {first}: due {due}, came {came}");
+    }
+    delivered_everywhere(&rt, &mut world)
+}
+
 /// What is due where each of four correct nodes took what node 0 published.
 fn delivered_everywhere(rt: &impl Abort, world: &mut World) -> Result<(), Fail> {
     assert!(rt; world.at_rest() && world.sent_len() == 36);

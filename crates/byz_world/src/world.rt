@@ -17,7 +17,8 @@ ghost use Rattle.byz_world.specs.LabKeys.{ring_due};
 ghost use Rattle.byz_world.specs.Pools.{pool};
 ghost use Rattle.byz_world.specs.Worlds.{new_world, is_correct_in, node_due};
 ghost use Rattle.byz_world.specs.Steps.{arrival, opened_at, unless_forged, arrives, is_forged, is_pool_full};
-ghost use Rattle.byz_world.specs.Steps.{with_run, adds, after_step, after_steps, after_gives, IsStepAnswer};
+ghost use Rattle.byz_world.specs.Steps.{with_run, adds, after_step, after_steps, IsStepAnswer};
+ghost use Rattle.byz_world.specs.Settled.{after_gives};
 ghost use Rattle.byz_world.specs.Settled.{IsProlonged};
 ghost use Rattle.byz_world.specs.Blocks.{IsBlock, StartsBlock};
 ghost use Rattle.byz_world.specs.Agreement.{agree_due};
@@ -48,6 +49,7 @@ use std::marker::Model;
 
 /// So many messages are given at once at most, and not fewer packets than these.
 const BLOCK_MOST: u32 = 64;
+
 const BLOCK_LEAST: u32 = 16;
 
 /// A cluster of which some nodes lie: the correct nodes, and what happened at them.
@@ -216,7 +218,14 @@ impl World {
             &self.sent[first..first + count],
             &mut marks,
         );
-        note_block(&mut self.order, &mut self.sent, &sizes, first, count, &marks);
+        note_block(
+            &mut self.order,
+            &mut self.sent,
+            &sizes,
+            first,
+            count,
+            &marks,
+        );
         given
     }
 

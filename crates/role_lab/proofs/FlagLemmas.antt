@@ -2,6 +2,7 @@
 use Rattle.std.proofs.Common.{◌≡◌, ℕ, zero, suc, ◌+◌, ◌<◌, ◌≤◌, ◌==◌, Bool, true, false, cond, ◌||◌}
 use Rattle.std.proofs.Common.{List, [], ◌∷◌, ◌++◌, length, set, take, replicate, find, Some, None}
 use Rattle.std.proofs.Common.{refl, sym, ap, ◌∙◌, arith, get_or-set_same, get_or-set_other, inl, inr}
+use Rattle.std.proofs.lemmas.Bool.Decides.{nat_tests}
 use Rattle.std.proofs.lemmas.Bool.{eqb-true, eqb-false, cases_lt}
 use Rattle.std.proofs.lemmas.List.{take_all}
 use Rattle.std.specs.List.{range_with_len}
@@ -28,6 +29,12 @@ with_number-kept given n k was = either (k == n) (given k) was
     either : (a b : Bool) → b ≡ true → (a || b) ≡ true
     either true b e = refl
     either false b e = e
+
+-- none is set behind all, and behind one more
+pub none_behind : (given : ℕ → Bool) (n k : ℕ) → given k ≡ false → n + 1 ≤ k → with_number given n k ≡ false
+none_behind given n k none h =
+    let other : (k == n) ≡ false = grind (arith, nat_tests) in
+    λ i. other i || none i
 
 -- unset flags behind the others
 pub flagged-padded : (flags : List Bool) (m : ℕ) → flagged (flags ++ replicate m false) ≡ flagged flags

@@ -1,8 +1,8 @@
 //! Which packets of the pool were given.
 
-ghost use Rattle.std.specs.Prelude.{◌≡◌, ℕ, ◌<◌, ◌≤◌, ◌^◌, true, false, not, find, length, OnOk, IfSome};
+ghost use Rattle.std.specs.Prelude.{◌≡◌, ℕ, ◌<◌, ◌≤◌, ◌^◌, true, false, not, find, length, OnOk, OnErr, IfSome, IsTrue, ◌+◌};
 ghost use Rattle.std.specs.List.{range_with_len};
-ghost use Rattle.role_lab.specs.inside.Flags.{flagged, AllBelow};
+ghost use Rattle.role_lab.specs.inside.Flags.{flagged, AllBelow, NoneFrom, with_many};
 ghost use Rattle.role_lab.specs.Labs.{with_number, with_all_below};
 
 use std::alloc::{AllocError, Global};
@@ -10,12 +10,14 @@ use std::alloc::{AllocError, Global};
 /// Flags are added so many at a time.
 const PADDED: usize = 4096;
 
-/// The numbers that were given, a flag each, and the least that may not be given yet.
+/// The numbers that were given, a flag each, the least that may not be given yet, and one behind all that were given.
 #[derive(Drop)]
 pub struct Given {
     flags: Vec<bool>,
     least: usize,
+    end: usize,
     ghost below: { AllBelow flags.items least },
+    ghost behind: { NoneFrom (flagged flags.items) end },
 }
 
 impl Given {
@@ -28,6 +30,7 @@ impl Given {
         Given {
             flags: Vec::new(alloc),
             least: 0,
+            end: 0,
         }
     }
 
@@ -39,7 +42,40 @@ impl Given {
     pub fn mark(&mut self, number: u32) -> Result<(), AllocError>
         ensures { OnOk result (given_in self.new ≡ with_number (given_in self.old) number) }
     {
-        set_flag(&mut self.flags, number as usize)
+        self.mark_at(number as usize)
+    }
+
+    fn mark_at(&mut self, number: usize) -> Result<(), AllocError>
+        requires { number < 2 ^ 33 }
+        ensures { OnOk result (given_in self.new ≡ with_number (given_in self.old) number) }
+    {
+        set_flag(&mut self.flags, number)?;
+        self.end = self.end.max(number + 1);
+        Ok(())
+    }
+
+    /// Adds so many numbers from `first` on.
+    ///
+    /// # Errors
+    ///
+    /// Only for want of memory.
+    pub fn mark_many(&mut self, first: u32, count: u32) -> Result<(), AllocError>
+        ensures { OnOk result (given_in self.new ≡ with_many (given_in self.old) first count) }
+    {
+        for number in 0..count {
+            self.mark_at(first as usize + number as usize)?;
+        }
+        if self.least == first as usize {
+            self.least = first as usize + count as usize;
+        }
+        Ok(())
+    }
+
+    /// Whether it is known that no number from this one on was given.
+    pub fn is_none_from(&self, number: u32) -> bool
+        ensures { IsTrue result → NoneFrom (given_in self.now) number }
+    {
+        self.end <= number as usize
     }
 
     /// Adds all numbers below `end`.
@@ -74,9 +110,10 @@ impl Given {
 
 /// Sets a flag, behind unset ones where there are too few.
 fn set_flag(flags: &mut Vec<bool>, number: usize) -> Result<(), AllocError>
-    requires { number < 2 ^ 32 }
+    requires { number < 2 ^ 33 }
     ensures set { OnOk result (flagged flags.new.items ≡ with_number (flagged flags.old.items) number) }
     ensures kept { (k : ℕ) → flagged flags.old.items k ≡ true → flagged flags.new.items k ≡ true }
+    ensures err { OnErr result (flagged flags.new.items ≡ flagged flags.old.items) }
 {
     pad(flags, number + 1)?;
     flags[number] = true;
@@ -85,7 +122,7 @@ fn set_flag(flags: &mut Vec<bool>, number: usize) -> Result<(), AllocError>
 
 /// Adds unset flags until there are so many, some thousands at a time.
 fn pad(flags: &mut Vec<bool>, count: usize) -> Result<(), AllocError>
-    requires { count ≤ 2 ^ 32 }
+    requires { count ≤ 2 ^ 33 }
     ensures same { flagged flags.new.items ≡ flagged flags.old.items }
     ensures many { OnOk result (count ≤ length flags.new.items) }
 {

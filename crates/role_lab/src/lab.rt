@@ -1,11 +1,12 @@
 //! A cluster as a script runs it: the world, and which packets of its pool were given.
 
-ghost use Rattle.std.specs.Prelude.{◌≡◌, ◌<◌, true, false, IfOk, IfSome, IfNone, OnOk, OnErr, string_bytes};
+ghost use Rattle.std.specs.Prelude.{◌≡◌, ◌<◌, ◌≤◌, true, false, Some, IfOk, IfSome, IfNone, OnOk, OnErr, string_bytes};
 ghost use Rattle.byz_world.specs.Steps.{step_due, after_step};
 ghost use Rattle.byz_world.specs.declared.step.Step.TheVariants.{Give};
 ghost use Rattle.byz_world.specs.Worlds.{too_many_lie};
 ghost use Rattle.role_lab.specs.Labs.{lab_sizes, pool_length, new_lab, given_after, after_doing, flush, after_order};
-ghost use Rattle.role_lab.specs.Labs.{settling_adds, after_settling};
+ghost use Rattle.role_lab.specs.Labs.{settling_adds, after_settling, next_number};
+ghost use Rattle.role_lab.specs.inside.Flags.{GivesOn};
 ghost use Rattle.role_lab.specs.Rests.{rests};
 ghost use Rattle.role_lab.specs.inside.Kept.{IsWithinSizes, is_want_of_memory};
 ghost use Rattle.role_lab.specs.OrderTexts as texts;
@@ -121,13 +122,33 @@ impl Lab {
         ensures after { OnOk result (lab_in self.new ≡ (flush (lab_in self.old)).lab) }
     {
         let limit = self.world.config().limit();
-        for count in 0..limit {
+        let mut count = 0;
+        while count < limit {
             let Some(packet) = self.given.next(self.world.sent_len()) else {
                 return Ok(count);
             };
-            self.give(packet)?;
+            count += self.give_on(packet, limit - count)?;
         }
         Ok(limit)
+    }
+
+    /// Gives packets of the pool from this one on, whatever the answers are: as many as the world gives at once, where
+    /// none of them was given, and else this one. How many, at most `most`.
+    fn give_on(&mut self, packet: u32, most: u32) -> Result<u32, AllocError>
+        requires packet { packet < pool_length self.old.world }
+        requires most { 0 < most }
+        requires next { next_number (lab_in self.old) ≡ Some packet }
+        ensures some { IfOk result (λ count. 0 < count) }
+        ensures most { IfOk result (λ count. count ≤ most) }
+        ensures after { IfOk result (λ count. GivesOn (lab_in self.old) count (lab_in self.new)) }
+    {
+        if !self.given.is_none_from(packet) {
+            self.give(packet)?;
+            return Ok(1);
+        }
+        let count = self.world.give_some(packet, most)?;
+        self.given.mark_many(packet, count)?;
+        Ok(count)
     }
 
     /// Gives the packets of the pool until none counts any more. How many events were recorded.

@@ -1,4 +1,4 @@
-use Rattle.std.proofs.Common.{◌≡◌, ◌<◌, ◌≤◌, length, arith}
+use Rattle.std.proofs.Common.{◌<◌, length, arith}
 use Rattle.byz_world.proofs.BlockMembers.{given_to_none, given_to_next, given_to_all, given_in_part}
 use Rattle.byz_world.proofs.block.give_to_each.Goals as goal
 

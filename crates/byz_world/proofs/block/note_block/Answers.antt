@@ -1,5 +1,4 @@
-use Rattle.byz_world.proofs.BlockWorld.{order_is_names}
-use Rattle.std.proofs.Common.{◌≡◌, ◌+◌, ◌<◌, ◌++◌, length, drop, List, Some, sym, ap, ◌∙◌, length-append, arith}
+use Rattle.std.proofs.Common.{◌≡◌, ◌+◌, ◌<◌, length, drop, List, Some, sym, ap, ◌∙◌, length-append, arith}
 use Rattle.std.specs.Prelude.{slice_get}
 use Rattle.byz_world.specs.Blocks.{block_messages}
 use Rattle.byz_world.specs.Pools.{Sent}

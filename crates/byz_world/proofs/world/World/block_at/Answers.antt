@@ -1,4 +1,4 @@
-use Rattle.std.proofs.Common.{◌≡◌, ℕ, ◌+◌, ◌*◌, ◌≤◌, min, ◌/◌, ap, sym, ◌∙◌, subst, arith}
+use Rattle.std.proofs.Common.{◌+◌, ◌*◌, ◌≤◌, min, ◌/◌, ap, ◌∙◌, subst, arith}
 use Rattle.byz_world.specs.Worlds.{WorldValue}
 use Rattle.byz_world.proofs.BlockWorld.{block_starts}
 use Rattle.byz_world.proofs.Telling.{nodes_are}

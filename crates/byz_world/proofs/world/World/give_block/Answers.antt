@@ -1,11 +1,8 @@
 use Rattle.std.proofs.Common.{◌≡◌, ℕ, ◌+◌, ◌-◌, ◌*◌, ◌++◌, List, length, take, drop, Result, Ok, Err, ap, sym, ◌∙◌, subst, length-drop, arith}
 use Rattle.std.specs.Prelude.{OnOk}
 use Rattle.byz_world.specs.Blocks.{AreGiven, block_names, block_messages}
-use Rattle.byz_world.specs.Inside.{world_in}
 use Rattle.byz_world.specs.Pools.{Sent, messages}
 use Rattle.std.proofs.lemmas.List.{length-take-le}
-use Rattle.byz_world.specs.Settled.{IsProlonged}
-use Rattle.byz_world.specs.Steps.{after_gives}
 use Rattle.byz_world.specs.Worlds.{WorldValue}
 use Rattle.byz_world.proofs.BlockWorld.{HasMerged, block_given}
 use Rattle.byz_world.proofs.world.World.give_block.Goals as goal

@@ -1,4 +1,4 @@
-use Rattle.std.proofs.Common.{◌≡◌, ℕ, ◌<◌, ap, sym, ◌∙◌, subst, arith}
+use Rattle.std.proofs.Common.{◌<◌, ap, sym, ◌∙◌, subst, arith}
 use Rattle.byz_world.specs.Settled.{IsProlonged}
 use Rattle.byz_world.proofs.BlockWorld.{one_is_given, block_pooled}
 use Rattle.byz_world.proofs.Passes.{give_prolongs}
