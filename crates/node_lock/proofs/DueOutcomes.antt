@@ -5,7 +5,7 @@ use Rattle.std.specs.Prelude.{slice_get, option_map}
 use Rattle.std.proofs.lemmas.List.{take_more}
 use Rattle.std.proofs.lemmas.Option.{slice_get-map, slice_get_within, get_or_from_slice_get}
 use Rattle.role_node.specs.Answers.{EntryValue, event_of, is_recorded}
-use Rattle.role_node.specs.Nodes.{NodeValue, due_at, with_event, IsLegalNode, AreRepliesOf}
+use Rattle.role_node.specs.Nodes.{NodeValue, with_event, IsLegalNode, AreRepliesOf}
 use Rattle.role_node.specs.declared.event.Event.{Event}
 use Rattle.node_lock.specs.Audits.{node_at}
 use Rattle.node_lock.specs.inside.Walks.{IsNext}

@@ -73,7 +73,7 @@ struct Pool<'a, G> {
     gate: &'a G,
 }
 
-impl<'a, G: Gate> Pool<'a, G> {
+impl<G: Gate> Pool<'_, G> {
     /// The node that made the calls. Their receipts go into the slots.
     fn run_at_new_node<R: Threads + Wait + Sync>(
         &self,

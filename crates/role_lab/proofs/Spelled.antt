@@ -17,7 +17,7 @@ use Rattle.role_commands.specs.Reading.{command_of}
 use Rattle.role_commands.specs.Words.{spelling, IsCommand}
 use Rattle.role_commands.specs.declared.command.Command.{Command}
 use Rattle.role_commands.proofs.Exported.{split_word-word, split_word-decimal, split_word-joined, byte_read}
-use Rattle.role_commands.proofs.Exported.{byte_spelled, if_else, command_of-spelling, command_of_spelled}
+use Rattle.role_commands.proofs.Exported.{byte_spelled, if_else, if_some, command_of-spelling, command_of_spelled}
 use Rattle.role_commands.specs.Numbers.{space}
 use Rattle.link_frames.specs.declared.kind.Kind.{Kind}
 use Rattle.link_frames.specs.declared.kind.Kind.TheVariants.{Send, Echo, Ready}
@@ -87,7 +87,7 @@ take_of_line-spelling s t are is = named_spelling s t.kind t.from t.command are 
 
 -- writing what was read
 
-ok_of : {A E : Type 0} (r : Result A E) (x : A) → result_ok r ≡ Some x → r ≡ Ok x
+pub ok_of : {A E : Type 0} (r : Result A E) (x : A) → result_ok r ≡ Some x → r ≡ Ok x
 ok_of (Ok y) x e = ap Ok (same_Some y x e)
 ok_of (Err f) x e = cc
 
@@ -109,10 +109,6 @@ sizes_due_is n f s e = due (n == 0) (nat_lt most_nodes n) (nat_le n (3 * f)) ref
     due false true c p q r is = cc
     due false false true p q r is = cc
     due false false false p q r is = made (cc) (grind (arith, nat_tests)) (grind (arith, nat_tests))
-
-if_some : {A : Type 0} (b : Bool) (x : Option A) (y : A) → (if b then x else None) ≡ Some y → (b ≡ true) × (x ≡ Some y)
-if_some true x y e = (refl, e)
-if_some false x y e = cc
 
 pub sizes_of_line_spelled : SizesAreSpelled
 unfolding sizes_of_line sizes_of_numbers

@@ -22,6 +22,7 @@ use Rattle.role_commands.specs.Bytes.{IsBytes}
 use Rattle.role_commands.proofs.Exported.{Ascii, word_text}
 use Rattle.role_lab.specs.OrderSpellings.{bytes_spelling, SpellsBytes}
 use Rattle.role_lab.specs.Orders.{bytes_of}
+use Rattle.role_lab.proofs.Spelled.{ok_of}
 
 -- ---- one digit
 
@@ -180,10 +181,6 @@ bytes_read word (b ∷ rest) are spells =
     let some : (length word == 0) ≡ false = ne_eqb (length word) 0 (λ e. absurd (omega (arith, many))) in
     rw (no_dash, some, read) refl
 
-was_read : (r : Result (List ℕ) FromHexError) (bytes : List ℕ) → result_ok r ≡ Some bytes → r ≡ Ok bytes
-was_read (Ok xs) bytes e = ap Ok (same_Some xs bytes e)
-was_read (Err fault) bytes e = absurd (none-some bytes e)
-
 digits_spelled : (word bytes : List ℕ) → (length word == 0) ≡ false → decode_of word ≡ Ok bytes
     → SpellsBytes bytes word × IsBytes bytes
 digits_spelled word bytes some read =
@@ -206,7 +203,7 @@ bytes_spelled word bytes e = dashed (bytes_eq word (codes "-")) (length word == 
         subst (λ (bs : List ℕ). SpellsBytes bs word × IsBytes bs) (same_Some [] bytes e)
         (ap str_to_ascii_lowercase ((bytes_eq-Decides word (codes "-")).0 is), λ i. omega arith)
     dashed false true is empty e = absurd (none-some bytes e)
-    dashed false false is some e = digits_spelled word bytes some (was_read (decode_of word) bytes e)
+    dashed false false is some e = digits_spelled word bytes some (ok_of (decode_of word) bytes e)
 
 pub spelling_spells : (bytes : List ℕ) → IsBytes bytes → SpellsBytes bytes (bytes_spelling bytes)
 spelling_spells [] are = refl

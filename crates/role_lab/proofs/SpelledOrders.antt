@@ -1,5 +1,5 @@
 -- A later line of a cluster has one spelling.
-use Rattle.std.proofs.Common.{◌≡◌, ℕ, true, false, if◌then◌else◌}
+use Rattle.std.proofs.Common.{◌≡◌, ℕ, true, false}
 use Rattle.std.proofs.Common.{◌<◌, List, ◌∷◌, ◌++◌, length, codes, Option, Some, sym}
 use Rattle.std.proofs.Common.{refl, ap, arith, ◌∙◌, subst}
 use Rattle.std.proofs.lemmas.Option.{option_and_then_some, same_Some, none-some}
