@@ -17,7 +17,7 @@ use Rattle.bracha_instance.specs.declared.instance.Effect.{Effect}
 use Rattle.bracha_instance.specs.declared.instance.Effect.TheVariants as effect
 use Rattle.owner_streams.specs.Steps.{step_of}
 use Rattle.role_commands.specs.declared.command.Command.{Command}
-use Rattle.role_node.proofs.CauseLemmas.{step_is_own}
+use Rattle.role_node.proofs.Exported.{step_is_own}
 use Rattle.role_node.specs.inside.Entries.{IsOwn}
 use Rattle.role_node.specs.Histories.{packets}
 use Rattle.role_node.specs.declared.faults.NodeFault.{NodeFault}
