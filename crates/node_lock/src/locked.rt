@@ -11,7 +11,6 @@ ghost use Rattle.node_lock.specs.Holds.{end_of, Fits, receipt_of, held_after, se
 ghost use Rattle.node_lock.specs.Holds.{seat_after_question, IsStepFault, IsMisfit};
 ghost use Rattle.node_lock.specs.Views.{node_count, view_of, held_after_hold, seat_after_hold, IsHoldFault};
 ghost use Rattle.node_lock.specs.declared.receipt.Call.TheVariants.{Step, Ask};
-ghost use Rattle.node_lock.specs.declared.locked.StepFault.TheVariants.{Memory};
 
 use crate::questions::ask_outcome;
 use crate::receipt::{Call, Outcome, Receipt};
@@ -163,13 +162,12 @@ impl<L: Ledger> Locked<L> {
     }
 
     /// Records an event that counts, with the seat's number beside it.
-    fn record(&mut self, seat: &mut Seat<L>, event: Event) -> Result<Receipt, StepFault>
+    fn record(&mut self, seat: &mut Seat<L>, event: Event) -> Result<Receipt, AllocError>
         requires counts { outlook self.old.node.config self.old.node.me self.old.node.history event ≡ Ok Counted }
         requires fits { Fits self.old seat.old }
         ensures receipt { IfOk result (λ receipt. receipt ≡ receipt_of self.old seat.old (Step event)) }
         ensures held { OnOk result (self.new ≡ held_after self.old seat.old event) }
         ensures seat { OnOk result (seat.new ≡ seat_after self.old seat.old event) }
-        ensures err { IfErr result (λ fault. fault ≡ Memory) }
         ensures same { OnErr result (self.new ≡ self.old) }
         ensures same_seat { OnErr result (seat.new ≡ seat.old) }
         ensures legal { IsLegalNode self.new.node }
@@ -210,7 +208,7 @@ impl<L: Ledger> Locked<L> {
         let place = self.end();
         self.admit(seat)?;
         let outcome = match self.node.look(&event) {
-            Ok(Effect::Counted) => return self.record(seat, event),
+            Ok(Effect::Counted) => return Ok(self.record(seat, event)?),
             Ok(Effect::Idle) => Outcome::Reply(Reply::Idle),
             Err(fault) => Outcome::Refused(fault),
         };

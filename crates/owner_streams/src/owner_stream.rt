@@ -76,7 +76,7 @@ impl OwnerStream {
                 to: from,
             });
         }
-        self.take_new(sizes, packet)
+        Ok(self.take_new(sizes, packet)?)
     }
 
     /// Takes a packet of this owner that counts. An `Err` changes nothing that the places hold.
@@ -85,7 +85,7 @@ impl OwnerStream {
         &mut self,
         sizes: &Sizes,
         packet: &Packet,
-    ) -> Result<StreamStep, StreamFault>
+    ) -> Result<StreamStep, AllocError>
         requires from { packet.now.from < sizes.now.nodes }
         requires kept { IsOwnerStream sizes.now self.old }
         requires counts { look_in self.old packet.now ≡ Ok Counted }
@@ -93,9 +93,9 @@ impl OwnerStream {
             AreStatesOf sizes.now packet.now.owner self.old packets → SendsAreOwners packets →
             effect_due (step_due sizes.now packets packet.now) ≡ Ok Counted }
         ensures kept { IsOwnerStream sizes.now self.new }
-        ensures due { (packets : List PacketValue) →
+        ensures due { IfOk result (λ step. (packets : List PacketValue) →
             AreStatesOf sizes.now packet.now.owner self.old packets → SendsAreOwners packets →
-            IsAnswer (step_due sizes.now packets packet.now) result }
+            step_due sizes.now packets packet.now ≡ Ok step) }
         ensures state { OnOk result ((packets : List PacketValue) →
             AreStatesOf sizes.now packet.now.owner self.old packets →
             AreStatesOf sizes.now packet.now.owner self.new (packets ++ packet.now ∷ [])) }

@@ -1,6 +1,7 @@
 //! The streams of all owners, as one node delivers them.
 
-ghost use Rattle.std.specs.Prelude.{◌≡◌, ◌≢◌, ℕ, ◌+◌, ◌<◌, ◌≤◌, List, [], ◌∷◌, ◌++◌, IfOk, OnOk, OnErr, slice_get};
+ghost use Rattle.std.specs.Prelude.{◌≡◌, ◌≢◌, ℕ, ◌+◌, ◌<◌, ◌≤◌, List, [], ◌∷◌, ◌++◌, Ok, IfOk, OnOk, OnErr};
+ghost use Rattle.std.specs.Prelude.{slice_get};
 ghost use Rattle.link_frames.specs.Packets.{PacketValue};
 ghost use Rattle.bracha_instance.specs.declared.instance.Effect.TheVariants.{Idle, Counted};
 ghost use Rattle.owner_streams.specs.Places.{place_count, window, stream, reach as reach_of};
@@ -94,16 +95,16 @@ impl Streams {
     ///
     /// # Errors
     ///
-    /// [`StreamFault::Memory`], which changes nothing.
+    /// Only for want of memory, which changes nothing.
     #[inline(always)]
-    pub fn take_new(&mut self, packet: &Packet) -> Result<StreamStep, StreamFault>
+    pub fn take_new(&mut self, packet: &Packet) -> Result<StreamStep, AllocError>
         requires from { packet.now.from < self.old.sizes.nodes }
         requires owner { packet.now.owner < self.old.sizes.nodes }
         requires counts { WouldCount self.old packet.now }
         ensures sizes { self.new.sizes ≡ self.old.sizes }
-        ensures due { (packets : List PacketValue) →
+        ensures due { IfOk result (λ step. (packets : List PacketValue) →
             IsStateOf self.old packets → SendsAreOwners packets →
-            IsAnswer (step_due self.old.sizes packets packet.now) result }
+            step_due self.old.sizes packets packet.now ≡ Ok step) }
         ensures state { OnOk result ((packets : List PacketValue) → IsStateOf self.old packets →
             IsStateOf self.new (packets ++ packet.now ∷ [])) }
         ensures onward { IfOk result (λ step. step.from ≤ step.to) }

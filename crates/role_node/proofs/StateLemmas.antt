@@ -24,7 +24,7 @@ use Rattle.role_sessions.specs.Kept.{SessionsValue, KeptAreRight, KeepsRight}
 use Rattle.role_sessions.specs.declared.event.ClientEvent.{ClientEvent}
 use Rattle.role_node.specs.Histories.{packets, client_events}
 use Rattle.role_node.specs.Faults.{of_stream_fault}
-use Rattle.role_node.specs.Answers.{EntryValue, of_effect_due}
+use Rattle.role_node.specs.Answers.{of_effect_due}
 use Rattle.role_node.specs.inside.Kept.{ArePartsOf, IsStateAfter, Stays, obeyed}
 use Rattle.role_node.specs.declared.event.Event.{Event}
 use Rattle.role_node.specs.declared.event.Event.TheVariants.{Issue, Take, Client}
@@ -203,7 +203,7 @@ blank_policy roles streams p nothing blank =
     (blank_is_of_no_commands roles p blank)
 
 -- a refusal keeps the state, with what room was made
-pub stays_on_err : (r : Result EntryValue NodeFault) {old new : State} → new.issued ≡ old.issued
+pub stays_on_err : {X Fault : Type 0} (r : Result X Fault) {old new : State} → new.issued ≡ old.issued
     → new.streams ≡ old.streams →
     SameRelations old.policy new.policy → new.sessions ≡ old.sessions → OnErr r (Stays old new)
 stays_on_err (Ok reply) i s same t = tt

@@ -126,11 +126,7 @@ impl Node {
         ensures legal { IsLegalNode self.new }
     {
         self.entries.try_reserve(1)?;
-        let entry = match self.state.answer(self.me, event) {
-            Ok(entry) => entry,
-            Err(NodeFault::Memory) => return Err(AllocError),
-            Err(_) => unreachable!(),
-        };
+        let entry = self.state.answer(self.me, event)?;
         self.entries.push_reserved(entry);
         Ok(entry)
     }

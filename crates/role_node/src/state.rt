@@ -1,6 +1,6 @@
 //! What a node keeps beside its history, and how an event changes it.
 
-ghost use Rattle.std.specs.Prelude.{◌≡◌, ℕ, ◌<◌, ◌≤◌, ◌+◌, List, [], IfOk, IfErr, OnOk, OnErr, vec_len};
+ghost use Rattle.std.specs.Prelude.{◌≡◌, ℕ, ◌<◌, ◌≤◌, ◌+◌, List, [], IfOk, OnOk, OnErr, vec_len};
 ghost use Rattle.role_commands.specs.Tables.{Table};
 ghost use Rattle.link_frames.specs.Packets.{PacketValue};
 ghost use Rattle.owner_streams.specs.Places.{place_count};
@@ -14,7 +14,7 @@ ghost use Rattle.role_node.specs.Answers.{issue_fault, take_outlook, act_fault, 
 ghost use Rattle.role_node.specs.Questions.{ask_due, IsAsked, IsAnswerUnder, of_listing_fault};
 ghost use Rattle.role_node.specs.Configs.{most_events};
 ghost use Rattle.role_node.specs.inside.Kept.{obeyed, IsStateAfter, Follows, Stays, IsReached};
-ghost use Rattle.role_node.specs.inside.Kept.{IsEntryFor, FailsForMemory, IsInRange};
+ghost use Rattle.role_node.specs.inside.Kept.{IsEntryFor, FailsForMemory, IsInRange, MayRecord};
 ghost use Rattle.role_node.specs.declared.event.Event.{Event};
 ghost use Rattle.role_node.specs.declared.event.Event.TheVariants.{Issue, Take, Client};
 
@@ -126,27 +126,28 @@ impl State {
     /// Changes the state as an event that counts does, and gives its entry. All room is made before the first
     /// change that is seen.
     #[inline(always)]
-    pub(crate) fn answer(&mut self, me: NodeName, event: &Event) -> Result<Entry, NodeFault>
+    pub(crate) fn answer(&mut self, me: NodeName, event: &Event) -> Result<Entry, AllocError>
         requires range { IsInRange self.old event.now }
-        requires reached { IsReached self.old }
+        requires counts { MayRecord me event.now self.old }
         ensures entry { IfOk result (IsEntryFor me event.now self.old) }
         ensures ok { OnOk result (Follows event.now self.old self.new) }
         ensures err { OnErr result (Stays self.old self.new) }
-        ensures memory { FailsForMemory me event.now self.old result }
     {
         match event {
             Event::Issue(command) => self.issue(me, *command),
             Event::Take(packet) => self.take(packet),
-            Event::Client(act) => self.act(*act),
+            Event::Client(act) => match self.act(*act) {
+                Ok(entry) => Ok(entry),
+                Err(fault) => Err(want_of_memory(fault)),
+            },
         }
     }
 
-    fn issue(&mut self, me: NodeName, command: Command) -> Result<Entry, NodeFault>
+    fn issue(&mut self, me: NodeName, command: Command) -> Result<Entry, AllocError>
         requires { vec_len self.old.issued < place_count }
         ensures entry { IfOk result (IsEntryFor me (Issue command) self.old) }
         ensures ok { OnOk result (Follows (Issue command) self.old self.new) }
         ensures err { OnErr result (Stays self.old self.new) }
-        ensures memory { FailsForMemory me (Issue command) self.old result }
     {
         self.issued.try_reserve(1)?;
         let place = self.issued.len() as Place;
@@ -160,7 +161,7 @@ impl State {
     }
 
     #[inline(always)]
-    fn take(&mut self, packet: &Packet) -> Result<Entry, NodeFault>
+    fn take(&mut self, packet: &Packet) -> Result<Entry, AllocError>
         requires from { packet.now.from < self.old.streams.sizes.nodes }
         requires owner { packet.now.owner < self.old.streams.sizes.nodes }
         requires counts { WouldCount self.old.streams packet.now }
@@ -168,7 +169,6 @@ impl State {
         ensures entry { IfOk result (λ entry. (me : ℕ) → IsEntryFor me (Take packet.now) self.old entry) }
         ensures ok { OnOk result (Follows (Take packet.now) self.old self.new) }
         ensures err { OnErr result (Stays self.old self.new) }
-        ensures memory { (me : ℕ) → FailsForMemory me (Take packet.now) self.old result }
     {
         let message = packet.message();
         self.policy.make_room()?;
@@ -297,6 +297,13 @@ impl State {
             ready: again.ready,
         }
     }
+}
+
+/// The fault of an act that counts, which is want of memory.
+fn want_of_memory(_fault: NodeFault) -> AllocError
+    requires { _fault ≡ NodeFault.Memory }
+{
+    AllocError
 }
 
 /// The fault of a listing: that its session is not open, or else want of memory.

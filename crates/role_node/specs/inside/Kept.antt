@@ -53,6 +53,12 @@ Stays old new = (roles : Table) (history : List Event) → IsStateAfter roles hi
 abbrev pub IsReached : State → Type 0
 IsReached a = (roles : Table) × (history : List Event) × IsStateAfter roles history a
 
+-- it is the state of some history, after which the event counts
+abbrev pub MayRecord : ℕ → Event → State → Type 0
+MayRecord me event a =
+    (roles : Table) × (history : List Event) × IsStateAfter roles history a
+    × (outlook_with_room roles me history event ≡ Ok effect.Counted)
+
 -- the entry is of the event, which counts, and its reply
 abbrev pub IsEntryFor : ℕ → Event → State → EntryValue → Type 0
 IsEntryFor me event old entry = (roles : Table) (history : List Event) → IsStateAfter roles history old

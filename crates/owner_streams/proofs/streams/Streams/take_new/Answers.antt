@@ -1,7 +1,7 @@
-use Rattle.std.proofs.Common.{◌≡◌, sym, ap, ◌∙◌, arith, length-set}
+use Rattle.std.proofs.Common.{◌≡◌, Ok, sym, ap, ◌∙◌, arith, length-set}
 use Rattle.std.proofs.lemmas.List.Elements.{All-set}
-use Rattle.std.proofs.lemmas.Result.{on_err_weaker}
-use Rattle.owner_streams.specs.Steps.{SendsAreOwners, step_due, effect_due, IsAnswer}
+use Rattle.std.proofs.lemmas.Result.{IfOk-weaker, on_err_weaker}
+use Rattle.owner_streams.specs.Steps.{SendsAreOwners, step_due, effect_due}
 use Rattle.owner_streams.specs.Kept.{IsOwnerStream, look_in}
 use Rattle.owner_streams.proofs.Owners.{is_owners, is_kept, by_owner, states_go_on, same_as_before}
 use Rattle.owner_streams.proofs.Looking.{look_in_is}
@@ -43,9 +43,11 @@ invariant_of-self c =
 
 pub returns-clause-due : goal.returns-clause-due
 returns-clause-due c =
-    by_owner (λ s packets. SendsAreOwners packets → IsAnswer (step_due s packets c.args.packet.now) c.take_new.result)
+    IfOk-weaker c.take_new.result _ _
+    (λ step due. by_owner (λ s packets. SendsAreOwners packets → step_due s packets c.args.packet.now ≡ Ok step)
     (is_owners (let e = ap (λ m. m.owner) c.message-message.ensures.value in omega arith) c.self.invariant.one_each
     c.requires.owner c.self.view_is c.index_mut.ensures.value)
+    due)
     c.take_new.ensures.due
 
 pub returns-clause-state : goal.returns-clause-state

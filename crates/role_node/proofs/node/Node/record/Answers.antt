@@ -20,25 +20,28 @@ answer-requires-clause-range c =
     (counted_with_room a.config a.me (events a.entries.items) c.args.event.now counts).1
     (events_are_few a c.self.invariant)
 
-pub answer-requires-clause-reached : goal.answer-requires-clause-reached
-answer-requires-clause-reached c =
-    (c.self.inside.config.roles, events c.self.inside.entries.items, c.self.invariant.state)
+pub answer-requires-clause-counts : goal.answer-requires-clause-counts
+answer-requires-clause-counts c =
+    let a = c.self.inside in
+    let counts = counts_inside a c.args.self.now c.args.event.now c.self.view_is c.requires in
+    let room = counted_with_room a.config a.me (events a.entries.items) c.args.event.now counts in
+    (a.config.roles, events a.entries.items, c.self.invariant.state, room.1)
 
-pub invariant_of-self-in-Err-Memory : goal.invariant_of-self-in-Err-Memory
-invariant_of-self-in-Err-Memory c =
-    inside_stays c.self.invariant refl refl c.try_reserve.ensures.items c.in-Err-Memory.ensures.err
+pub invariant_of-self-in_err-entry : goal.invariant_of-self-in_err-entry
+invariant_of-self-in_err-entry c =
+    inside_stays c.self.invariant refl refl c.try_reserve.ensures.items c.in_err-entry.ensures.err
 
-pub returns-in-Err-Memory-clause-legal : goal.returns-in-Err-Memory-clause-legal
-returns-in-Err-Memory-clause-legal c =
-    legal c.self.inside.config c.self.inside.me c.try_reserve.new.self.items (invariant_of-self-in-Err-Memory c).entries
+pub returns-in_err-entry-clause-legal : goal.returns-in_err-entry-clause-legal
+returns-in_err-entry-clause-legal c =
+    legal c.self.inside.config c.self.inside.me c.try_reserve.new.self.items (invariant_of-self-in_err-entry c).entries
 
 pub invariant_of-self-2 : goal.invariant_of-self-2
 invariant_of-self-2 c =
     let counts = counts_inside c.self.inside c.args.self.now c.args.event.now c.self.view_is c.requires in
     let pushed = c.push_reserved.ensures.items
-    ∙ (λ i. c.try_reserve.ensures.items i ++ c.in-Ok.entry ∷ []) in
+    ∙ (λ i. c.try_reserve.ensures.items i ++ c.in_ok-entry.entry ∷ []) in
     inside_grows c.args.event.now c.self.invariant refl refl pushed
-    c.in-Ok.ensures.ok counts c.in-Ok.ensures.entry
+    c.in_ok-entry.ensures.ok counts c.in_ok-entry.ensures.entry
 
 pub returns-clause-legal : goal.returns-clause-legal
 returns-clause-legal c =

@@ -5,10 +5,13 @@ pub returns-in-Take-clause-entry : goal.returns-in-Take-clause-entry
 returns-in-Take-clause-entry c =
     rw c.in-Take.is (IfOk-weaker c.take.result _ _ (λ entry says. says c.args.me) c.take.ensures.entry)
 
-pub returns-in-Client-clause-entry : goal.returns-in-Client-clause-entry
-returns-in-Client-clause-entry c =
-    rw c.in-Client.is (IfOk-weaker c.act.result _ _ (λ entry says. says c.args.me) c.act.ensures.entry)
+pub returns-in-Ok-clause-entry : goal.returns-in-Ok-clause-entry
+returns-in-Ok-clause-entry c = rw c.in-Client.is (c.in-Ok.ensures.entry c.args.me)
 
-pub returns-in-Client-clause-memory : goal.returns-in-Client-clause-memory
-returns-in-Client-clause-memory c roles history h e =
-    c.act.ensures.memory c.args.me roles history h (rw c.in-Client.is at e)
+pub want_of_memory-requires : goal.want_of_memory-requires
+want_of_memory-requires c =
+    let counts = c.requires.counts in
+    c.in-Err.ensures.memory c.args.me counts.0 counts.1 counts.2 (rw c.in-Client.is at counts.3)
+
+pub take-requires-clause-reached : goal.take-requires-clause-reached
+take-requires-clause-reached c = (c.requires.counts.0, c.requires.counts.1, c.requires.counts.2)
