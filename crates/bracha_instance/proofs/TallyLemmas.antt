@@ -118,7 +118,8 @@ IsFirst-new c (t ∷ tallies) none =
 
 -- a write at the place of its tally changes that of c
 pub set-with_tally : (change : TallyValue → TallyValue) (c : Command) (tallies : List TallyValue) (at : ℕ)
-    (d : TallyValue) → IsFirst c tallies at → slice_set tallies at (change (get_or tallies at d)) ≡ with_tally change c tallies
+    (d : TallyValue) → IsFirst c tallies at
+    → slice_set tallies at (change (get_or tallies at d)) ≡ with_tally change c tallies
 unfolding with_tally
 set-with_tally change c [] at d first = absurd first
 set-with_tally change c (t ∷ tallies) zero d first =

@@ -1,5 +1,5 @@
--- What the answer of `take_new` stands for. Serves `take_new` alone, here and in the crates above: what a message causes
--- is said in Taking.
+-- What the answer of `take_new` stands for. Serves `take_new` alone, here and in the crates above: Taking says what a
+-- message causes.
 use Rattle.std.specs.Prelude.{Bool, true, false, if◌then◌else◌, Option, Some, None, option_map}
 use Rattle.role_commands.specs.declared.command.Command.{Command}
 use Rattle.link_frames.specs.declared.kind.Kind.{Kind}

@@ -1,19 +1,18 @@
 -- A cluster file that was read in several reads.
 use Rattle.std.proofs.Common.{◌≡◌, ℕ, ◌+◌, ◌<◌, ◌≤◌, ◌⊎◌, inl, inr, true, nat_lt, List, [], ◌++◌, length, take}
-use Rattle.std.proofs.Common.{Option, Some, None, Result, Ok, Err, IfOk, IfErr, refl, ap, sym, subst, ◌∙◌, arith}
+use Rattle.std.proofs.Common.{Option, Result, Ok, Err, IfOk, IfErr, refl, ap, sym, subst, ◌∙◌, arith}
 use Rattle.std.proofs.Common.{append-nil, length-append}
 use Rattle.std.proofs.Common.{length-take-le}
 use Rattle.std.proofs.lemmas.Bool.{cases_lt}
 use Rattle.std.proofs.lemmas.Bool.Decides.{nat_tests}
-use Rattle.std.proofs.lemmas.List.{take-append-le}
-use Rattle.std.proofs.Math.Seq.{take-append-add, take-append_seam}
+use Rattle.std.proofs.Math.Seq.{take-append_seam}
 use Rattle.std.proofs.KnownBytes.{Consumes-trans}
-use Rattle.std.specs.Io.KnownBytes.{Consumes, IsAtEnd}
-use borrow.Rule.Slice.PartMut.{put_mid, post_of}
+use Rattle.std.specs.Io.KnownBytes.{Consumes}
+use borrow.Rule.Slice.PartMut.{put_mid}
 use Rattle.link_frames.specs.Devices.{WentOn}
 use Rattle.link_frames.specs.LinePrograms.{HasBytes}
 use Rattle.link_frames.specs.Watching.{Tally}
-use Rattle.link_frames.proofs.Exported.{HasBytes-done, WentOn-trans, some_tail}
+use Rattle.link_frames.proofs.Exported.{HasBytes-done, WentOn-trans, some_tail, nothing_left, front_read}
 use Rattle.role_daemon.specs.Files.{Filled, SetupRead, RefusesSetup}
 use Rattle.role_daemon.specs.Setups.{setup_due, most_text_bytes}
 use Rattle.role_daemon.specs.declared.cluster.Mode.TheVariants.{Serve}
@@ -28,15 +27,6 @@ pub record Filling (before now : Option (List ℕ)) (old new : Tally) (buffer : 
   pub gave : Consumes before now (take have buffer)
   pub went : WentOn old new
 
--- the front of a buffer whose rest was read into
-front_read : (a k n : ℕ) (xs ys : List ℕ) → a ≤ length xs → n ≤ length ys
-    → take (a + n) (put_mid a k xs ys) ≡ take a xs ++ take n ys
-front_read a k n xs ys within fits =
-    let after = post_of a k xs in
-    let len : length (take a xs) ≡ a = length-take-le a xs within in
-    ap (λ m. take (m + n) (put_mid a k xs ys)) (sym len) ∙ take-append-add (take a xs) (ys ++ after) n
-    ∙ ap (λ l. take a xs ++ l) (take-append-le n ys after fits)
-
 -- n bytes more were read
 pub filled_more : {a b : Option (List ℕ)} {old mid : Tally} {buffer : List ℕ} {have : ℕ} (c : Option (List ℕ))
     (new : Tally) (k n : ℕ) (rest : List ℕ) → Filling a b old mid buffer have → n ≤ length rest
@@ -50,10 +40,6 @@ filled_more {buffer} {have} c new k n rest h fits within read went = record {
 }
 
 -- ---- the text that was read says what all that the reader had says
-
-pub nothing_left : (p : Option (List ℕ)) → IsAtEnd p → HasBytes p []
-nothing_left None end = tt
-nothing_left (Some ys) end = end
 
 long_text : (text : List ℕ) → most_text_bytes < length text → setup_due Serve text ≡ Err fault.NotJson
 unfolding setup_due

@@ -16,7 +16,7 @@ use Rattle.bracha_instance.specs.Broadcast.{Take, echoed, readied}
 use Rattle.bracha_instance.specs.Taking.{newly, sent_for, newly_sent}
 use Rattle.bracha_instance.specs.declared.instance.Effect.{Effect}
 use Rattle.bracha_instance.specs.declared.instance.Effect.TheVariants as effect
-use Rattle.bracha_instance.proofs.Exported.{echoed_push}
+use Rattle.bracha_instance.proofs.Exported.{echoed_push, newly_now, newly_same, newly_again, or_nothing}
 use Rattle.owner_streams.specs.Places.{take_of, takes_at}
 use Rattle.owner_streams.proofs.Exported.{takes_at-own}
 use Rattle.role_node.specs.Answers.{answered, outlook, reply_to, said_at, sent_by_answer}
@@ -31,21 +31,6 @@ use Rattle.role_daemon.specs.Answers.{take_own, settled}
 use Rattle.role_daemon.specs.Laws.{NoneIsLeft, OwnPacketsEnd}
 
 -- ---- what one more message has a node send
-
-newly_now : (before now : Option Command) (c : Command) → newly before now ≡ Some c → now ≡ Some c
-newly_now None now c e = e
-newly_now (Some d) now c e = absurd cc
-
-newly_same : (before now : Option Command) → now ≡ before → newly before now ≡ None
-newly_same None now e = e
-newly_same (Some c) now e = refl
-
-newly_again : (before now : Option Command) (c : Command) → before ≡ Some c → newly before now ≡ None
-newly_again before now c e = ap (λ o. newly o now) e
-
-or_nothing : (o : Option Command) → option_or o None ≡ o
-or_nothing None = refl
-or_nothing (Some c) = refl
 
 -- an ECHO of what was newly echoed, or a READY for what was newly readied
 sent_is : (echo ready : Option Command) (said : Kind × Command) → sent_for echo ready ≡ Some said

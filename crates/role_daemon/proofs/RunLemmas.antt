@@ -23,7 +23,7 @@ use Rattle.role_daemon.specs.Pipes.{stops, line_text, after_line, going_on, one_
 use Rattle.role_daemon.specs.Steps.{client_text, Answered, LinesRan, LinesEndless, Finished}
 use Rattle.role_daemon.specs.declared.fault.PipeFault.{PipeFault}
 use Rattle.role_daemon.specs.declared.fault.PipeFault.TheVariants.{Device, Memory}
-use Rattle.role_daemon.proofs.FileLemmas.{nothing_left}
+use Rattle.link_frames.proofs.Exported.{nothing_left}
 use Rattle.role_daemon.proofs.PipeLemmas.{goes_on, any_number, client_text-nil, answers_text-stop, answers_text-last}
 use Rattle.role_daemon.proofs.PipeLemmas.{one_stops-stop, long_text, long_goes_on, long_changes_nothing}
 

@@ -13,6 +13,7 @@ use Rattle.std.specs.FinMap as map
 use Rattle.serde_json.specs.View.{view}
 use Rattle.serde_json.specs.declared.value.Value.{Value}
 use Rattle.quorum_sizes.specs.Sizes.{Counts}
+use Rattle.role_commands.proofs.Exported.{same_Ok}
 use Rattle.role_commands.specs.Tables.{Table, no_roles, with_role, most_roles}
 use Rattle.role_commands.specs.TableFaults.{add_due}
 use Rattle.role_commands.specs.declared.table.TableFault.{TableFault}
@@ -28,9 +29,6 @@ pub added : (t new : Table) (role owner : ℕ) → add_due t role owner ≡ None
 unfolding table_of
 added t new role owner due is =
     ap (λ f. or_table_fault (with_role t role owner) f >>= (λ more. Ok more)) due ∙ ap Ok (sym is)
-
-same_Ok : {A E : Type 0} (x y : A) → ◌≡◌ {A = Result A E} (Ok x) (Ok y) → x ≡ y
-same_Ok x y e = cc
 
 no_Ok : {A E : Type 0} (f : E) (x : A) → ◌≡◌ {A = Result A E} (Err f) (Ok x) → ⊥
 no_Ok f x e = cc

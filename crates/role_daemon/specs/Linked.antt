@@ -1,5 +1,5 @@
 -- The cluster and the keys of a node's links, and the frame of a message to a peer.
-use Rattle.std.specs.Prelude.{◌≡◌, ℕ, nat_lt, if◌then◌else◌, List, Option, Some, None, option_map}
+use Rattle.std.specs.Prelude.{ℕ, nat_lt, if◌then◌else◌, List, Option, None, option_map}
 use Rattle.link_frames.specs.Frames.{frame}
 use Rattle.link_frames.specs.KeyRings.{KeyRing, key_with}
 use Rattle.link_frames.specs.Packets.{packet_due}

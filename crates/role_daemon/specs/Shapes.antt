@@ -17,7 +17,7 @@ use Rattle.role_daemon.specs.declared.cluster.Mode.{Mode}
 use Rattle.role_daemon.specs.declared.cluster.Mode.TheVariants.{Pipe, Serve}
 use Rattle.role_daemon.specs.declared.fault.ClusterFault.{ClusterFault}
 use Rattle.role_daemon.specs.declared.fault.ClusterFault.TheVariants.{Missing, OutOfRange}
-use Rattle.role_daemon.specs.declared.shape.Links as links
+use Rattle.role_daemon.specs.declared.shape.LinkMembers as links
 use Rattle.role_daemon.specs.declared.shape.Shape as shape
 use Rattle.serde_json.specs.View.{view}
 
@@ -128,7 +128,7 @@ shape_of mode text = do
 
 -- ---- what the code keeps of a text
 
-abbrev pub links_view : links.Links → Links
+abbrev pub links_view : links.LinkMembers → Links
 links_view l =
     record {
       keys = filter_map (λ v. key_of (view v)) l.keys.now;

@@ -109,7 +109,7 @@ fn serve_at<L: Ledger + Send + Sync, R>(
 where
     R: Net<Listener = TcpListener, Stream = TcpStream> + Threads + Wait + Clock + Sync,
     requires name { blank.name ≡ L.name }
-    requires parts { (blank.parts ≡ L.parts) × (5 ≡ L.parts) }
+    requires parts { (blank.parts ≡ L.parts) × (SEATS ≡ L.parts) }
     requires me { IsNodeSetup setup }
     requires peers { IsServerSetup setup }
 {
@@ -189,7 +189,7 @@ fn shared_of<'a, L: Ledger>(
     mut queues: Vec<JobQueue<'a>>,
 ) -> Result<Shared<'a, L>, AllocError>
     requires name { blank.name ≡ L.name }
-    requires parts { (blank.parts ≡ L.parts) × (5 ≡ L.parts) }
+    requires parts { (blank.parts ≡ L.parts) × (SEATS ≡ L.parts) }
     requires me { IsNodeSetup setup }
     requires peers { IsServerSetup setup }
     ensures keys { IfOk result (λ made. made.links.keys ≡ ring_of setup) }

@@ -37,6 +37,21 @@ pub fn local(port: u16) -> SocketAddr {
     SocketAddr::V4(SocketAddrV4::new(Ipv4Addr::LOCALHOST, port))
 }
 
+/// So many ports that nobody listens on.
+pub fn free_ports<R>(rt: &R, alloc: Global, count: usize) -> Result<Vec<u16>, Fail>
+where
+    R: Net<Listener = TcpListener, Stream = TcpStream>,
+{
+    let mut held = Vec::new(alloc);
+    let mut ports = Vec::new(alloc);
+    for _ in 0..count {
+        let listener = TcpListener::bind(rt, local(0))?;
+        ports.push(listener.local_addr()?.port())?;
+        held.push(listener)?;
+    }
+    Ok(ports)
+}
+
 /// The text of node `me`, of as many as there are ports for peers, of which role 2 is node `owner`'s, with the
 /// laboratory's keys: the lesser name and the greater as a byte each, and thirty zero bytes.
 pub fn text_of(
@@ -109,6 +124,20 @@ pub fn ask(alloc: Global, stream: &TcpStream, line: &[u8]) -> Result<String, Fai
     match answer_to(alloc, stream, line) {
         Some(answer) => Ok(answer),
         None => Err("no answer".into()),
+    }
+}
+
+/// Stops the node, if it is still there.
+pub fn stop<R>(rt: &R, alloc: Global, client: u16)
+where
+    R: Net<Listener = TcpListener, Stream = TcpStream> + Clock,
+{
+    for _ in 0..MOST_LOOKS {
+        let Ok(stream) = TcpStream::connect(rt, local(client)) else {
+            return;
+        };
+        let _ = answer_to(alloc, &stream, STOP);
+        thread::sleep(rt, Duration::from_millis(1));
     }
 }
 

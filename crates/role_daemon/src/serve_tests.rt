@@ -1,7 +1,7 @@
 //! Nodes over TCP.
 
 use crate::serve_help::{
-    AGAIN, FRAME, STOP, are_taken, ask, connected, local, serve_text, text_of,
+    AGAIN, FRAME, STOP, are_taken, ask, connected, free_ports, local, serve_text, text_of,
 };
 use link_frames::FRAME_LEN;
 use std::alloc::Global;
@@ -12,21 +12,6 @@ use std::test::Fail;
 use std::thread;
 use std::thread::Threads;
 use std::time::Clock;
-
-/// So many ports that nobody listens on.
-fn free_ports<R>(rt: &R, alloc: Global, count: usize) -> Result<Vec<u16>, Fail>
-where
-    R: Net<Listener = TcpListener, Stream = TcpStream>,
-{
-    let mut held = Vec::new(alloc);
-    let mut ports = Vec::new(alloc);
-    for _ in 0..count {
-        let listener = TcpListener::bind(rt, local(0))?;
-        ports.push(listener.local_addr()?.port())?;
-        held.push(listener)?;
-    }
-    Ok(ports)
-}
 
 /// What is wrong with a node's answers, which are as they must be whatever else comes to its port for peers; nothing if
 /// nothing is.

@@ -2,7 +2,7 @@
 
 use crate::serve_help::{
     AGAIN, FRAME, MOST_LOOKS, PATIENCE, STOP, answer_to, are_taken, ask, connected, is_closed,
-    local, serve_text, text_of,
+    local, serve_text, stop, text_of,
 };
 use link_frames::{FRAME_LEN, Frame};
 use std::alloc::Global;
@@ -269,20 +269,6 @@ where
         Trial::ZeroFrame => are_lost(rt, alloc, place, &[0; FRAME_LEN]),
         Trial::RandomFrames => are_lost(rt, alloc, place, &random_frames(alloc)?),
         Trial::FlippedBits => are_lost(rt, alloc, place, &flipped_frames(alloc)?),
-    }
-}
-
-/// Stops the node, if it is still there.
-fn stop<R>(rt: &R, alloc: Global, client: u16)
-where
-    R: Net<Listener = TcpListener, Stream = TcpStream> + Clock,
-{
-    for _ in 0..MOST_LOOKS {
-        let Ok(stream) = TcpStream::connect(rt, local(client)) else {
-            return;
-        };
-        let _ = answer_to(alloc, &stream, STOP);
-        thread::sleep(rt, Duration::from_millis(1));
     }
 }
 

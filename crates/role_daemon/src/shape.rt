@@ -15,7 +15,7 @@ use serde_json::Value;
 
 /// What a cluster text says of a server's links; in a pipe there is none of it.
 #[derive(Drop)]
-pub struct Links<'a> {
+pub struct LinkMembers<'a> {
     /// The key that the node shares with each node, as 64 hexadecimal digits.
     pub keys: &'a [Value],
     /// The ports of the nodes.
@@ -33,12 +33,12 @@ pub struct Shape<'a> {
     pub me: u8,
     /// Pairs of a role and its owner.
     pub roles: &'a [Value],
-    pub links: Links<'a>,
+    pub links: LinkMembers<'a>,
 }
 
 /// The members of the text, in the order in which they are looked at.
 #[tactic(auto, unfolding(crate::specs::Shapes::shape_of))]
-pub fn shape_of<'a>(mode: Mode, text: &'a Value) -> Result<Shape<'a>, ClusterFault>
+pub fn shape_of(mode: Mode, text: &Value) -> Result<Shape<'_>, ClusterFault>
     ensures ok { IfOk result (λ shape. shapes.shape_of mode (view text.entry.now) ≡ Ok (shapes.shape_view shape)) }
     ensures err { IfErr result (λ e. shapes.shape_of mode (view text.entry.now) ≡ Err e) }
 {
@@ -59,12 +59,12 @@ pub fn shape_of<'a>(mode: Mode, text: &'a Value) -> Result<Shape<'a>, ClusterFau
 }
 
 #[tactic(auto, unfolding(crate::specs::Shapes::links_of))]
-fn links_of<'a>(mode: Mode, text: &'a Value) -> Result<Links<'a>, ClusterFault>
+fn links_of(mode: Mode, text: &Value) -> Result<LinkMembers<'_>, ClusterFault>
     ensures ok { IfOk result (λ links. shapes.links_of mode (view text.entry.now) ≡ Ok (shapes.links_view links)) }
     ensures err { IfErr result (λ e. shapes.links_of mode (view text.entry.now) ≡ Err e) }
 {
     match mode {
-        Mode::Pipe => Ok(Links {
+        Mode::Pipe => Ok(LinkMembers {
             keys: &[],
             nodes: &[],
             client: 0,
@@ -73,7 +73,7 @@ fn links_of<'a>(mode: Mode, text: &'a Value) -> Result<Links<'a>, ClusterFault>
             let keys = key_items(text)?;
             let nodes = port_items(text)?;
             let client = port_member(text, Member::Client)?;
-            Ok(Links {
+            Ok(LinkMembers {
                 keys,
                 nodes,
                 client,
@@ -109,7 +109,7 @@ fn port_member(text: &Value, member: Member) -> Result<u16, ClusterFault>
 
 /// The items of a member's list.
 #[tactic(auto, unfolding(crate::specs::Shapes::list_items))]
-fn list_items<'a>(text: &'a Value, member: Member) -> Result<&'a [Value], ClusterFault>
+fn list_items(text: &Value, member: Member) -> Result<&[Value], ClusterFault>
     ensures ok { IfOk result (λ items. shapes.list_items member (view text.entry.now) ≡ Ok (map view items.now)) }
     ensures err { IfErr result (λ e. shapes.list_items member (view text.entry.now) ≡ Err e) }
 {
@@ -123,7 +123,7 @@ fn list_items<'a>(text: &'a Value, member: Member) -> Result<&'a [Value], Cluste
 }
 
 #[tactic(auto, unfolding(crate::specs::Shapes::list_member))]
-fn role_items<'a>(text: &'a Value) -> Result<&'a [Value], ClusterFault>
+fn role_items(text: &Value) -> Result<&[Value], ClusterFault>
     ensures ok { IfOk result (λ items. list_member Roles shapes.pair_of (view text.entry.now)
         ≡ Ok (filter_map (λ v. shapes.pair_of (view v)) items.now)) }
     ensures err { IfErr result (λ e. list_member Roles shapes.pair_of (view text.entry.now) ≡ Err e) }
@@ -137,7 +137,7 @@ fn role_items<'a>(text: &'a Value) -> Result<&'a [Value], ClusterFault>
 }
 
 #[tactic(auto, unfolding(crate::specs::Shapes::list_member))]
-fn key_items<'a>(text: &'a Value) -> Result<&'a [Value], ClusterFault>
+fn key_items(text: &Value) -> Result<&[Value], ClusterFault>
     ensures ok { IfOk result (λ items. list_member Keys shapes.key_of (view text.entry.now)
         ≡ Ok (filter_map (λ v. shapes.key_of (view v)) items.now)) }
     ensures err { IfErr result (λ e. list_member Keys shapes.key_of (view text.entry.now) ≡ Err e) }
@@ -151,7 +151,7 @@ fn key_items<'a>(text: &'a Value) -> Result<&'a [Value], ClusterFault>
 }
 
 #[tactic(auto, unfolding(crate::specs::Shapes::list_member))]
-fn port_items<'a>(text: &'a Value) -> Result<&'a [Value], ClusterFault>
+fn port_items(text: &Value) -> Result<&[Value], ClusterFault>
     ensures ok { IfOk result (λ items. list_member Nodes shapes.port_of (view text.entry.now)
         ≡ Ok (filter_map (λ v. shapes.port_of (view v)) items.now)) }
     ensures err { IfErr result (λ e. list_member Nodes shapes.port_of (view text.entry.now) ≡ Err e) }

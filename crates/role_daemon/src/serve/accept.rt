@@ -26,6 +26,15 @@ const MOST_LOOKS: u32 = 50;
 /// How many milliseconds a write to a client may wait until some bytes are taken; then its connection is closed.
 const WRITE_PATIENCE: u64 = 1_000;
 
+/// The system's numbers of the errors that say a want: of memory, of descriptors in all and here, of buffers.
+const ENOMEM: i32 = 12;
+
+const ENFILE: i32 = 23;
+
+const EMFILE: i32 = 24;
+
+const ENOBUFS: i32 = 105;
+
 /// Whose connections a listener takes.
 #[derive(Clone, Copy, Debug, PartialEq, Eq)]
 pub enum Side {
@@ -119,7 +128,10 @@ fn next_stream<L: Ledger, R: Wait + Clock>(
 
 /// Whether descriptors or memory are wanting, which is over some time.
 fn is_want(error: &io::Error) -> bool {
-    matches!(error.raw_os_error(), Some(12 | 23 | 24 | 105))
+    matches!(
+        error.raw_os_error(),
+        Some(ENOMEM | ENFILE | EMFILE | ENOBUFS)
+    )
 }
 
 fn places<'a, 'b, L: Ledger>(shared: &'b Shared<'a, L>, side: Side) -> &'b [Connection<'a>] {

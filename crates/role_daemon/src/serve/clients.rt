@@ -5,7 +5,7 @@ ghost use Rattle.client_lines.specs.AnswerTexts.{IsWritten};
 use crate::answers::{hold_answer, sent_count};
 use crate::fault::PipeFault;
 use crate::serve::caller::{Caller, MOST_LINES};
-use crate::serve::connection::{Answers, Connection};
+use crate::serve::connection::{Connection, LineAnswers};
 use crate::serve::job_queue::JobQueue;
 use crate::serve::shared::{Room, Shared, is_past, put_own};
 use client_lines::{ClientAnswer, LineFault, MOST_LINE_BYTES, Request, RequestReader};
@@ -46,7 +46,7 @@ struct Client<'a, 'b, L: Ledger> {
     put: u64,
     /// How many of them the answers of which are still to come.
     in_flight: u32,
-    answers: Vec<Answers>,
+    answers: Vec<LineAnswers>,
     requests: RequestReader,
     held: Held,
 }

@@ -10,7 +10,7 @@ use std::sync::{Arc, Wait};
 
 /// The answers to a client's lines from that of a number on.
 #[derive(Drop)]
-pub struct Answers {
+pub struct LineAnswers {
     pub first: u32,
     pub count: u32,
     pub lines: Held,
@@ -45,7 +45,7 @@ struct Slot<'a> {
     wanted: u64,
     /// The connection was shut down from this side. What it had received is not to be read any more.
     is_cut: bool,
-    answers: Vec<Answers>,
+    answers: Vec<LineAnswers>,
 }
 
 impl Awaited for Slot<'_> {
@@ -166,7 +166,12 @@ impl<'a> Connection<'a> {
 
     /// Waits until so many jobs are done. How many are, and the answers; `None` where the connection was shut down,
     /// and at the end.
-    pub fn wait<R: Wait>(&self, rt: &R, wanted: u64, answers: &mut Vec<Answers>) -> Option<u64> {
+    pub fn wait<R: Wait>(
+        &self,
+        rt: &R,
+        wanted: u64,
+        answers: &mut Vec<LineAnswers>,
+    ) -> Option<u64> {
         let mut slot = self.slot.lock(rt);
         slot.value.wanted = wanted;
         let mut slot = self.slot.wait(rt, slot)?;
@@ -182,7 +187,7 @@ impl<'a> Connection<'a> {
     /// # Errors
     ///
     /// Only for want of memory. The answers are lost.
-    pub fn done<R: Wait>(&self, rt: &R, count: u64, answers: Option<Answers>) {
+    pub fn done<R: Wait>(&self, rt: &R, count: u64, answers: Option<LineAnswers>) {
         let is_due = {
             let mut slot = self.slot.lock(rt);
             slot.value.done = slot.value.done.saturating_add(count);

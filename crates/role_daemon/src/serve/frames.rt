@@ -3,7 +3,7 @@
 ghost use Rattle.std.specs.Prelude.{◌≡◌, ◌≤◌, vec_len};
 
 use crate::serve::caller::Caller;
-use crate::serve::connection::{Answers, Connection};
+use crate::serve::connection::{Connection, LineAnswers};
 use crate::serve::job_queue::JobQueue;
 use crate::serve::shared::{Shared, is_past};
 use link_frames::{FRAME_LEN, Frame, Packet, Watched, read_patiently};
@@ -82,7 +82,7 @@ struct Peer<'a, 'b, L: Ledger> {
     /// How many jobs may be in flight.
     most: u64,
     /// Stays empty.
-    answers: Vec<Answers>,
+    answers: Vec<LineAnswers>,
 }
 
 /// Serves a connection of a peer, up to its end.

@@ -3,40 +3,25 @@
 use crate::cluster::{Mode, read_cluster};
 use crate::serve::caller::MOST_PEERS;
 use crate::serve::serve_until_idle;
+use crate::serve_help::{
+    AGAIN, FRAME, MOST_LOOKS, STOP, answer_to, connected, free_ports, is_closed, local, stop,
+    text_of,
+};
 use std::alloc::Global;
-use std::io::{BufRead, BufReader, ErrorKind, Read, Write};
-use std::net::{Ipv4Addr, Net, SocketAddr, SocketAddrV4, TcpListener, TcpStream};
+use std::io::Write;
+use std::net::{Net, TcpListener, TcpStream};
 use std::sync::Wait;
 use std::test::Fail;
 use std::thread;
 use std::thread::Threads;
 use std::time::{Clock, Duration};
 
-/// How often something is looked for that is due, a millisecond apart.
-const MOST_LOOKS: u32 = 20_000;
-
-/// The milliseconds that a read waits at most.
-const PATIENCE: u64 = 20_000;
-
 /// The milliseconds after which an idle client is closed here, and a long time.
 const SHORT: u64 = 50;
 
 const LONG: u64 = 600_000;
 
-/// The frame from node 0 to node 1 of cluster 1 with the first command of node 0, which assigns role 2 to user 7, under
-/// the laboratory's key. Its tag was made outside.
-const FRAME: [u8; 54] = [
-    0x02, 0x00, 0x00, 0x00, 0x01, 0x00, 0x01, 0x01, 0x00, 0x00, 0x00, 0x00, 0x00, 0x01, 0x00, 0x02,
-    0x00, 0x00, 0x00, 0x07, 0x00, 0x00, 0x4d, 0x04, 0x88, 0x06, 0xc2, 0x31, 0x13, 0x43, 0x2e, 0x60,
-    0xda, 0x75, 0x91, 0x2f, 0x98, 0xf9, 0x08, 0xf1, 0x65, 0xdc, 0x9f, 0x31, 0x44, 0x96, 0x2a, 0xcc,
-    0x2c, 0xdc, 0xa8, 0x61, 0x37, 0xfd,
-];
-
 const OPEN: &[u8] = b"{\"op\":\"open\",\"user\":7}\n";
-
-const AGAIN: &[u8] = b"{\"op\":\"again\",\"owner\":0,\"place\":0}\n";
-
-const STOP: &[u8] = b"{\"op\":\"stop\"}\n";
 
 /// 200 lines that are no JSON.
 const LINES: [u8; 200] = [b'\n'; 200];
@@ -61,78 +46,14 @@ struct Ports {
     client: u16,
 }
 
-fn local(port: u16) -> SocketAddr {
-    SocketAddr::V4(SocketAddrV4::new(Ipv4Addr::LOCALHOST, port))
-}
-
-/// So many ports that nobody listens on.
-fn free_ports<R>(rt: &R, alloc: Global, count: usize) -> Result<Vec<u16>, Fail>
-where
-    R: Net<Listener = TcpListener, Stream = TcpStream>,
-{
-    let mut held = Vec::new(alloc);
-    let mut ports = Vec::new(alloc);
-    for _ in 0..count {
-        let listener = TcpListener::bind(rt, local(0))?;
-        ports.push(listener.local_addr()?.port())?;
-        held.push(listener)?;
-    }
-    Ok(ports)
-}
-
-/// The text of node 1 of four, which owns role 2, with the laboratory's keys.
-fn text_of(alloc: Global, peers: &[u16], client: u16) -> Result<String, Fail> {
-    let mut keys = String::new(alloc);
-    let mut ports = String::new(alloc);
-    for (other, port) in peers.iter().enumerate() {
-        let comma = if other == 0 { "" } else { "," };
-        let (less, more) = (1.min(other), 1.max(other));
-        let key = format!(in alloc; "{comma}\"{less:02x}{more:02x}{:060}\"", 0)?;
-        keys.push_str(&key)?;
-        ports.push_str(&format!(in alloc; "{comma}{port}")?)?;
-    }
-    Ok(format!(in alloc;
-        "{{\"client\":{client},\"cluster\":1,\"f\":1,\"keys\":[{keys}],\"me\":1,\"n\":4,\
-        \"nodes\":[{ports}],\"roles\":[[2,1]]}}"
-    )?)
-}
-
-/// A connection to a port, made again until somebody listens there.
-fn connected<R>(rt: &R, port: u16) -> Result<TcpStream, Fail>
+/// A connection to a port, at which nothing that was written waits when it is reset.
+fn connected_at_once<R>(rt: &R, port: u16) -> Result<TcpStream, Fail>
 where
     R: Net<Listener = TcpListener, Stream = TcpStream> + Clock,
 {
-    for _ in 0..MOST_LOOKS {
-        if let Ok(stream) = TcpStream::connect(rt, local(port)) {
-            stream.set_read_timeout(Some(Duration::from_millis(PATIENCE)))?;
-            // so that nothing that was written waits here when the connection is reset
-            stream.set_nodelay(true)?;
-            return Ok(stream);
-        }
-        thread::sleep(rt, Duration::from_millis(1));
-    }
-    Err("nobody listens".into())
-}
-
-/// What is answered to a line, if anything is.
-fn answer_to(alloc: Global, stream: &TcpStream, line: &[u8]) -> Option<String> {
-    let mut writer = stream;
-    writer.write_all(line).ok()?;
-    let mut answer = String::new(alloc);
-    BufReader::new(alloc, stream)
-        .ok()?
-        .read_line(&mut answer)
-        .ok()?;
-    Some(answer)
-}
-
-/// Whether the connection is closed in time.
-fn is_closed(stream: &TcpStream) -> bool {
-    let mut reader = stream;
-    match reader.read(&mut [0u8; 1]) {
-        Ok(count) => count == 0,
-        Err(error) => error.kind() == ErrorKind::ConnectionReset,
-    }
+    let stream = connected(rt, port)?;
+    stream.set_nodelay(true)?;
+    Ok(stream)
 }
 
 /// Whether nobody listens at the port any more, at the last of some looks.
@@ -168,16 +89,16 @@ fn silent_peers<R>(rt: &R, alloc: Global, ports: Ports) -> Result<bool, Fail>
 where
     R: Net<Listener = TcpListener, Stream = TcpStream> + Clock,
 {
-    let client = connected(rt, ports.client)?;
+    let client = connected_at_once(rt, ports.client)?;
     let mut silent = Vec::new(alloc);
     for _ in 0..MOST_PEERS {
-        silent.push(connected(rt, ports.peers)?)?;
+        silent.push(connected_at_once(rt, ports.peers)?)?;
     }
-    let mut peer = connected(rt, ports.peers)?;
+    let mut peer = connected_at_once(rt, ports.peers)?;
     peer.write_all(&FRAME)?;
     let taken = echoes(rt, alloc, &client);
     for _ in 0..MOST_PEERS + 16 {
-        silent.push(connected(rt, ports.peers)?)?;
+        silent.push(connected_at_once(rt, ports.peers)?)?;
     }
     let gone = silent.iter().all(is_closed);
     peer.set_read_timeout(Some(Duration::from_millis(1)))?;
@@ -200,7 +121,7 @@ fn deaf_then_stop<R>(rt: &R, ports: Ports) -> Result<bool, Fail>
 where
     R: Net<Listener = TcpListener, Stream = TcpStream> + Clock,
 {
-    let stream = connected(rt, ports.client)?;
+    let stream = connected_at_once(rt, ports.client)?;
     say_stop_unheard(&stream, 1_500);
     Ok(has_stopped(rt, ports.client))
 }
@@ -210,7 +131,7 @@ fn deaf_then_reset<R>(rt: &R, ports: Ports) -> Result<bool, Fail>
 where
     R: Net<Listener = TcpListener, Stream = TcpStream> + Clock,
 {
-    let stream = connected(rt, ports.client)?;
+    let stream = connected_at_once(rt, ports.client)?;
     say_stop_unheard(&stream, 100);
     stream.peek(&mut [0u8; 1])?;
     drop(stream);
@@ -223,7 +144,7 @@ where
     R: Net<Listener = TcpListener, Stream = TcpStream> + Clock,
 {
     for _ in 0..MOST_LOOKS {
-        let stream = connected(rt, ports.client)?;
+        let stream = connected_at_once(rt, ports.client)?;
         // it may be closed already, where this thread was slow
         if let Some(answer) = answer_to(alloc, &stream, OPEN) {
             if answer.as_str() == "{\"session\":1}\n" {
@@ -247,20 +168,6 @@ where
     }
 }
 
-/// Stops the node, if it is still there.
-fn stop<R>(rt: &R, alloc: Global, client: u16)
-where
-    R: Net<Listener = TcpListener, Stream = TcpStream> + Clock,
-{
-    for _ in 0..MOST_LOOKS {
-        let Ok(stream) = TcpStream::connect(rt, local(client)) else {
-            return;
-        };
-        let _ = answer_to(alloc, &stream, STOP);
-        thread::sleep(rt, Duration::from_millis(1));
-    }
-}
-
 /// The setup of node 1 of four, and its ports.
 fn setup<R>(rt: &R, alloc: Global) -> Result<(String, Ports), Fail>
 where
@@ -274,7 +181,10 @@ where
     let Some(peers) = nodes.get(1).copied() else {
         return Err("no ports".into());
     };
-    Ok((text_of(alloc, nodes, client)?, Ports { peers, client }))
+    Ok((
+        text_of(alloc, 1, 1, nodes, client)?,
+        Ports { peers, client },
+    ))
 }
 
 /// Serves the node of a cluster text, with this time for idle clients. Whether it ends well.

@@ -6,7 +6,7 @@ ghost use Rattle.role_daemon.specs.Served.{served, sent_outcome};
 
 use crate::answers::{hold_answer, listed};
 use crate::serve::caller::Caller;
-use crate::serve::connection::{Answers, Connection};
+use crate::serve::connection::{Connection, LineAnswers};
 use crate::serve::job_queue::JobQueue;
 use crate::serve::shared::{Room, Shared, put_own};
 use client_lines::ClientAnswer;
@@ -38,7 +38,7 @@ struct Share {
     count: u64,
     /// Whether one of them has no receipt, or an answer no text.
     broken: bool,
-    answers: Answers,
+    answers: LineAnswers,
 }
 
 /// A worker, with its seat and room for a batch of jobs.
@@ -195,7 +195,7 @@ impl Share {
             caller,
             count: 0,
             broken: false,
-            answers: Answers {
+            answers: LineAnswers {
                 first,
                 count: 0,
                 lines: Held::new(alloc),

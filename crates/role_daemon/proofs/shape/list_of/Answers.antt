@@ -1,4 +1,4 @@
-use Rattle.std.proofs.Common.{Some, ap, sym, ◌∙◌, option_map, rules}
+use Rattle.std.proofs.Common.{Some, ap, sym, ◌∙◌, option_map}
 use Rattle.role_daemon.specs.Shapes.{items_list, list_of}
 use Rattle.role_daemon.proofs.ShapeLemmas.{items_list-items_of}
 use Rattle.role_daemon.proofs.shape.list_of.Goals as goal

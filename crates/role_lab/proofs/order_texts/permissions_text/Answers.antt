@@ -24,7 +24,8 @@ loop-operation-preserved c =
     let i = c.loop-operation.operation-index in
     let p = get_or xs i (0, 0) in
     let text = string_bytes c.loop-operation.text in
-    let grouped : text ++ (space ∷ (decimal p.0 ++ (codes ":" ++ decimal p.1))) ≡ text ++ item p = rw (item-grouped p) in
+    let grouped : text ++ (space ∷ (decimal p.0 ++ (codes ":" ++ decimal p.1))) ≡ text ++ item p =
+    rw (item-grouped p) in
     c.in_ok-write.ensures.bytes ∙ grouped
     ∙ ap (λ (front : List ℕ). front ++ item p) c.loop-operation.invariant
     ∙ written_more item (codes "list") xs i (0, 0) c.loop-operation-test.true
