@@ -12,11 +12,14 @@ mod accept;
 mod caller;
 mod clients;
 mod connection;
+#[cfg(test)]
+mod connection_tests;
 mod crew;
 mod frames;
 #[cfg(test)]
 mod idle_tests;
 mod job_queue;
+mod last_writes;
 mod links;
 mod outbox;
 mod senders;
@@ -109,7 +112,7 @@ fn serve_at<L: Ledger + Send + Sync, R>(
 where
     R: Net<Listener = TcpListener, Stream = TcpStream> + Threads + Wait + Clock + Sync,
     requires name { blank.name ≡ L.name }
-    requires parts { (blank.parts ≡ L.parts) × (5 ≡ L.parts) }
+    requires parts { (blank.parts ≡ L.parts) × (SEATS ≡ L.parts) }
     requires me { IsNodeSetup setup }
     requires peers { IsServerSetup setup }
 {
@@ -189,7 +192,7 @@ fn shared_of<'a, L: Ledger>(
     mut queues: Vec<JobQueue<'a>>,
 ) -> Result<Shared<'a, L>, AllocError>
     requires name { blank.name ≡ L.name }
-    requires parts { (blank.parts ≡ L.parts) × (5 ≡ L.parts) }
+    requires parts { (blank.parts ≡ L.parts) × (SEATS ≡ L.parts) }
     requires me { IsNodeSetup setup }
     requires peers { IsServerSetup setup }
     ensures keys { IfOk result (λ made. made.links.keys ≡ ring_of setup) }
@@ -221,13 +224,20 @@ fn shared_of<'a, L: Ledger>(
 }
 
 /// A worker for each seat, with a queue of its own.
+///
+/// # Errors
+///
+/// Want of memory, and where there are fewer queues.
 fn crew_of<'a, L: Ledger>(
     alloc: Global,
     seats: Vec<Seat<L>>,
-    queues: Vec<JobQueue<'a>>,
+    mut queues: Vec<JobQueue<'a>>,
 ) -> Result<Crew<'a, L>, AllocError> {
     let mut workers = Vec::new(alloc);
-    for (seat, queue) in seats.into_iter().zip(queues) {
+    for seat in seats {
+        let Some(queue) = queues.pop() else {
+            return Err(AllocError);
+        };
         workers.push(Worker::new(alloc, queue, seat)?)?;
     }
     Ok(Crew::new(workers))
