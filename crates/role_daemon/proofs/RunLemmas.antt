@@ -146,6 +146,13 @@ text_front start k a c (input, has, (front, rest, is, wrote)) =
     let stop = stop_text (one_stops start (lines_of input)) in
     (input, has, (front, rest ++ stop, ap (λ t. t ++ stop) is ∙ append_assoc front rest stop, wrote))
 
+pub LinesRan-fault : (start : NodeValue) (k reader a c : Option (List ℕ)) (e : PipeFault) → (e ≡ Device) ⊎ (e ≡ Memory)
+    → WroteFront (client_text start) k a c → LinesRan start k reader a c (Err e)
+LinesRan-fault start k reader a c e (inl is) wrote =
+    subst (λ (f : PipeFault). LinesRan start k reader a c (Err f)) (sym is) wrote
+LinesRan-fault start k reader a c e (inr is) wrote =
+    subst (λ (f : PipeFault). LinesRan start k reader a c (Err f)) (sym is) wrote
+
 module _ {start node : NodeValue} {k p a b : Option (List ℕ)} {held : List ℕ} {number : ℕ}
     (ran : Ran going_on start k p a b held node number) where
   run_stops : (tail : List ℕ) → one_stops start (lines_of (ran.done ++ tail)) ≡ one_stops node (lines_of tail)
@@ -215,13 +222,14 @@ module _ {start node : NodeValue} {k p a b : Option (List ℕ)} {held : List ℕ
             ),
           )
 
-  -- there is no number for another line
-  pub Lines-out : (c reader : Option (List ℕ)) (shown : List ℕ) (result : Result (Unit {0}) PipeFault) (Failed : Type 0)
-      → shown ≡ held → Finished b c shown (Err Device) result Failed → LinesRan start k reader a c result
-  Lines-out c reader shown result Failed same (inl (is, wrote)) =
-      subst (LinesRan start k reader a c) (sym is) (Lines-front c (AppendsFront-whole b c held (subst
-      (Appends b c) same wrote)))
-  Lines-out c reader shown result Failed same (inr (is, wrote, failed)) =
+  -- there is no number for another line, or memory is wanting
+  pub Lines-out : (c reader : Option (List ℕ)) (shown : List ℕ) (e : PipeFault) (result : Result (Unit {0}) PipeFault)
+      (Failed : Type 0) → (e ≡ Device) ⊎ (e ≡ Memory) → shown ≡ held → Finished b c shown (Err e) result Failed
+      → LinesRan start k reader a c result
+  Lines-out c reader shown e result Failed kind same (inl (is, wrote)) =
+      subst (LinesRan start k reader a c) (sym is) (LinesRan-fault start k reader a c e kind
+      (Lines-front c (AppendsFront-whole b c held (subst (Appends b c) same wrote))))
+  Lines-out c reader shown e result Failed kind same (inr (is, wrote, failed)) =
       subst (LinesRan start k reader a c) (sym is) (Lines-front c (subst (AppendsFront b c) same wrote))
 
   pub Lines-endless : (c : Option (List ℕ)) → 2 ^ 64 - 1 ≤ number → Appends b c held → LinesEndless start k a c
@@ -235,13 +243,6 @@ module _ {start node : NodeValue} {k p a b : Option (List ℕ)} {held : List ℕ
         omega (arith, many, Ran-number ran),
         subst (Appends a c) (sym text) (Appends-trans a b c ran.sent held ran.wrote wrote),
       )
-
-pub LinesRan-fault : (start : NodeValue) (k reader a c : Option (List ℕ)) (e : PipeFault) → (e ≡ Device) ⊎ (e ≡ Memory)
-    → WroteFront (client_text start) k a c → LinesRan start k reader a c (Err e)
-LinesRan-fault start k reader a c e (inl is) wrote =
-    subst (λ (f : PipeFault). LinesRan start k reader a c (Err f)) (sym is) wrote
-LinesRan-fault start k reader a c e (inr is) wrote =
-    subst (λ (f : PipeFault). LinesRan start k reader a c (Err f)) (sym is) wrote
 
 -- ---- when the device has failed
 

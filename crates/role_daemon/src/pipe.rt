@@ -1,6 +1,6 @@
 //! The pipe: one node, whose clients speak in lines.
 
-ghost use Rattle.std.specs.Prelude.{◌≡◌, ◌≢◌, ◌++◌, ◌⊎◌, IfOk, IfErr, OnOk, Err};
+ghost use Rattle.std.specs.Prelude.{◌≡◌, ◌≢◌, ◌++◌, ◌⊎◌, IfOk, IfErr, OnOk, OnErr, Err};
 ghost use Rattle.link_frames.specs.Watching.{watched_inner, watched_tally};
 ghost use Rattle.link_frames.specs.Devices.{WentOn, CallFailed, ReaderFailed};
 ghost use Rattle.link_frames.specs.Holding.{IsNotDue};
@@ -118,15 +118,18 @@ fn answer_lines<R: Read, W: Write>(
     let mut held = Held::new(alloc);
     for number in 1..u64::MAX {
         held.write_when_due(ahead, MOST_LINE_BYTES, writer)?;
-        if !answer_next(alloc, &mut requests, node, ahead, &mut held, reader)? {
-            return finish(&mut held, writer, Ok(()));
+        match answer_next(alloc, &mut requests, node, ahead, &mut held, reader) {
+            Ok(true) => {}
+            Ok(false) => return finish(&mut held, writer, Ok(())),
+            Err(PipeFault::Memory) => return finish(&mut held, writer, Err(PipeFault::Memory)),
+            Err(fault) => return Err(fault),
         }
     }
     finish(&mut held, writer, Err(PipeFault::Device))
 }
 
 /// Answers what comes next. Whether another line may come behind it. Nothing may be held back that is due, since the
-/// reader may wait here.
+/// reader may wait here. At an error what is held stays as it was.
 fn answer_next<R: Read>(
     alloc: Global,
     requests: &mut RequestReader,
@@ -142,6 +145,7 @@ fn answer_next<R: Read>(
     ensures device { IfErr result (λ e. e ≡ PipeFault.Device →
         ReaderFailed (watched_tally reader.old) (watched_tally reader.new)) }
     ensures kind { IfErr result (λ e. (e ≡ PipeFault.Device) ⊎ (e ≡ PipeFault.Memory)) }
+    ensures same { OnErr result (held.new ≡ held.old) }
     ensures quiet { result ≢ Err PipeFault.Device → WentOn (watched_tally reader.old) (watched_tally reader.new) }
 {
     match held.peek(ahead, MOST_LINE_BYTES, reader)? {
@@ -164,6 +168,10 @@ fn answer_next<R: Read>(
 }
 
 /// Answers a line, and holds the answer behind the others. Whether the line stops the node.
+///
+/// # Errors
+///
+/// Only for want of memory. What is held stays as it was.
 #[tactic(auto, unfolding(crate::specs::Pipes::stops, crate::specs::Pipes::line_text, crate::specs::Pipes::after_line))]
 fn answer_line(
     alloc: Global,
@@ -175,6 +183,7 @@ fn answer_line(
     ensures stops { IfOk result (λ stopped. stopped ≡ stops node.old line.now) }
     ensures text { OnOk result (held.new ≡ held.old ++ ended (line_text node.old line.now)) }
     ensures after { OnOk result (node.new ≡ after_line node.old line.now) }
+    ensures same { OnErr result (held.new ≡ held.old) }
 {
     let sizes = node.config().roles().sizes();
     match requests.read(&sizes, line) {

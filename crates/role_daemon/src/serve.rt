@@ -12,11 +12,14 @@ mod accept;
 mod caller;
 mod clients;
 mod connection;
+#[cfg(test)]
+mod connection_tests;
 mod crew;
 mod frames;
 #[cfg(test)]
 mod idle_tests;
 mod job_queue;
+mod last_writes;
 mod links;
 mod outbox;
 mod senders;
@@ -221,13 +224,20 @@ fn shared_of<'a, L: Ledger>(
 }
 
 /// A worker for each seat, with a queue of its own.
+///
+/// # Errors
+///
+/// Want of memory, and where there are fewer queues.
 fn crew_of<'a, L: Ledger>(
     alloc: Global,
     seats: Vec<Seat<L>>,
-    queues: Vec<JobQueue<'a>>,
+    mut queues: Vec<JobQueue<'a>>,
 ) -> Result<Crew<'a, L>, AllocError> {
     let mut workers = Vec::new(alloc);
-    for (seat, queue) in seats.into_iter().zip(queues) {
+    for seat in seats {
+        let Some(queue) = queues.pop() else {
+            return Err(AllocError);
+        };
         workers.push(Worker::new(alloc, queue, seat)?)?;
     }
     Ok(Crew::new(workers))

@@ -7,7 +7,7 @@ use crate::serve_help::{
 use link_frames::{FRAME_LEN, Frame};
 use std::alloc::Global;
 use std::io::{BufRead, BufReader, Read, Write};
-use std::net::{Net, TcpListener, TcpStream};
+use std::net::{Net, Shutdown, TcpListener, TcpStream};
 use std::sync::Wait;
 use std::test::Fail;
 use std::thread;
@@ -26,6 +26,7 @@ const UNTAGGED: usize = FRAME_LEN - 32;
 #[derive(Clone, Copy)]
 enum Trial {
     LongLine,
+    ManyLines,
     StopThenReset,
     ManyClients,
     DeafClient,
@@ -85,6 +86,25 @@ where
     let mut answer = String::new(alloc);
     BufReader::new(alloc, &stream)?.read_line(&mut answer)?;
     Ok(answer.as_str() == "{\"session\":1}\n")
+}
+
+/// Whether a hundred lines that come at once are answered in their order.
+fn many_lines<R>(rt: &R, alloc: Global, place: &Place) -> Result<bool, Fail>
+where
+    R: Net<Listener = TcpListener, Stream = TcpStream> + Clock,
+{
+    let mut lines = String::new(alloc);
+    let mut due = String::new(alloc);
+    for user in 1..=100u32 {
+        lines.push_str(&format!(in alloc; "{{\"op\":\"open\",\"user\":{user}}}\n")?)?;
+        due.push_str(&format!(in alloc; "{{\"session\":{user}}}\n")?)?;
+    }
+    let mut stream = connected(rt, place.client)?;
+    stream.write_all(lines.as_bytes())?;
+    stream.shutdown(Shutdown::Write)?;
+    let mut answers = String::new(alloc);
+    stream.read_to_string(&mut answers)?;
+    Ok(answers.as_str() == due.as_str())
 }
 
 /// Whether a node stops though the connection that said so was reset.
@@ -259,6 +279,7 @@ where
 {
     match trial {
         Trial::LongLine => long_line(rt, alloc, place),
+        Trial::ManyLines => many_lines(rt, alloc, place),
         Trial::StopThenReset => stop_then_reset(rt, place),
         Trial::ManyClients => many_clients(rt, alloc, place),
         Trial::DeafClient => deaf_client(rt, alloc, place),
@@ -323,6 +344,12 @@ where
 #[test]
 fn an_answer_does_not_wait_for_a_line_without_end(rt: HostRuntime) -> Result<(), Fail> {
     assert!(rt; is_fit(&rt, rt.alloc(), Trial::LongLine)?);
+    Ok(())
+}
+
+#[test]
+fn lines_that_come_at_once_are_answered_in_their_order(rt: HostRuntime) -> Result<(), Fail> {
+    assert!(rt; is_fit(&rt, rt.alloc(), Trial::ManyLines)?);
     Ok(())
 }
 

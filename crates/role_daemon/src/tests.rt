@@ -195,18 +195,25 @@ fn refusals(rt: HostRuntime) -> Result<(), Fail> {
 
 #[test]
 fn an_answer_is_written_before_the_next_line_is_waited_for(rt: HostRuntime) -> Result<(), Fail> {
-    let lines = "{\"op\":\"assign\",\"role\":2,\"user\":7}\n{\"op\":";
-    let input = format!(in rt.alloc(); "{OPENING}{lines}")?;
-    let mut held = Vec::new(rt.alloc());
-    let mut reader = Watched::new(Faulty::new(input.as_bytes(), Mishap::Fail, 1, 1));
-    let mut writer = Watched::new(&mut held);
-    let ended = run_pipe(rt.alloc(), &mut reader, &mut writer);
-    assert!(rt; matches!(&ended, Err(PipeFault::Device)), "{ended:?}");
-    let written = str::from_utf8(held.as_slice());
-    assert!(rt;
-        written == Ok("{\"issued\":0,\"reach\":1}\n"),
-        "{written:?}"
-    );
+    let line = "{\"op\":\"assign\",\"role\":2,\"user\":7}\n";
+    let next = "{\"op\":";
+    // the second of the next lines is too long, and has no end
+    for count in [1, 1_000u32] {
+        let mut input = format!(in rt.alloc(); "{OPENING}{line}")?;
+        for _ in 0..count {
+            input.push_str(next)?;
+        }
+        let mut held = Vec::new(rt.alloc());
+        let mut reader = Watched::new(Faulty::new(input.as_bytes(), Mishap::Fail, 1, 1));
+        let mut writer = Watched::new(&mut held);
+        let ended = run_pipe(rt.alloc(), &mut reader, &mut writer);
+        assert!(rt; matches!(&ended, Err(PipeFault::Device)), "{ended:?}");
+        let written = str::from_utf8(held.as_slice());
+        assert!(rt;
+            written == Ok("{\"issued\":0,\"reach\":1}\n"),
+            "{written:?}"
+        );
+    }
     Ok(())
 }
 

@@ -2,7 +2,7 @@
 
 use crate::serve::clients::answer_client;
 use crate::serve::connection::{Connection, Standing};
-use crate::serve::frames::{FIRST_FRAME, take_frames};
+use crate::serve::frames::take_frames;
 use crate::serve::shared::Shared;
 use std::alloc::Global;
 use std::net::{TcpListener, TcpStream};
@@ -195,6 +195,6 @@ fn prepare(stream: &TcpStream, side: Side, idle: Duration) -> io::Result<()> {
             stream.set_read_timeout(Some(idle))?;
             stream.set_write_timeout(Some(Duration::from_millis(WRITE_PATIENCE)))
         }
-        Side::Peers => stream.set_read_timeout(Some(Duration::from_millis(FIRST_FRAME))),
+        Side::Peers => Ok(()),
     }
 }

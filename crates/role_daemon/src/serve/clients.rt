@@ -7,20 +7,21 @@ use crate::fault::PipeFault;
 use crate::serve::caller::{Caller, MOST_LINES};
 use crate::serve::connection::{Connection, LineAnswers};
 use crate::serve::job_queue::JobQueue;
-use crate::serve::shared::{Room, Shared, is_past, put_own};
+use crate::serve::last_writes::LastWrites;
+use crate::serve::shared::{Room, Shared, put_own};
 use client_lines::{ClientAnswer, LineFault, MOST_LINE_BYTES, Request, RequestReader};
 use link_frames::{Ahead, Held, Kind, Message, Next, Place, Watched};
 use node_lock::{Call, Job, View};
 use quorum_sizes::NodeName;
 use role_node::{Event, NodeAgain};
 use std::alloc::{AllocError, Global};
-use std::net::TcpStream;
+use std::net::{Shutdown, TcpStream};
 use std::sync::Wait;
 use std::sync::ledger::Ledger;
-use std::time::{Clock, Duration, Instant};
+use std::time::{Clock, Duration};
 use std::{mem, thread};
 
-/// The milliseconds for which the lines of a client that takes no answers are looked through, or the next waited for.
+/// How many milliseconds are waited for another byte of a client that is answered no more.
 const LAST_LOOK: u64 = 2_000;
 
 /// The milliseconds before a job is put again that the inbox did not take.
@@ -49,6 +50,7 @@ struct Client<'a, 'b, L: Ledger> {
     answers: Vec<LineAnswers>,
     requests: RequestReader,
     held: Held,
+    writer: Watched<&'b TcpStream>,
 }
 
 /// Serves a connection of a client, up to its end.
@@ -76,6 +78,7 @@ pub fn answer_client<L: Ledger, R: Wait + Clock>(
         answers: Vec::new(alloc),
         requests: RequestReader::new(alloc),
         held: Held::new(alloc),
+        writer: Watched::new(stream),
     };
     if client.answer_lines(rt, stream) {
         shared.end(rt);
@@ -87,37 +90,49 @@ impl<L: Ledger> Client<'_, '_, L> {
     /// Answers the lines of a connection, up to its end. Whether one of them stops the node.
     fn answer_lines<R: Wait + Clock>(&mut self, rt: &R, stream: &TcpStream) -> bool {
         let mut reader = Watched::new(stream);
-        let mut writer = Watched::new(stream);
         let mut ahead = Ahead::new(self.alloc);
         for _ in rt.forever() {
-            let next = self.answer_next(rt, &mut ahead, &mut reader, &mut writer);
-            if matches!(next, Ok(AfterLine::Continue)) {
-                continue;
+            match self.answer_next(rt, &mut ahead, &mut reader) {
+                Ok(AfterLine::Continue) => {}
+                Ok(AfterLine::StopNode) => {
+                    let _ = self.held.write_all(&mut LastWrites::new(rt, stream));
+                    return true;
+                }
+                Ok(AfterLine::Close) => {
+                    self.write_rest(rt);
+                    return false;
+                }
+                Err(fault) => {
+                    if !matches!(fault, PipeFault::Device) {
+                        self.write_rest(rt);
+                    }
+                    return self.leaves_a_stop(rt, stream, &mut ahead, &mut reader);
+                }
             }
-            if !matches!(next, Err(PipeFault::Device)) {
-                let _ = self.settle(rt);
-                let _ = self.held.write_all(&mut writer);
-            }
-            return match next {
-                Ok(then) => then == AfterLine::StopNode,
-                Err(_) => self.leaves_a_stop(rt, stream, &mut ahead, &mut reader),
-            };
         }
         unreachable!()
     }
 
-    /// Whether one of the lines that came and are not answered any more stops the node.
-    fn leaves_a_stop<R: Wait + Clock>(
+    /// Writes the answers to all lines that were put.
+    fn write_rest<R: Wait + Clock>(&mut self, rt: &R) {
+        let _ = self.settle(rt);
+        let _ = self.held.write_all(&mut self.writer);
+    }
+
+    /// Whether one of the lines that come and are answered no more stops the node. It is looked for until nothing has
+    /// come for a while.
+    fn leaves_a_stop<R: Wait>(
         &mut self,
         rt: &R,
         stream: &TcpStream,
         ahead: &mut Ahead,
         reader: &mut Watched<&TcpStream>,
     ) -> bool {
+        let _ = stream.shutdown(Shutdown::Write);
         let patience = Duration::from_millis(LAST_LOOK);
-        let (Ok(begin), Ok(())) = (Instant::now(rt), stream.set_read_timeout(Some(patience))) else {
+        if stream.set_read_timeout(Some(patience)).is_err() {
             return false;
-        };
+        }
         for _ in rt.forever() {
             let (stops, goes_on) = match ahead.peek(reader, MOST_LINE_BYTES) {
                 Ok(Next::Line(count)) => {
@@ -129,7 +144,7 @@ impl<L: Ledger> Client<'_, '_, L> {
                 Ok(Next::TooLong) => (false, matches!(ahead.pass_line(reader), Ok(true))),
                 Ok(Next::End) | Err(_) => (false, false),
             };
-            if stops || !goes_on || is_past(rt, &begin, LAST_LOOK) {
+            if stops || !goes_on {
                 return stops;
             }
         }
@@ -147,13 +162,13 @@ impl<L: Ledger> Client<'_, '_, L> {
         rt: &R,
         ahead: &mut Ahead,
         reader: &mut Watched<&TcpStream>,
-        writer: &mut Watched<&TcpStream>,
     ) -> Result<AfterLine, PipeFault> {
         let next = match ahead.begins(MOST_LINE_BYTES) {
             Some(Next::Line(count)) if self.in_flight < MOST_LINES => Next::Line(count),
             _ => {
                 self.settle(rt)?;
-                self.held.write_when_due(ahead, MOST_LINE_BYTES, writer)?;
+                self.held
+                    .write_when_due(ahead, MOST_LINE_BYTES, &mut self.writer)?;
                 self.held.peek(ahead, MOST_LINE_BYTES, reader)?
             }
         };
@@ -200,9 +215,9 @@ impl<L: Ledger> Client<'_, '_, L> {
         request: Request,
     ) -> Result<AfterLine, PipeFault> {
         match request {
-            Request::Issue(command) => self.call(rt, Call::Step(Event::Issue(command))),
-            Request::Client(act) => self.call(rt, Call::Step(Event::Client(act))),
-            Request::Ask(question) => self.call(rt, Call::Ask(question)),
+            Request::Issue(command) => self.call(rt, &Call::Step(Event::Issue(command))),
+            Request::Client(act) => self.call(rt, &Call::Step(Event::Client(act))),
+            Request::Ask(question) => self.call(rt, &Call::Ask(question)),
             Request::Reach(owner) => {
                 let view = self.view(rt, owner, 0)?;
                 self.say(rt, &ClientAnswer::Reach(view.reach))
@@ -213,7 +228,10 @@ impl<L: Ledger> Client<'_, '_, L> {
                 self.say(rt, &ClientAnswer::Again(sent_count(&sent)))
             }
             Request::Stop => {
-                let _ = self.say(rt, &ClientAnswer::Stopped);
+                self.shared.ring(rt);
+                if self.collect(rt).is_ok() {
+                    let _ = hold_answer(self.alloc, &mut self.held, &ClientAnswer::Stopped);
+                }
                 Ok(AfterLine::StopNode)
             }
         }
@@ -232,24 +250,25 @@ impl<L: Ledger> Client<'_, '_, L> {
         Ok(AfterLine::Continue)
     }
 
-    fn call<R: Wait + Clock>(&mut self, rt: &R, call: Call) -> Result<AfterLine, PipeFault> {
-        let caller = Caller::Client {
-            slot: self.slot,
-            line: self.in_flight,
-        };
-        let number = caller.number();
-        self.put_job(rt, &Job { number, call })
-    }
-
-    /// Puts a job, again until the inbox takes it.
-    fn put_job<R: Wait + Clock>(&mut self, rt: &R, job: &Job) -> Result<AfterLine, PipeFault> {
+    /// Puts a job for a line, again until the inbox takes it. No answer is held back meanwhile.
+    fn call<R: Wait + Clock>(&mut self, rt: &R, call: &Call) -> Result<AfterLine, PipeFault> {
         for _ in rt.forever() {
-            if self.queue.put(rt, *job).is_ok() {
+            let caller = Caller::Client {
+                slot: self.slot,
+                line: self.in_flight,
+            };
+            let job = Job {
+                number: caller.number(),
+                call: *call,
+            };
+            if self.queue.put(rt, job).is_ok() {
                 self.put = self.put.saturating_add(1);
                 self.in_flight = self.in_flight.saturating_add(1);
                 return Ok(AfterLine::Continue);
             }
             self.shared.ring(rt);
+            self.settle(rt)?;
+            self.held.write_all(&mut self.writer)?;
             if self.shared.life.has_ended(rt) {
                 return Err(PipeFault::Device);
             }
@@ -258,17 +277,30 @@ impl<L: Ledger> Client<'_, '_, L> {
         unreachable!()
     }
 
+    /// Has the answers to all lines that are in flight, and holds them. Those that are held are written first where
+    /// the others have to be waited for.
+    ///
+    /// # Errors
+    ///
+    /// As [`collect`](Client::collect).
+    fn settle<R: Wait + Clock>(&mut self, rt: &R) -> Result<(), PipeFault> {
+        if self.in_flight == 0 {
+            return Ok(());
+        }
+        self.shared.ring(rt);
+        if !self.connection.has_done(rt, self.put) {
+            self.held.write_all(&mut self.writer)?;
+        }
+        self.collect(rt)
+    }
+
     /// Waits for the answers to all lines that are in flight, and holds them.
     ///
     /// # Errors
     ///
     /// `Memory` where one of them has no answer. Those before it are held.
-    fn settle<R: Wait + Clock>(&mut self, rt: &R) -> Result<(), PipeFault> {
+    fn collect<R: Wait>(&mut self, rt: &R) -> Result<(), PipeFault> {
         let due = mem::replace(&mut self.in_flight, 0);
-        if due == 0 {
-            return Ok(());
-        }
-        self.shared.ring(rt);
         if self
             .connection
             .wait(rt, self.put, &mut self.answers)

@@ -69,9 +69,10 @@ impl Slot<'_> {
         }
     }
 
+    /// Shuts the connection down, if there is one.
     fn cut(&mut self) {
-        self.is_cut = true;
         if let Some(stream) = &self.stream {
+            self.is_cut = true;
             let _ = stream.shutdown(Shutdown::Both);
         }
     }
@@ -112,6 +113,7 @@ impl<'a> Connection<'a> {
         slot.value.stream = Some(other);
         slot.value.number = number;
         slot.value.is_silent = true;
+        slot.value.is_cut = false;
         true
     }
 
@@ -145,7 +147,8 @@ impl<'a> Connection<'a> {
         self.slot.lock(rt).value.stream = None;
     }
 
-    /// The place is free again once all jobs that were put are done, so that none of them meets the next connection.
+    /// The place is free again once all jobs that were put are done, so that none of them meets the next connection,
+    /// also not one that is refused meanwhile.
     pub fn free<R: Wait>(&self, rt: &R, queue: JobQueue<'a>, put: u64) {
         let mut slot = self.slot.lock(rt);
         slot.value.stream = None;
@@ -162,6 +165,11 @@ impl<'a> Connection<'a> {
     /// Whether nobody has shut the connection down.
     pub fn is_live<R: Wait>(&self, rt: &R) -> bool {
         !self.slot.lock(rt).value.is_cut
+    }
+
+    /// Whether so many jobs are done.
+    pub fn has_done<R: Wait>(&self, rt: &R, wanted: u64) -> bool {
+        self.slot.lock(rt).value.done >= wanted
     }
 
     /// Waits until so many jobs are done. How many are, and the answers; `None` where the connection was shut down,
@@ -215,6 +223,10 @@ impl<'a> Connection<'a> {
 }
 
 /// A free place for each of so many queues.
+///
+/// # Errors
+///
+/// Want of memory, and where there are fewer queues.
 pub fn connections<'a>(
     alloc: Global,
     queues: &mut Vec<JobQueue<'a>>,
@@ -222,9 +234,10 @@ pub fn connections<'a>(
 ) -> Result<Vec<Connection<'a>>, AllocError> {
     let mut made = Vec::new(alloc);
     for _ in 0..count {
-        if let Some(queue) = queues.pop() {
-            made.push(Connection::new(alloc, queue))?;
-        }
+        let Some(queue) = queues.pop() else {
+            return Err(AllocError);
+        };
+        made.push(Connection::new(alloc, queue))?;
     }
     Ok(made)
 }

@@ -5,7 +5,7 @@ ghost use Rattle.std.specs.Prelude.{◌≡◌, ◌≤◌, vec_len};
 use crate::serve::caller::Caller;
 use crate::serve::connection::{Connection, LineAnswers};
 use crate::serve::job_queue::JobQueue;
-use crate::serve::shared::{Shared, is_past};
+use crate::serve::shared::{Shared, is_past, left_of};
 use link_frames::{FRAME_LEN, Frame, Packet, Watched, read_patiently};
 use node_lock::{Call, Job};
 use quorum_sizes::NodeName;
@@ -23,14 +23,15 @@ const BLOCK_FRAMES: usize = 160;
 const FIRST_IN_FLIGHT: u64 = 1;
 
 /// How many jobs of all peers together are in flight at most, each by a connection that has lived a while. With the
-/// first ones of 128 connections these are 608, so that there is room in the inbox for the node itself and for clients.
-const MOST_IN_FLIGHT: u64 = 480;
+/// first ones of 128 connections and 32 lines of 16 clients these are 992, so that there is room in the inbox, which
+/// has 1,024 places, for the node itself.
+const MOST_IN_FLIGHT: u64 = 352;
 
 /// The milliseconds after which a connection that was not replaced by another of its node has its part of these.
 const LONG_LIFE: u64 = 100;
 
 /// The milliseconds in which the first frame has to open.
-pub const FIRST_FRAME: u64 = 2_000;
+const FIRST_FRAME: u64 = 2_000;
 
 /// Bytes of frames, whole ones and a part of the next.
 #[derive(Drop)]
@@ -125,11 +126,9 @@ impl<L: Ledger> Peer<'_, '_, L> {
             return;
         };
         for _ in rt.forever() {
-            if !block.read(&mut reader) || !self.take(rt, stream, block.frames()) {
-                return;
-            }
-            if !self.connection.is_live(rt)
-                || (self.from.is_none() && is_past(rt, &begin, FIRST_FRAME))
+            if !self.may_read_on(rt, stream, &begin)
+                || !block.read(&mut reader)
+                || !self.take(rt, stream, block.frames())
             {
                 return;
             }
@@ -137,6 +136,21 @@ impl<L: Ledger> Peer<'_, '_, L> {
                 let peers = (self.shared.outboxes.len() as u64).max(1);
                 self.most = (MOST_IN_FLIGHT / peers).max(FIRST_IN_FLIGHT);
             }
+        }
+    }
+
+    /// Whether the connection is read on. Until a frame has opened a read waits only for what is left of the time for
+    /// it, and then no more.
+    fn may_read_on<R: Wait + Clock>(&self, rt: &R, stream: &TcpStream, begin: &Instant) -> bool {
+        if !self.connection.is_live(rt) {
+            return false;
+        }
+        if self.from.is_some() {
+            return true;
+        }
+        match left_of(rt, begin, FIRST_FRAME) {
+            Some(left) => stream.set_read_timeout(Some(left)).is_ok(),
+            None => false,
         }
     }
 

@@ -122,7 +122,7 @@ where
     R: Net<Listener = TcpListener, Stream = TcpStream> + Clock,
 {
     let stream = connected_at_once(rt, ports.client)?;
-    say_stop_unheard(&stream, 1_500);
+    say_stop_unheard(&stream, 600);
     Ok(has_stopped(rt, ports.client))
 }
 

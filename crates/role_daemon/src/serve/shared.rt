@@ -75,12 +75,16 @@ pub fn local(port: u16) -> SocketAddr {
     SocketAddr::V4(SocketAddrV4::new(Ipv4Addr::LOCALHOST, port))
 }
 
+/// What is left of so many milliseconds; `None` where they went by.
+pub fn left_of<R: Clock>(rt: &R, begin: &Instant, millis: u64) -> Option<Duration> {
+    let past = begin.elapsed(rt).ok()?;
+    let left = Duration::from_millis(millis).saturating_sub(past);
+    if left.is_zero() { None } else { Some(left) }
+}
+
 /// Whether so many milliseconds went by.
 pub fn is_past<R: Clock>(rt: &R, begin: &Instant, millis: u64) -> bool {
-    match begin.elapsed(rt) {
-        Ok(time) => time >= Duration::from_millis(millis),
-        Err(_) => true,
-    }
+    left_of(rt, begin, millis).is_none()
 }
 
 /// Puts the packet of a message to the node itself into the inbox. Where there is no room it is lost.

@@ -1,4 +1,4 @@
-use Rattle.std.proofs.Common.{◌∙◌, arith, ap, inl, inr, refl, None, Result, Ok, Err}
+use Rattle.std.proofs.Common.{arith, ap, inl, inr, refl, None, Result, Ok, Err}
 use Rattle.std.proofs.lemmas.Result.{err_from_is_err_and}
 use Rattle.link_frames.proofs.Exported.{Ran-moved, WentOn-nothing, WentOn-trans, CallFailed-later, ReaderFailed-later}
 use Rattle.role_daemon.specs.declared.fault.PipeFault.TheVariants.{Device}
@@ -26,65 +26,46 @@ returns-in_err-write_when_due-clause-device g c =
     let p = err_from_is_err_and c.from_residual.result c.from_residual.ensures.1 in
     rw p.1 (λ q. inr (inl (CallFailed-later _ _ _ writes c.in_err-write_when_due.ensures.failed)))
 
-pub returns-in_err-answer_next-clause-ran : goal.returns-in_err-answer_next-clause-ran
-returns-in_err-answer_next-clause-ran g c =
+pub returns-in-Ok-false-clause-ran : goal.returns-in-Ok-false-clause-ran
+returns-in-Ok-false-clause-ran g c =
     let (ran, reads, writes) = c.loop-number.invariant in
     let moved = Ran-moved ran _ _ c.in_ok-write_when_due.ensures.moved in
-    let p = err_from_is_err_and c.from_residual-in_err-answer_next.result
-    c.from_residual-in_err-answer_next.ensures.1 in
-    rw (p.1, p.2) (LinesRan-fault _ _ None _ _ _ c.in_err-answer_next.ensures.kind (Lines-kept moved))
-
-pub returns-in_err-answer_next-clause-device : goal.returns-in_err-answer_next-clause-device
-returns-in_err-answer_next-clause-device g c =
-    let (ran, reads, writes) = c.loop-number.invariant in
-    let p = err_from_is_err_and c.from_residual-in_err-answer_next.result
-    c.from_residual-in_err-answer_next.ensures.1 in
-    rw (p.1, p.2) (λ q. inl (ReaderFailed-later _ _ _ reads (c.in_err-answer_next.ensures.device q)))
-
-pub returns-in_err-answer_next-clause-quiet : goal.returns-in_err-answer_next-clause-quiet
-returns-in_err-answer_next-clause-quiet g c = λ other.
-    let (ran, reads, writes) = c.loop-number.invariant in
-    let p = err_from_is_err_and c.from_residual-in_err-answer_next.result
-    c.from_residual-in_err-answer_next.ensures.1 in (
-      WentOn-trans reads
-          (c.in_err-answer_next.ensures.quiet (λ q. other (p.1 ∙ ap Err (p.2 ∙ ap (fault_or Device) q)))),
-      WentOn-trans writes c.in_ok-write_when_due.ensures.went_on,
-    )
-
-pub returns-then-not-branch-clause-ran : goal.returns-then-not-branch-clause-ran
-returns-then-not-branch-clause-ran g c =
-    let (ran, reads, writes) = c.loop-number.invariant in
-    let moved = Ran-moved ran _ _ c.in_ok-write_when_due.ensures.moved in
-    let answered = rw c.if-not-branch.true at c.in_ok-answer_next.ensures.answered in
+    let answered = rw c.in-Ok-false.field-0-test at c.in-Ok-false.ensures.answered in
     Lines-end moved _ None _ c.args.node.now _ _ _ _ answered refl c.finish.ensures.ended
 
-pub returns-then-not-branch-clause-device : goal.returns-then-not-branch-clause-device
-returns-then-not-branch-clause-device g c =
+pub returns-in-Err-Memory-clause-ran : goal.returns-in-Err-Memory-clause-ran
+returns-in-Err-Memory-clause-ran g c =
     let (ran, reads, writes) = c.loop-number.invariant in
-    finish_device _ _ _ _ _ _ _ _ _ _ tt (WentOn-trans writes c.in_ok-write_when_due.ensures.went_on)
-    c.finish.ensures.ended
+    let moved = Ran-moved ran _ _ c.in_ok-write_when_due.ensures.moved in
+    Lines-out moved _ _ _ _ _ _ (inr refl) c.in-Err-Memory.ensures.same c.finish-in-Err-Memory.ensures.ended
 
-pub returns-then-not-branch-clause-quiet : goal.returns-then-not-branch-clause-quiet
-returns-then-not-branch-clause-quiet g c = λ other.
-    let (ran, reads, writes) = c.loop-number.invariant in (
-      WentOn-trans reads (c.in_ok-answer_next.ensures.quiet (not_device _)),
-      WentOn-trans writes (WentOn-trans c.in_ok-write_when_due.ensures.went_on (c.finish.ensures.quiet other)),
-    )
+pub returns-in-Err : goal.returns-in-Err
+returns-in-Err g c =
+    let (ran, reads, writes) = c.loop-number.invariant in
+    let moved = Ran-moved ran _ _ c.in_ok-write_when_due.ensures.moved in
+    record {
+      ran = LinesRan-fault _ _ None _ _ _ c.in-Err.ensures.kind (Lines-kept moved);
+      device = λ q. inl (ReaderFailed-later _ _ _ reads (c.in-Err.ensures.device q));
+      quiet = λ other. (
+        WentOn-trans reads (c.in-Err.ensures.quiet (λ q. other (ap Err (ap (fault_or Device) q)))),
+        WentOn-trans writes c.in_ok-write_when_due.ensures.went_on,
+      );
+    }
 
 pub loop-number-preserved : goal.loop-number-preserved
 loop-number-preserved g c =
     let (ran, reads, writes) = c.loop-number.invariant in
     let moved = Ran-moved ran _ _ c.in_ok-write_when_due.ensures.moved in
-    let answered = rw c.if-not-branch.false at c.in_ok-answer_next.ensures.answered in (
+    let answered = rw c.in-Ok-true.field-0-test at c.in-Ok-true.ensures.answered in (
       Ran-more moved _ None _ _ answered,
-      WentOn-trans reads (c.in_ok-answer_next.ensures.quiet (not_device _)),
+      WentOn-trans reads (c.in-Ok-true.ensures.quiet (not_device _)),
       WentOn-trans writes c.in_ok-write_when_due.ensures.went_on,
     )
 
 pub returns-clause-ran : goal.returns-clause-ran
 returns-clause-ran g c =
     let (ran, reads, writes) = c.loop-number.invariant in
-    Lines-out ran _ _ _ _ _ refl c.finish-2.ensures.ended
+    Lines-out ran _ _ _ _ _ _ (inl refl) refl c.finish-2.ensures.ended
 
 pub returns-clause-device : goal.returns-clause-device
 returns-clause-device g c =
