@@ -11,7 +11,8 @@ use Rattle.byz_world.specs.Inside.{Members, member_in}
 use Rattle.byz_world.specs.Blocks.{member_after, member_marks, mark_in, TookFirst, GaveSome, AreGiven}
 use Rattle.byz_world.specs.declared.block.Mark.{Mark}
 use Rattle.byz_world.proofs.BlockTakes.{member_after-none, member_marks-at, took-length}
-use Rattle.byz_world.proofs.Elements.{before_seam, at_tail}
+use Rattle.byz_world.proofs.Elements.{at_tail}
+use Rattle.role_commands.proofs.Exported.{slice_get-front}
 
 pub taken-length : {A : Type 0} (n : ℕ) (xs : List A) → n ≤ length xs → length (take n xs) ≡ n
 taken-length zero xs h = refl
@@ -85,7 +86,7 @@ module _ (old now new : Members) (sent : List Sent) (marks marks' : List Mark) (
       let h = slice_get_within sent j s at in
       let inside = early_number k j early h in
       let there : k * length sent + j < length marks = omega (arith, given.full, inside) in
-      ap (λ ms. slice_get ms (k * length sent + j)) took.marks ∙ before_seam marks tail (k * length sent + j) there
+      ap (λ ms. slice_get ms (k * length sent + j)) took.marks ∙ slice_get-front marks tail (k * length sent + j) there
       ∙ given.mark k j s at early
 
   pub mark_own : (j : ℕ) (s : Sent) → slice_get sent j ≡ Some s → j < count →

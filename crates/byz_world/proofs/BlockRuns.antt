@@ -8,7 +8,7 @@ use Rattle.role_node.specs.declared.event.Event.{Event}
 use Rattle.byz_world.specs.Runs.{Run, history_of}
 use Rattle.byz_world.specs.Pools.{listed, sends_next, messages_after, messages}
 use Rattle.byz_world.specs.Inside.{next_event, run_after}
-use Rattle.byz_world.proofs.Elements.{at_seam}
+use Rattle.role_commands.proofs.Exported.{slice_get-seam}
 use Rattle.byz_world.proofs.Ordered.{times, times-own, times-other}
 use Rattle.byz_world.proofs.Pushing.{history_of-append, history_of-none, history_of-own, history_of-other}
 
@@ -65,7 +65,7 @@ run_of_names h past (pair ∷ rest) own =
     ∙ ap (λ es. history_of name past ++ es) (history_of-own name e rest) in
     let next : next_event h (names past) name ≡ Some (name, e) =
     ap (option_map (λ x. (name, x)))
-    ((λ i. slice_get (whole i) (names-times name past i)) ∙ at_seam (history_of name past) (history_of name rest) e) in
+    ((λ i. slice_get (whole i) (names-times name past i)) ∙ slice_get-seam (history_of name past) (history_of name rest) e) in
     let past_is : names step ≡ names past ++ name ∷ [] =
     names-append past (pair ∷ []) ∙ ap (λ ns. names past ++ ns) (names-one pair) in
     let later = run_of_names h step rest

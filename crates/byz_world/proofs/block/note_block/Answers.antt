@@ -6,7 +6,7 @@ use Rattle.std.proofs.lemmas.Option.{slice_get-get_or}
 use Rattle.byz_world.proofs.BlockNotes.{noted_none, noted_more, block_names-none, block_names-next}
 use Rattle.byz_world.proofs.BlockNotes.{block_messages-none, block_messages-next, block_names-few, block_messages-few}
 use Rattle.byz_world.proofs.BlockNotes.{dropped-at}
-use Rattle.byz_world.proofs.Elements.{before_seam}
+use Rattle.role_commands.proofs.Exported.{slice_get-front}
 use Rattle.byz_world.proofs.block.note_block.Goals as goal
 
 pub loop-number-init : goal.loop-number-init
@@ -24,7 +24,7 @@ loop-number-preserved c =
     c.args.sizes.now.nodes number in
     let within : place < length sent = omega (arith, c.requires.within, c.loop-number-test.true) in
     let stays : slice_get c.loop-number.sent.items place ≡ slice_get sent place =
-    ap (λ xs. slice_get xs place) c.loop-number.invariant.sent_is.items ∙ before_seam sent _ place within in
+    ap (λ xs. slice_get xs place) c.loop-number.invariant.sent_is.items ∙ slice_get-front sent _ place within in
     let long : place < length c.loop-number.sent.items =
     omega (arith, within, ap length c.loop-number.invariant.sent_is.items, length-append sent noted) in
     let there : slice_get c.loop-number.sent.items place ≡ Some c.index.result.now =
