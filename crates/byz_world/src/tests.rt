@@ -307,28 +307,38 @@ fn some_given(world: &mut World, first: u32, most: u32) -> Result<u32, Fail> {
     })
 }
 
-/// Packets from a number on, so many at most, and how many are given then: a SEND alone to four nodes is too few to be
-/// given at once; four ECHOs and four READYs are not, from the first packet of one on, and where so many may be given.
-static GIVEN: [(u32, u32, u32); 8] = [
-    (0, 99, 1),
-    (1, 99, 1),
-    (2, 99, 1),
-    (3, 99, 1),
-    (5, 99, 1),
-    (4, 99, 16),
-    (20, 15, 1),
-    (20, 99, 16),
+/// Packets from a number on, so many at most, and how many are given then, where node 0 has published four commands:
+/// their SENDs are too few packets to be given at once; the 64 ECHOs and the 64 READYs are not, from the first packet of
+/// one on, and where so many may be given.
+static GIVEN: [(u32, u32, u32); 5] = [
+    (17, 99, 1),
+    (16, 63, 1),
+    (16, 99, 64),
+    (80, 64, 64),
+    (80, 99, 64),
 ];
 
 #[test]
 fn many_packets_at_once(rt: HostRuntime) -> Result<(), Fail> {
     let mut world = new_world(rt.alloc(), MOST_EVENTS, &[])?;
-    walk(&rt, rt.alloc(), &mut world, &[(Act::Issue, Due::Sends(0))])?;
+    let issue = Step::Issue {
+        node: name(0)?,
+        command: ASSIGN,
+    };
+    for _ in 0..4 {
+        pass(&mut world, &issue)?;
+    }
+    for first in 0..16 {
+        let came = some_given(&mut world, first, 99)?;
+        assert!(rt; came == 1, "packet {first}: came {came}");
+    }
     for (first, most, due) in GIVEN.iter() {
         let came = some_given(&mut world, *first, *most)?;
         assert!(rt; came == *due, "packet {first}: due {due}, came {came}");
     }
-    delivered_everywhere(&rt, &mut world)
+    let reach = world.agree(name(1)?, name(3)?, name(0)?);
+    assert!(rt; reach == Some(4) && world.sent_len() == 144 && world.at_rest());
+    Ok(())
 }
 
 /// What is due where each of four correct nodes took what node 0 published.

@@ -50,7 +50,7 @@ use std::marker::Model;
 /// So many messages are given at once at most, and not fewer packets than these.
 const BLOCK_MOST: u32 = 64;
 
-const BLOCK_LEAST: u32 = 16;
+const BLOCK_LEAST: u32 = 64;
 
 /// A cluster of which some nodes lie: the correct nodes, and what happened at them.
 ///
