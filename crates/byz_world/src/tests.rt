@@ -296,15 +296,17 @@ fn settling(rt: HostRuntime) -> Result<(), Fail> {
     settled(&rt, &mut world)
 }
 
-/// Gives packets from `first` on, where there are `most` at most, once more where memory was wanting. How many.
+/// Gives packets from `first` on, `most` at most, once more where memory was wanting. How many.
 fn some_given(world: &mut World, first: u32, most: u32) -> Result<u32, Fail> {
-    if first >= world.sent_len() || most == 0 {
-        return Err("no packets".into());
+    for _ in 0..2 {
+        if first >= world.sent_len() || most == 0 {
+            return Err("no packets".into());
+        }
+        if let Ok(count) = world.give_some(first, most) {
+            return Ok(count);
+        }
     }
-    Ok(match world.give_some(first, most) {
-        Err(_) => world.give_some(first, most)?,
-        count => count?,
-    })
+    Err("memory was wanting twice".into())
 }
 
 /// Packets from a number on, so many at most, and how many are given then, where node 0 has published four commands:

@@ -1,5 +1,6 @@
 -- A cluster that settles: how many events that adds, and which packets were given.
-use Rattle.std.proofs.Common.{◌≡◌, ℕ, ◌+◌, ◌<◌, ◌≤◌, ⊎_elim, Bool, true, false, ◌||◌, ◌==◌, length, sym, ap}
+use Rattle.role_lab.specs.inside.Flags.{AreSet, with_many}
+use Rattle.std.proofs.Common.{◌≡◌, ℕ, zero, suc, ◌+◌, ◌<◌, ◌≤◌, ⊎_elim, Bool, true, false, ◌||◌, ◌==◌, length, sym, ap}
 use Rattle.std.proofs.Common.{◌∙◌, arith}
 use Rattle.std.specs.Prelude.{nat_lt}
 use Rattle.std.proofs.lemmas.Bool.{cases_lt}
@@ -53,3 +54,62 @@ settled_count first {world} {count} is added =
     let long : length (settled first.world).run ≡ length first.world.run + count =
     ap (λ (w : WorldValue). length w.run) (sym is) ∙ added in
     omega (arith, long)
+
+-- A number given out of turn; numbers that are passed over; numbers in turn.
+
+swapped : (a b c : Bool) → (a || (b || c)) ≡ (b || (a || c))
+swapped true true c = λ i. true
+swapped true false c = λ i. true
+swapped false b c = λ i. b || c
+
+pub below_swapped : (given : ℕ → Bool) (end n : ℕ) →
+    with_all_below (with_number given n) end ≡ with_number (with_all_below given end) n
+below_swapped given end n = λ i k. swapped (nat_lt k end) (k == n) (given k) i
+
+passed_by : (given : ℕ → Bool) (from end k : ℕ) → AreSet given from end → from ≤ end →
+    (nat_lt k end || given k) ≡ (nat_lt k from || given k)
+passed_by given from end k set h =
+    ⊎_elim
+    (λ (early : k < from).
+    let now : nat_lt k end ≡ true = grind (arith, nat_tests) in
+    let was : nat_lt k from ≡ true = grind (arith, nat_tests) in
+    (λ i. now i || given k) ∙ sym (λ i. was i || given k))
+    (λ (over : from ≤ k).
+    let was : nat_lt k from ≡ false = grind (arith, nat_tests) in
+    ⊎_elim
+    (λ (inside : k < end).
+    let now : nat_lt k end ≡ true = grind (arith, nat_tests) in
+    (λ i. now i || given k) ∙ sym (set k over inside) ∙ sym (λ i. was i || given k))
+    (λ (past : end ≤ k).
+    let now : nat_lt k end ≡ false = grind (arith, nat_tests) in
+    (λ i. now i || given k) ∙ sym (λ i. was i || given k))
+    (cases_lt k end))
+    (cases_lt k from)
+
+pub below_passed : (given : ℕ → Bool) (from end : ℕ) → AreSet given from end → from ≤ end →
+    with_all_below given end ≡ with_all_below given from
+below_passed given from end set h = λ i k. passed_by given from end k set h i
+
+pub below_set : (given : ℕ → Bool) (from end k : ℕ) → AreSet given from end → k < end →
+    with_all_below given from k ≡ true
+below_set given from end k set h =
+    ⊎_elim
+    (λ (early : k < from).
+    let was : nat_lt k from ≡ true = grind (arith, nat_tests) in λ i. was i || given k)
+    (λ (over : from ≤ k).
+    let was : nat_lt k from ≡ false = grind (arith, nat_tests) in (λ i. was i || given k) ∙ set k over h)
+    (cases_lt k from)
+
+pub below_unset : (given : ℕ → Bool) (from k : ℕ) → from ≤ k → given k ≡ false → with_all_below given from k ≡ false
+below_unset given from k h none =
+    let was : nat_lt k from ≡ false = grind (arith, nat_tests) in (λ i. was i || none i)
+
+pub below_many : (given : ℕ → Bool) (first count : ℕ) →
+    with_all_below given (first + count) ≡ with_many (with_all_below given first) first count
+unfolding with_many
+below_many given first zero =
+    let same : first + 0 ≡ first = omega arith in ap (with_all_below given) same
+below_many given first (suc count) =
+    let next : first + suc count ≡ first + count + 1 = omega arith in
+    ap (with_all_below given) next ∙ sym (below_more given (first + count))
+    ∙ ap (λ g. with_number g (first + count)) (below_many given first count)

@@ -2,7 +2,7 @@
 
 ghost use Rattle.std.specs.Prelude.{◌≡◌, ℕ, ◌<◌, ◌≤◌, ◌^◌, true, false, not, find, length, OnOk, OnErr, IfSome, IsTrue, ◌+◌};
 ghost use Rattle.std.specs.List.{range_with_len};
-ghost use Rattle.role_lab.specs.inside.Flags.{flagged, AllBelow, NoneFrom, with_many};
+ghost use Rattle.role_lab.specs.inside.Flags.{flagged, AreSet, NoneFrom, with_many};
 ghost use Rattle.role_lab.specs.Labs.{with_number, with_all_below};
 
 use std::alloc::{AllocError, Global};
@@ -10,13 +10,13 @@ use std::alloc::{AllocError, Global};
 /// Flags are added so many at a time.
 const PADDED: usize = 4096;
 
-/// The numbers that were given, a flag each, the least that may not be given yet, and one behind all that were given.
+/// The numbers that were given: all below `least`, and a flag for each that was given out of turn; and one behind all of
+/// these.
 #[derive(Drop)]
 pub struct Given {
     flags: Vec<bool>,
     least: usize,
     end: usize,
-    ghost below: { AllBelow flags.items least },
     ghost behind: { NoneFrom (flagged flags.items) end },
 }
 
@@ -49,6 +49,18 @@ impl Given {
         requires { number < 2 ^ 33 }
         ensures { OnOk result (given_in self.new ≡ with_number (given_in self.old) number) }
     {
+        if number == self.least {
+            self.least += 1;
+            return Ok(());
+        }
+        self.flag(number)
+    }
+
+    /// Sets the flag of a number.
+    fn flag(&mut self, number: usize) -> Result<(), AllocError>
+        requires { number < 2 ^ 33 }
+        ensures { OnOk result (given_in self.new ≡ with_number (given_in self.old) number) }
+    {
         set_flag(&mut self.flags, number)?;
         self.end = self.end.max(number + 1);
         Ok(())
@@ -62,11 +74,12 @@ impl Given {
     pub fn mark_many(&mut self, first: u32, count: u32) -> Result<(), AllocError>
         ensures { OnOk result (given_in self.new ≡ with_many (given_in self.old) first count) }
     {
+        if self.least == first as usize {
+            self.least += count as usize;
+            return Ok(());
+        }
         for number in 0..count {
             self.mark_at(first as usize + number as usize)?;
-        }
-        if self.least == first as usize {
-            self.least = first as usize + count as usize;
         }
         Ok(())
     }
@@ -75,7 +88,7 @@ impl Given {
     pub fn is_none_from(&self, number: u32) -> bool
         ensures { IsTrue result → NoneFrom (given_in self.now) number }
     {
-        self.end <= number as usize
+        self.end <= number as usize && self.least <= number as usize
     }
 
     /// Adds all numbers below `end`.
@@ -112,7 +125,6 @@ impl Given {
 fn set_flag(flags: &mut Vec<bool>, number: usize) -> Result<(), AllocError>
     requires { number < 2 ^ 33 }
     ensures set { OnOk result (flagged flags.new.items ≡ with_number (flagged flags.old.items) number) }
-    ensures kept { (k : ℕ) → flagged flags.old.items k ≡ true → flagged flags.new.items k ≡ true }
     ensures err { OnErr result (flagged flags.new.items ≡ flagged flags.old.items) }
 {
     pad(flags, number + 1)?;
@@ -132,11 +144,10 @@ fn pad(flags: &mut Vec<bool>, count: usize) -> Result<(), AllocError>
     Ok(())
 }
 
-/// The least number from `from` to `end` whose flag is not set, where those before are; `end` at the earliest if there
-/// is none.
+/// The least number from `from` to `end` whose flag is not set; `end` at the earliest if there is none.
 fn first_unset(flags: &[bool], from: usize, end: usize) -> usize
-    requires { AllBelow flags.now from }
-    ensures below { AllBelow flags.now result }
+    ensures from { from ≤ result }
+    ensures set { AreSet (flagged flags.now) from result }
     ensures unset { result < end → flagged flags.now result ≡ false }
 {
     for number in from..end {

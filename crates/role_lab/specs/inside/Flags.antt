@@ -8,9 +8,9 @@ use Rattle.role_lab.specs.Labs.{Lab, with_number, after_doing, next_number}
 abbrev pub flagged : List Bool → (ℕ → Bool)
 flagged flags = λ k. slice_index_or flags k false
 
--- each number below this one was given
-abbrev pub AllBelow : List Bool → ℕ → Type 0
-AllBelow flags least = (k : ℕ) → k < least → flagged flags k ≡ true
+-- each number from one on and below another was given
+abbrev pub AreSet : (ℕ → Bool) → ℕ → ℕ → Type 0
+AreSet given from end = (k : ℕ) → from ≤ k → k < end → given k ≡ true
 
 -- no number from this one on was given
 abbrev pub NoneFrom : (ℕ → Bool) → ℕ → Type 0

@@ -19,7 +19,7 @@ use Rattle.role_lab.specs.declared.orders.Order.{Order}
 use Rattle.role_lab.specs.declared.orders.Order.TheVariants.{Do, Flush, Settle, Rest, Ask, Reach, Agree}
 
 abbrev pub given_in : Given → (ℕ → Bool)
-given_in given = flagged given.flags.items
+given_in given = labs.with_all_below (flagged given.flags.items) given.least
 
 -- what the code keeps is this cluster
 abbrev pub lab_in : Lab → labs.Lab
