@@ -1,5 +1,4 @@
 use Rattle.std.proofs.Common.{◌<◌, ◌∙◌, ap, arith, length}
-use Rattle.role_lab.specs.inside.Flags.{flagged}
 use Rattle.role_lab.specs.Labs.{with_number}
 use Rattle.role_lab.proofs.FlagLemmas.{flagged-set}
 use Rattle.role_lab.proofs.given.set_flag.Goals as goal

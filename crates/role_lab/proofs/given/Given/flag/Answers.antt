@@ -1,9 +1,8 @@
-use Rattle.std.proofs.Common.{◌≡◌, ◌+◌, ap, sym, ◌∙◌, arith}
+use Rattle.std.proofs.Common.{ap, ◌∙◌, arith}
 use Rattle.role_lab.proofs.FlagLemmas.{none_behind}
-use Rattle.role_lab.proofs.SettleLemmas.{below_more, below_swapped}
-use Rattle.role_lab.specs.Labs.{with_all_below, with_number}
+use Rattle.role_lab.proofs.SettleLemmas.{below_swapped}
+use Rattle.role_lab.specs.Labs.{with_all_below}
 use Rattle.role_lab.specs.inside.Flags.{flagged}
-use Rattle.role_lab.specs.inside.Kept.{given_in}
 use Rattle.role_lab.proofs.given.Given.flag.Goals as goal
 
 pub invariant_of-self : goal.invariant_of-self

@@ -1,4 +1,4 @@
-use Rattle.std.proofs.Common.{◌+◌, sym, ap, ◌∙◌, arith}
+use Rattle.std.proofs.Common.{◌+◌, sym, ap, ◌∙◌}
 use Rattle.role_lab.specs.inside.Flags.{flagged, with_many}
 use Rattle.role_lab.specs.inside.Kept.{given_in}
 use Rattle.role_lab.specs.Labs.{with_all_below, with_number}

@@ -1,9 +1,8 @@
-use Rattle.std.proofs.Common.{◌≡◌, ◌∙◌, ℕ, ap, sym, arith, not, ◌<◌}
+use Rattle.std.proofs.Common.{◌∙◌, ℕ, ap, sym, arith, not}
 use Rattle.role_lab.specs.inside.Kept.{given_in}
 use Rattle.role_lab.specs.inside.Flags.{flagged, AreSet}
-use Rattle.role_lab.specs.Labs.{with_all_below}
 use Rattle.role_lab.proofs.FlagLemmas.{find-range, find-range-none}
-use Rattle.role_lab.proofs.SettleLemmas.{below_passed, below_set, below_unset}
+use Rattle.role_lab.proofs.SettleLemmas.{below_set, below_unset}
 use Rattle.role_lab.proofs.given.Given.next.Goals as goal
 
 pub returns-then-least-end-clause-value : goal.returns-then-least-end-clause-value

@@ -1,8 +1,7 @@
-use Rattle.std.proofs.Common.{◌≡◌, Some, ◌∙◌, ap, sym, refl, subst, arith}
+use Rattle.std.proofs.Common.{◌∙◌, ap, sym, refl, subst, arith}
 use Rattle.role_node.specs.Configs.{ConfigValue}
 use Rattle.role_lab.specs.inside.Kept.{lab_in, given_in}
 use Rattle.role_lab.specs.Labs.{Flushed, next_number}
-use Rattle.role_lab.specs.Labs as labs
 use Rattle.role_lab.proofs.FlushLemmas.{Goes, goes-first, goes-many, goes-none, goes-over, next_number-found}
 use Rattle.role_lab.proofs.lab.Lab.flush.Goals as goal
 
