@@ -95,7 +95,8 @@ module _ (old now new : Members) (sent : List Sent) (marks marks' : List Mark) (
       let P : ℕ → Type 0 = λ n. slice_get marks' (n + j) ≡ slice_get tail j in
       let here : slice_get marks' (length marks + j) ≡ slice_get tail j =
       ap (λ ms. slice_get ms (length marks + j)) took.marks ∙ sym (at_tail marks tail j) in
-      subst P given.full here ∙ member_marks-at (member_in now many) (take count sent) j s (at_taken j count sent h ∙ at)
+      subst P given.full here ∙ member_marks-at (member_in now many) (take count sent) j s
+      (at_taken j count sent h ∙ at)
       ∙ (λ i. Some (mark_in (own_member i) (take_take j count sent h i) s))
 
 -- .. and with one more
@@ -196,24 +197,28 @@ given_in_part old now new sent marks marks' many given more gave =
           ⊎_elim
           (λ (h : name < many).
           before_all old now new sent marks marks' many count given gave.others took name h
-          ∙ ap (member_after (member_in old name)) (sym (take_all (length marks' - name * n) sent (enough name h count l))))
+          ∙ ap (member_after (member_in old name)) (sym (take_all (length marks' - name * n) sent
+          (enough name h count l))))
           (λ (h : many ≤ name).
           ⊎_elim
           (λ (own : name < many + 1).
           let is : many ≡ name = omega (arith, h, own) in
-          let P : ℕ → Type 0 = λ k. member_in new k ≡ member_after (member_in old k) (take (length marks' - k * n) sent) in
+          let P : ℕ → Type 0 = λ k. member_in new k ≡ member_after (member_in old k)
+          (take (length marks' - k * n) sent) in
           let left : length marks' - many * n ≡ count = omega (arith, l) in
           subst P is (own_is old now new sent marks marks' many count given gave.others took
           ∙ ap (λ k. member_after (member_in old many) (take k sent)) (sym left)))
           (λ (late : many + 1 ≤ name).
           let none : length marks' - name * n ≡ 0 = nothing name late count l took.within in
           behind_all old now new sent marks marks' many count given gave.others took name (omega (arith, late))
-          ∙ sym (ap (λ k. member_after (member_in old name) (take k sent)) none ∙ member_after-none (member_in old name)))
+          ∙ sym (ap (λ k. member_after (member_in old name) (take k sent)) none ∙ member_after-none
+          (member_in old name)))
           (cases_lt name (many + 1)))
           (cases_lt name many);
       mark = λ name j s at there.
           ⊎_elim
-          (λ (h : name < many). mark_before old now new sent marks marks' many count given gave.others took name j s at h)
+          (λ (h : name < many).
+          mark_before old now new sent marks marks' many count given gave.others took name j s at h)
           (λ (h : many ≤ name).
           ⊎_elim
           (λ (own : name < many + 1).

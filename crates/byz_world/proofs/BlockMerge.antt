@@ -276,7 +276,8 @@ take_more (x ∷ block) (suc j) s at = ap (take-more-by x block) next ∙ ap (λ
     next : suc j + 1 ≡ suc (j + 1)
     next = omega arith
 
-module _ (w : WorldValue) (first count : ℕ) (block : List Sent) (marks : List Mark) (is : IsMarked w first count block marks)
+module _ (w : WorldValue) (first count : ℕ) (block : List Sent) (marks : List Mark)
+    (is : IsMarked w first count block marks)
     (number name : ℕ) (s : Sent) (at : slice_get block number ≡ Some s) (inside : name < w.config.roles.sizes.nodes)
     (order : List ℕ) (sent : List Sent) (m : Merged w first count block marks number name order sent) where
   abbrev n : ℕ
@@ -429,7 +430,8 @@ module _ (w : WorldValue) (first count : ℕ) (block : List Sent) (marks : List 
     order_now =
         (λ i. m.order_is i ++ noted_names name (marked i))
         ∙ ap (λ ns. names m.run ++ ns)
-        (names_are W cluster K name s there pooled room (is_correct_in w name) (counts_now w.config m.run (packet_of s.0 name s.1))
+        (names_are W cluster K name s there pooled room (is_correct_in w name)
+        (counts_now w.config m.run (packet_of s.0 name s.1))
         refl refl past (node_due w name) none_due some_due)
         ∙ sym (names-append m.run (added W K))
 
@@ -456,7 +458,8 @@ module _ (w : WorldValue) (first count : ℕ) (block : List Sent) (marks : List 
         let C : ℕ → Type 0 = λ j. is_correct_in w j ≡ true in
         let correct' : C name = subst C (sym same) correct in
         subst P same
-        (own_history W cluster K name s there pooled room (counts_now w.config m.run (packet_of s.0 name s.1)) correct' refl
+        (own_history W cluster K name s there pooled room (counts_now w.config m.run
+        (packet_of s.0 name s.1)) correct' refl
         (node_in w name) past (own_takes correct')
         ∙ ap (λ (x : NodeValue). x.history) (sym (after_takes-push (node_in w name) past s))
         ∙ ap (λ xs. (after_takes (node_in w name) xs).history) (sym (take_more block number s at))
@@ -471,7 +474,8 @@ module _ (w : WorldValue) (first count : ℕ) (block : List Sent) (marks : List 
       order_is = order_now;
       sent_is = sent_now;
       each = λ k correct. each_now k correct (name == k) refl;
-      prolonged = subst (IsProlonged w) stepped (prolonged_more w W (after_step W (Give K)) m.prolonged (give_prolongs W K));
+      prolonged = subst (IsProlonged w) stepped (prolonged_more w W (after_step W (Give K)) m.prolonged
+          (give_prolongs W K));
       few = omega (arith, m.few, length-append sent (noted_messages name s.1 mark), few_messages name s.1 mark);
       due = λ all.
           let f : ℕ = first * n in
@@ -508,27 +512,31 @@ merged_row : (w : WorldValue) (first count : ℕ) (block : List Sent) (marks : L
     Merged w first count block marks number name (order ++ row_names (mark_of_row marks count number) name)
     (sent ++ row_messages (mark_of_row marks count number) s.1 name)
 merged_row w first count block marks is number s at order sent m zero few =
-    let row = mark_of_row marks count number in
+    let at_each = mark_of_row marks count number in
     let M : List ℕ → List Sent → Type 0 = λ o x. Merged w first count block marks number 0 o x in
-    let o : order ≡ order ++ row_names row 0 = sym (ap (λ ns. order ++ ns) (row_names-none row) ∙ append-nil order) in
-    let x : sent ≡ sent ++ row_messages row s.1 0 =
-    sym (ap (λ ms. sent ++ ms) (row_messages-none row s.1) ∙ append-nil sent) in
-    subst (M (order ++ row_names row 0)) x (subst (λ ns. M ns sent) o m)
+    let o : order ≡ order ++ row_names at_each 0 = sym (ap (λ ns. order ++ ns) (row_names-none at_each)
+    ∙ append-nil order) in
+    let x : sent ≡ sent ++ row_messages at_each s.1 0 =
+    sym (ap (λ ms. sent ++ ms) (row_messages-none at_each s.1) ∙ append-nil sent) in
+    subst (M (order ++ row_names at_each 0)) x (subst (λ ns. M ns sent) o m)
 merged_row w first count block marks is number s at order sent m (suc name) few =
-    let row = mark_of_row marks count number in
+    let at_each = mark_of_row marks count number in
     let before = merged_row w first count block marks is number s at order sent m name (omega (arith, few)) in
     let next = merged_next w first count block marks is number name s at (omega (arith, few)) _ _ before in
-    let said : List Sent = (sent ++ row_messages row s.1 name) ++ noted_messages name s.1 (row name) in
-    let o : (order ++ row_names row name) ++ noted_names name (row name) ≡ order ++ row_names row (name + 1) =
-    append_assoc order (row_names row name) _ ∙ ap (λ ns. order ++ ns) (sym (row_names-next row name)) in
-    let x : (sent ++ row_messages row s.1 name) ++ noted_messages name s.1 (row name)
-    ≡ sent ++ row_messages row s.1 (name + 1) =
-    append_assoc sent (row_messages row s.1 name) _ ∙ ap (λ ms. sent ++ ms) (sym (row_messages-next row s.1 name)) in
+    let said : List Sent = (sent ++ row_messages at_each s.1 name) ++ noted_messages name s.1 (at_each name) in
+    let o : (order ++ row_names at_each name) ++ noted_names name (at_each name) ≡ order ++ row_names at_each
+    (name + 1) =
+    append_assoc order (row_names at_each name) _ ∙ ap (λ ns. order ++ ns) (sym (row_names-next at_each name)) in
+    let x : (sent ++ row_messages at_each s.1 name) ++ noted_messages name s.1 (at_each name)
+    ≡ sent ++ row_messages at_each s.1 (name + 1) =
+    append_assoc sent (row_messages at_each s.1 name) _ ∙ ap (λ ms. sent ++ ms)
+    (sym (row_messages-next at_each s.1 name)) in
     let M : List ℕ → List Sent → Type 0 = λ o' x'. Merged w first count block marks number (name + 1) o' x' in
-    let moved : M (order ++ row_names row (name + 1)) (sent ++ row_messages row s.1 (name + 1)) =
-    subst (M (order ++ row_names row (name + 1))) x (subst (λ ns. M ns said) o next) in
+    let moved : M (order ++ row_names at_each (name + 1)) (sent ++ row_messages at_each s.1 (name + 1)) =
+    subst (M (order ++ row_names at_each (name + 1))) x (subst (λ ns. M ns said) o next) in
     let same : name + 1 ≡ suc name = omega arith in
-    subst (λ k. Merged w first count block marks number k (order ++ row_names row k) (sent ++ row_messages row s.1 k))
+    subst (λ k. Merged w first count block marks number k (order ++ row_names at_each k)
+    (sent ++ row_messages at_each s.1 k))
     same moved
 
 -- .. of all nodes
@@ -547,8 +555,10 @@ merged_whole w first count block marks number order sent m =
           let was : nat_lt k n ≡ true = grind (arith, nat_tests) in
           let now : nat_lt k 0 ≡ false = grind (arith, nat_tests) in
           m.each k correct
-          ∙ ap (λ b. (after_takes (node_in w k) (take (given_to (length marks - k * count) number b) block)).history) was
-          ∙ ap (λ b. (after_takes (node_in w k) (take (given_to (length marks - k * count) (number + 1) b) block)).history)
+          ∙ ap (λ b. (after_takes (node_in w k) (take (given_to
+          (length marks - k * count) number b) block)).history) was
+          ∙ ap (λ b. (after_takes (node_in w k) (take (given_to (length marks - k * count)
+          (number + 1) b) block)).history)
           (sym now);
       prolonged = m.prolonged;
       few = omega (arith, m.few, index);
@@ -583,12 +593,14 @@ merged_block w first count block marks is behind same order sent m (suc number) 
     let said : List Sent = (sent ++ said_before) ++ row_messages row one.0.1 n in
     let o : (order ++ names_before) ++ row_names row n ≡ order ++ block_names marks count n (number + 1) =
     append_assoc order names_before _ ∙ ap (λ ns. order ++ ns) (sym (block_names-next marks count n number)) in
-    let x : (sent ++ said_before) ++ row_messages row one.0.1 n ≡ sent ++ block_messages marks behind count n (number + 1) =
+    let x : (sent ++ said_before) ++ row_messages row one.0.1 n ≡ sent ++ block_messages marks behind count n
+    (number + 1) =
     append_assoc sent said_before _
     ∙ ap (λ ms. sent ++ ms)
     (sym (block_messages-next marks behind count n number one.0 (same number one.0 one.1))) in
     let M : List ℕ → List Sent → Type 0 = λ o' x'. Merged w first count block marks (number + 1) 0 o' x' in
-    let moved : M (order ++ block_names marks count n (number + 1)) (sent ++ block_messages marks behind count n (number + 1)) =
+    let moved : M (order ++ block_names marks count n (number + 1))
+    (sent ++ block_messages marks behind count n (number + 1)) =
     subst (M (order ++ block_names marks count n (number + 1))) x (subst (λ ns. M ns said) o next) in
     let same' : number + 1 ≡ suc number = omega arith in
     subst (λ k. Merged w first count block marks k 0 (order ++ block_names marks count n k)

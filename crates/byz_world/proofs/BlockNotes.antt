@@ -48,7 +48,8 @@ pub row_names-few : (marks : ℕ → Option Mark) (name : ℕ) → length (row_n
 row_names-few marks zero = omega (arith, ap length (row_names-none marks))
 row_names-few marks (suc name) =
     let next : suc name ≡ name + 1 = omega arith in
-    let long : length (row_names marks (suc name)) ≡ length (row_names marks name) + length (noted_names name (marks name))
+    let long : length (row_names marks (suc name)) ≡ length (row_names marks name) + length
+    (noted_names name (marks name))
     = ap (λ n. length (row_names marks n)) next ∙ ap length (row_names-next marks name)
     ∙ length-append (row_names marks name) (noted_names name (marks name)) in
     omega (arith, long, row_names-few marks name, few_names name (marks name))
@@ -119,7 +120,8 @@ pub noted_more : {A : Type 0} {before now : List A} {room capacity : ℕ} {noted
     (now' : List A) (capacity' : ℕ) (more noted' : List A) (most' : ℕ) → IsNoted before now room capacity noted most →
     now' ≡ now ++ more → capacity' ≡ capacity → noted' ≡ noted ++ more → length noted' ≤ most' →
     IsNoted before now' room capacity' noted' most'
-noted_more {A} {before} {now} {room} {capacity} {noted} {most} now' capacity' more noted' most' was items same longer few
+noted_more {A} {before} {now} {room} {capacity} {noted} {most} now' capacity' more noted' most' was items same longer
+    few
     = record {
       items = items ∙ ap (λ xs. xs ++ more) was.items ∙ append_assoc before noted more
           ∙ ap (λ xs. before ++ xs) (sym longer);

@@ -65,7 +65,8 @@ run_of_names h past (pair ∷ rest) own =
     ∙ ap (λ es. history_of name past ++ es) (history_of-own name e rest) in
     let next : next_event h (names past) name ≡ Some (name, e) =
     ap (option_map (λ x. (name, x)))
-    ((λ i. slice_get (whole i) (names-times name past i)) ∙ slice_get-seam (history_of name past) (history_of name rest) e) in
+    ((λ i. slice_get (whole i) (names-times name past i)) ∙ slice_get-seam (history_of name past)
+    (history_of name rest) e) in
     let past_is : names step ≡ names past ++ name ∷ [] =
     names-append past (pair ∷ []) ∙ ap (λ ns. names past ++ ns) (names-one pair) in
     let later = run_of_names h step rest

@@ -24,7 +24,8 @@ pub marks_due-push : (node : NodeValue) (sent : List Sent) (s : Sent) →
     marks_due node (sent ++ s ∷ []) ≡ marks_due node sent ++ mark_due (after_takes node sent) s ∷ []
 unfolding after_takes marks_due
 marks_due-push node [] s = refl
-marks_due-push node (first ∷ sent) s = ap (λ ms. mark_due node first ∷ ms) (marks_due-push (after_take node first) sent s)
+marks_due-push node (first ∷ sent) s = ap (λ ms. mark_due node first ∷ ms)
+    (marks_due-push (after_take node first) sent s)
 
 marks_due-length : (node : NodeValue) (sent : List Sent) → length (marks_due node sent) ≡ length sent
 unfolding marks_due
@@ -66,7 +67,8 @@ marks_due-at node [] j s at = absurd cc
 marks_due-at node (first ∷ sent) zero s at = let same : first ≡ s = cc in ap (λ x. Some (mark_due node x)) same
 marks_due-at node (first ∷ sent) (suc j) s at = marks_due-at (after_take node first) sent j s at
 
-passed-at : (sent : List Sent) (j : ℕ) (s : Sent) → slice_get sent j ≡ Some s → slice_get (all_passed sent) j ≡ Some Passed
+passed-at : (sent : List Sent) (j : ℕ) (s : Sent) → slice_get sent j ≡ Some s → slice_get
+    (all_passed sent) j ≡ Some Passed
 unfolding all_passed
 passed-at [] j s at = absurd cc
 passed-at (first ∷ sent) zero s at = refl

@@ -176,7 +176,8 @@ module _ (config : ConfigValue) (liars : Nodes) (members : Members) (order : Lis
 
 -- As the code has it.
 
-at_block : (sent : List Sent) (first count : ℕ) (j : ℕ) (s : Sent) → slice_get (take count (drop first sent)) j ≡ Some s →
+at_block : (sent : List Sent) (first count : ℕ) (j : ℕ) (s : Sent) → slice_get
+    (take count (drop first sent)) j ≡ Some s →
     slice_get (drop first sent) j ≡ Some s
 at_block sent first count j s at =
     let within : j < count = at_below count (drop first sent) j s at in
@@ -195,7 +196,8 @@ pub block_given : (config : ConfigValue) (liars : Nodes) (members : Members) (or
     order' ≡ order ++ block_names marks count config.roles.sizes.nodes count →
     sent' ≡ sent ++ block_messages marks (drop first sent) count config.roles.sizes.nodes count →
     HasMerged config liars w first count (length marks) members' order' sent'
-block_given config liars members order sent w first count marks members' order' sent' is same may given order_is sent_is =
+block_given config liars members order sent w first count marks members' order' sent' is same may given order_is
+    sent_is =
     let start : WorldValue = world_in config liars members order in
     let may' : IsBlock start first count = subst (λ v. IsBlock v first count) (sym same) may in
     let block : List Sent = take count (drop first sent) in
@@ -250,7 +252,8 @@ divided x n = omega (arith, mod-add-div' x n)
 
 pub block_starts : (w : WorldValue) (packet most count nodes pooled : ℕ) → 0 < w.config.roles.sizes.nodes →
     nodes ≡ w.config.roles.sizes.nodes → pooled ≡ length (pool w.config w.run) → packet < pooled → packet % nodes ≡ 0 →
-    count ≡ min (min (pooled - packet) most / nodes) block_most → pooled + (count * nodes + 1) * nodes ≤ w.config.limit →
+    count ≡ min (min (pooled - packet) most / nodes) block_most → pooled +
+    (count * nodes + 1) * nodes ≤ w.config.limit →
     StartsBlock w packet most count
 block_starts w packet most count nodes pooled some same all early begins is fits =
     let n : ℕ = w.config.roles.sizes.nodes in

@@ -196,7 +196,8 @@ fn note_message(
     requires number { block.1 < block.0 }
     requires order { vec_len order.old + sizes.now.nodes ≤ vec_capacity order.old }
     requires sent { vec_len sent.old + sizes.now.nodes ≤ vec_capacity sent.old }
-    ensures order { order.new.items ≡ order.old.items ++ row_names (mark_of_row marks.now block.0 block.1) sizes.now.nodes }
+    ensures order { order.new.items ≡ order.old.items
+        ++ row_names (mark_of_row marks.now block.0 block.1) sizes.now.nodes }
     ensures sent { sent.new.items ≡ sent.old.items
         ++ row_messages (mark_of_row marks.now block.0 block.1) message.now sizes.now.nodes }
     ensures order_room { vec_capacity order.new ≡ vec_capacity order.old }

@@ -310,8 +310,8 @@ fn some_given(world: &mut World, first: u32, most: u32) -> Result<u32, Fail> {
 }
 
 /// Packets from a number on, so many at most, and how many are given then, where node 0 has published four commands:
-/// their SENDs are too few packets to be given at once; the 64 ECHOs and the 64 READYs are not, from the first packet of
-/// one on, and where so many may be given.
+/// their SENDs are too few packets to be given at once; the 64 ECHOs and the 64 READYs are not, from the first packet
+/// of one on, and where so many may be given.
 static GIVEN: [(u32, u32, u32); 5] = [
     (17, 99, 1),
     (16, 63, 1),

@@ -155,8 +155,8 @@ impl World {
         }
     }
 
-    /// Gives packets of the pool, one after another from this number on, whatever comes of each: as many as may be given
-    /// at once, at least one, and at most `most`. How many they were.
+    /// Gives packets of the pool, one after another from this number on, whatever comes of each: as many as may be
+    /// given at once, at least one, and at most `most`. How many they were.
     ///
     /// # Errors
     ///

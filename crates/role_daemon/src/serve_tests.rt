@@ -50,8 +50,8 @@ where
     Ok(wrong)
 }
 
-/// What is wrong with a node alone, which serves and stops, and does not serve where another listens; nothing if nothing
-/// is.
+/// What is wrong with a node alone, which serves and stops, and does not serve where another listens; nothing if
+/// nothing is.
 fn one_node<R>(rt: &R, alloc: Global) -> Result<String, Fail>
 where
     R: Net<Listener = TcpListener, Stream = TcpStream> + Threads + Wait + Clock + Sync,

@@ -208,7 +208,8 @@ gave_many lab packet some none (suc count) h =
         (λ (over : packet ≤ j). with_many-inside lab.given packet count j over early)
         (cases_lt j packet)
 
-pub gives_many : (lab : Lab) (packet count : ℕ) (after : Lab) → next_number lab ≡ Some packet → NoneFrom lab.given packet →
+pub gives_many : (lab : Lab) (packet count : ℕ) (after : Lab) → next_number lab ≡ Some packet →
+    NoneFrom lab.given packet →
     packet + count ≤ pool_length lab.world → after.world ≡ after_gives lab.world packet count →
     after.given ≡ with_many lab.given packet count → GivesOn lab count after
 gives_many lab packet count after some none h world given =

@@ -10,8 +10,8 @@ use std::alloc::{AllocError, Global};
 /// Flags are added so many at a time.
 const PADDED: usize = 4096;
 
-/// The numbers that were given: all below `least`, and a flag for each that was given out of turn; and one behind all of
-/// these.
+/// The numbers that were given: all below `least`, and a flag for each that was given out of turn; and one behind all
+/// of these.
 #[derive(Drop)]
 pub struct Given {
     flags: Vec<bool>,

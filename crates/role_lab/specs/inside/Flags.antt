@@ -25,7 +25,8 @@ with_many given first (suc count) = with_number (with_many given first count) (f
 unfoldable pub gave_on : ℕ → Lab → Option Lab
 gave_on zero lab = Some lab
 gave_on (suc count) lab =
-    option_and_then (λ next. option_map (λ number. after_doing next (Give number)) (next_number next)) (gave_on count lab)
+    option_and_then (λ next. option_map (λ number. after_doing next (Give number)) (next_number next))
+    (gave_on count lab)
 
 abbrev pub GivesOn : Lab → ℕ → Lab → Type 0
 GivesOn lab count after = gave_on count lab ≡ Some after

@@ -33,7 +33,8 @@ loop-number-preserved c =
     dropped-at c.args.first sent number ∙ sym stays ∙ there in
     record {
       order_is = noted_more _ _ _ _ _ c.loop-number.invariant.order_is c.note_message.ensures.order
-          c.note_message.ensures.order_room (block_names-next c.args.marks.now c.args.count c.args.sizes.now.nodes number)
+          c.note_message.ensures.order_room
+          (block_names-next c.args.marks.now c.args.count c.args.sizes.now.nodes number)
           (block_names-few c.args.marks.now c.args.count c.args.sizes.now.nodes _);
       sent_is = noted_more _ _ _ _ _ c.loop-number.invariant.sent_is c.note_message.ensures.sent
           c.note_message.ensures.sent_room

@@ -13,5 +13,6 @@ returns-clause-block c some =
     c.sent_len-pooled.ensures.value
     (omega (arith, c.requires, c.sent_len-pooled.ensures.value)) c.if-packet-nodes-ne0.false
     (c.min-count.ensures ∙ ap (λ x. min (x / c.from-nodes.result) 64) c.min.ensures)
-    (subst (λ (v : WorldValue). c.sent_len-pooled.result + (c.min-count.result * c.from-nodes.result + 1) * c.from-nodes.result
+    (subst (λ (v : WorldValue). c.sent_len-pooled.result +
+    (c.min-count.result * c.from-nodes.result + 1) * c.from-nodes.result
     ≤ v.config.limit) c.self.view_is (omega (arith, c.if-limit-pooled.false, c.limit.ensures)))

@@ -24,7 +24,8 @@ merged c =
     subst (P count) (c.deref.ensures.value ∙ c.try_reserve-2.ensures.items)
     (subst (λ k. P k c.deref.result.now) long c.give_to_each-given.ensures.given) in
     let nodes : c.sizes-sizes.result.nodes ≡ a.config.roles.sizes.nodes =
-    ap (λ s. s.nodes) c.sizes-sizes.ensures.value ∙ ap (λ (w : WorldValue). w.config.roles.sizes.nodes) (sym c.self.view_is) in
+    ap (λ s. s.nodes) c.sizes-sizes.ensures.value ∙ ap (λ (w : WorldValue). w.config.roles.sizes.nodes)
+    (sym c.self.view_is) in
     block_given a.config a.liars a.members.items a.order.items a.sent.items c.args.self.now first count marks
     c.give_to_each-given.new.members.items c.note_block.new.order.items c.note_block.new.sent.items
     c.self.invariant.world c.self.view_is c.requires given
