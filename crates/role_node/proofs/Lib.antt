@@ -8,6 +8,7 @@ pub mod RefusalLemmas
 pub mod FieldLemmas
 pub mod LegalLemmas
 pub mod AscendingLemmas
+pub mod PackedLemmas
 pub mod PairLemmas
 pub mod ListedLemmas
 pub mod Exported

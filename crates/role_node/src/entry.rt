@@ -1,50 +1,119 @@
 //! The entries of a history, kept small.
 
-ghost use Rattle.std.specs.Prelude.{◌≡◌, ◌≤◌, ◌+◌, option_map};
+ghost use Rattle.std.specs.Prelude.{◌≡◌, ◌≤◌, ◌+◌, ◌^◌, ◌<◌, option_map};
+ghost use Rattle.link_frames.specs.Packets.{IsSound};
 ghost use Rattle.owner_streams.specs.Places.{window};
 ghost use Rattle.role_sessions.specs.declared.event.ClientEvent.{ClientEvent};
 ghost use Rattle.role_node.specs.Answers.{counted_reply};
-ghost use Rattle.role_node.specs.inside.Entries.{IsOwn, said_for};
+ghost use Rattle.role_node.specs.inside.Entries.{IsOwn, kept_with, packet_with, reply_with, said_in, said_of, said_kind};
 ghost use Rattle.role_node.specs.declared.event.Event.{Event};
 ghost use Rattle.role_node.specs.declared.event.Reply.{Reply};
 
 use crate::event::{Event, Reply};
-use link_frames::{Kind, Message, Packet};
+use link_frames::{Kind, Message, Packet, Place};
 use owner_streams::StreamStep;
+use quorum_sizes::NodeName;
+use role_commands::Command;
 use role_sessions::ClientEvent;
 use std::marker::Model;
 
+/// What is kept of a counted packet and of its reply beside the places and the command. What was sent and delivered is
+/// the packet's command.
+#[derive(Clone, Copy, Debug)]
+struct Head {
+    from: NodeName,
+    to: NodeName,
+    owner: NodeName,
+    kind: Kind,
+    grown: u8,
+    send: Said,
+    delivered: bool,
+}
+
+/// The kind of what was sent, if anything: an `Option<Kind>` in one byte.
+#[derive(Clone, Copy, Debug)]
+enum Said {
+    Nothing,
+    Send,
+    Echo,
+    Ready,
+}
+
 /// What is kept of an event and its reply: of the reply only what the event doesn't tell.
-#[derive(Clone, Copy, Debug, PartialEq, Eq)]
+///
+/// A packet's command stands in it by its parts, so that an entry has 24 bytes and not 32.
+#[derive(Clone, Copy, Debug)]
 enum Kept {
+    /// A packet of this command, and what it caused.
+    Assign {
+        head: Head,
+        place: Place,
+        reach: u32,
+        role: u16,
+        user: u32,
+    },
+    Deassign {
+        head: Head,
+        place: Place,
+        reach: u32,
+        role: u16,
+        user: u32,
+    },
+    Grant {
+        head: Head,
+        place: Place,
+        reach: u32,
+        role: u16,
+        operation: u16,
+        object: u32,
+    },
+    Revoke {
+        head: Head,
+        place: Place,
+        reach: u32,
+        role: u16,
+        operation: u16,
+        object: u32,
+    },
+    Clear {
+        head: Head,
+        place: Place,
+        reach: u32,
+        role: u16,
+    },
     /// The SEND of a command that the node published.
     Issued(Message),
-    /// A packet, and what it caused. What was sent and delivered is the packet's command.
-    Taken {
-        packet: Packet,
-        from: u32,
-        grown: u8,
-        send: Option<Kind>,
-        delivered: bool,
-    },
     /// A session that opened, with its id.
     Opened {
         user: u32,
         session: u64,
     },
     /// What else a client did.
-    Acted(ClientEvent),
+    Activated {
+        role: u16,
+        user: u32,
+        session: u64,
+    },
+    Dropped {
+        role: u16,
+        user: u32,
+        session: u64,
+    },
+    Closed {
+        user: u32,
+        session: u64,
+    },
 }
 
 /// An event that a node recorded, and its reply.
 ///
 /// Contracts see both. A history has millions of these, so each keeps of the reply only what the event doesn't tell.
-#[derive(Clone, Copy, Debug, PartialEq, Eq)]
+#[derive(Clone, Copy, Debug)]
 pub struct Entry {
     kept: Kept,
 }
 
-const _: () = prove!(size_of::<Entry>() == 32);
+const _: () = prove!(size_of::<Entry>() == 24);
 
 impl Model for Entry {
     ghost use Rattle.role_node.specs.Answers.{EntryValue};
@@ -81,18 +150,18 @@ impl Entry {
         requires few { step.now.to ≤ step.now.from + window }
         ensures { result ≡ record { event = Event.Take packet.now; reply = counted_reply packet.now step.now } }
     {
-        let send = match step.broadcast {
-            Some((kind, _)) => Some(kind),
-            None => None,
+        let message = packet.message();
+        let head = Head {
+            from: packet.from(),
+            to: packet.to(),
+            owner: message.owner,
+            kind: message.kind,
+            grown: (step.to - step.from) as u8,
+            send: Said::new(&step.broadcast),
+            delivered: step.delivered.is_some(),
         };
         Entry {
-            kept: Kept::Taken {
-                packet: *packet,
-                from: step.from,
-                grown: (step.to - step.from) as u8,
-                send,
-                delivered: step.delivered.is_some(),
-            },
+            kept: head.with(message.place, step.from, message.command),
         }
     }
 
@@ -105,12 +174,38 @@ impl Entry {
         }
     }
 
-    /// The entry of a client's act that is done.
-    pub(crate) fn acted(act: ClientEvent) -> Self
-        ensures { result ≡ record { event = Event.Client act; reply = Reply.Done } }
+    /// The entry of a role that became active in a session.
+    pub(crate) fn activated(session: u64, user: u32, role: u16) -> Self
+        ensures { result ≡ record { event = Event.Client (ClientEvent.Activate session user role); reply = Reply.Done } }
     {
         Entry {
-            kept: Kept::Acted(act),
+            kept: Kept::Activated {
+                role,
+                user,
+                session,
+            },
+        }
+    }
+
+    /// The entry of a role that is no longer active in a session.
+    pub(crate) fn dropped(session: u64, user: u32, role: u16) -> Self
+        ensures { result ≡ record { event = Event.Client (ClientEvent.DropRole session user role); reply = Reply.Done } }
+    {
+        Entry {
+            kept: Kept::Dropped {
+                role,
+                user,
+                session,
+            },
+        }
+    }
+
+    /// The entry of a session that ended.
+    pub(crate) fn closed(session: u64, user: u32) -> Self
+        ensures { result ≡ record { event = Event.Client (ClientEvent.Close session user); reply = Reply.Done } }
+    {
+        Entry {
+            kept: Kept::Closed { user, session },
         }
     }
 
@@ -119,10 +214,81 @@ impl Entry {
         ensures { result ≡ self.now.event }
     {
         match self.kept {
+            Kept::Assign {
+                head,
+                place,
+                role,
+                user,
+                ..
+            } => head.event(place, Command::Assign { user, role }),
+            Kept::Deassign {
+                head,
+                place,
+                role,
+                user,
+                ..
+            } => head.event(place, Command::Deassign { user, role }),
+            Kept::Grant {
+                head,
+                place,
+                role,
+                operation,
+                object,
+                ..
+            } => {
+                head.event(
+                    place,
+                    Command::Grant {
+                        role,
+                        operation,
+                        object,
+                    },
+                )
+            }
+            Kept::Revoke {
+                head,
+                place,
+                role,
+                operation,
+                object,
+                ..
+            } => {
+                head.event(
+                    place,
+                    Command::Revoke {
+                        role,
+                        operation,
+                        object,
+                    },
+                )
+            }
+            Kept::Clear {
+                head,
+                place,
+                role,
+                ..
+            } => head.event(place, Command::Clear { role }),
             Kept::Issued(send) => Event::Issue(send.command),
-            Kept::Taken { packet, .. } => Event::Take(packet),
             Kept::Opened { user, .. } => Event::Client(ClientEvent::Open { user }),
-            Kept::Acted(act) => Event::Client(act),
+            Kept::Activated {
+                role,
+                user,
+                session,
+            } => Event::Client(ClientEvent::Activate {
+                session,
+                user,
+                role,
+            }),
+            Kept::Dropped {
+                role,
+                user,
+                session,
+            } => Event::Client(ClientEvent::DropRole {
+                session,
+                user,
+                role,
+            }),
+            Kept::Closed { user, session } => Event::Client(ClientEvent::Close { session, user }),
         }
     }
 
@@ -132,38 +298,183 @@ impl Entry {
         ensures { result ≡ self.now.reply }
     {
         match self.kept {
+            Kept::Assign {
+                head,
+                place,
+                reach,
+                role,
+                user,
+            } => head.reply(place, reach, Command::Assign { user, role }),
+            Kept::Deassign {
+                head,
+                place,
+                reach,
+                role,
+                user,
+            } => { head.reply(place, reach, Command::Deassign { user, role }) }
+            Kept::Grant {
+                head,
+                place,
+                reach,
+                role,
+                operation,
+                object,
+            } => {
+                head.reply(
+                    place,
+                    reach,
+                    Command::Grant {
+                        role,
+                        operation,
+                        object,
+                    },
+                )
+            }
+            Kept::Revoke {
+                head,
+                place,
+                reach,
+                role,
+                operation,
+                object,
+            } => {
+                head.reply(
+                    place,
+                    reach,
+                    Command::Revoke {
+                        role,
+                        operation,
+                        object,
+                    },
+                )
+            }
+            Kept::Clear {
+                head,
+                place,
+                reach,
+                role,
+            } => head.reply(place, reach, Command::Clear { role }),
             Kept::Issued(send) => Reply::Issued(send),
-            Kept::Taken {
-                packet,
-                from,
-                grown,
-                send,
-                delivered,
-            } => Reply::Counted {
-                send: message_said(&packet, send),
-                delivered: if delivered {
-                    Some(packet.command())
-                } else {
-                    None
-                },
-                from,
-                to: from + u32::from(grown),
-            },
             Kept::Opened { session, .. } => Reply::Session(session),
-            Kept::Acted(_) => Reply::Done,
+            Kept::Activated { .. } | Kept::Dropped { .. } | Kept::Closed { .. } => Reply::Done,
         }
     }
 }
 
-/// The message of this kind, if any, for a packet's command.
-#[inline(always)]
-fn message_said(packet: &Packet, kind: Option<Kind>) -> Option<Message>
-    ensures { result ≡ option_map (said_for packet.now) kind }
-{
-    Some(Message {
-        kind: kind?,
-        owner: packet.owner(),
-        place: packet.place(),
-        command: packet.command(),
-    })
+impl Head {
+    /// What is kept of a packet at this place, of this command, with the first place that was new.
+    #[inline(always)]
+    fn with(self, place: Place, reach: u32, command: Command) -> Kept
+        ensures { result ≡ kept_with self place reach command }
+    {
+        let head = self;
+        match command {
+            Command::Assign { user, role } => Kept::Assign {
+                head,
+                place,
+                reach,
+                role,
+                user,
+            },
+            Command::Deassign { user, role } => Kept::Deassign {
+                head,
+                place,
+                reach,
+                role,
+                user,
+            },
+            Command::Grant {
+                role,
+                operation,
+                object,
+            } => Kept::Grant {
+                head,
+                place,
+                reach,
+                role,
+                operation,
+                object,
+            },
+            Command::Revoke {
+                role,
+                operation,
+                object,
+            } => Kept::Revoke {
+                head,
+                place,
+                reach,
+                role,
+                operation,
+                object,
+            },
+            Command::Clear { role } => Kept::Clear {
+                head,
+                place,
+                reach,
+                role,
+            },
+        }
+    }
+
+    /// The packet that was taken.
+    fn event(self, place: Place, command: Command) -> Event
+        requires { IsSound (packet_with self place command) }
+        ensures { result ≡ Event.Take (packet_with self place command) }
+    {
+        let message = Message {
+            kind: self.kind,
+            owner: self.owner,
+            place,
+            command,
+        };
+        Event::Take(Packet::new(self.from, self.to, message).unwrap())
+    }
+
+    /// What it caused.
+    #[inline(always)]
+    fn reply(self, place: Place, reach: u32, command: Command) -> Reply
+        requires { reach + self.grown < 2 ^ 32 }
+        ensures { result ≡ reply_with self place reach command }
+    {
+        Reply::Counted {
+            send: self.send.message(self.owner, place, command),
+            delivered: if self.delivered { Some(command) } else { None },
+            from: reach,
+            to: reach + u32::from(self.grown),
+        }
+    }
+}
+
+impl Said {
+    /// What is kept of a broadcast.
+    #[inline(always)]
+    fn new(broadcast: &Option<(Kind, Command)>) -> Self
+        ensures { result ≡ said_in broadcast.now }
+    {
+        match broadcast {
+            Some((Kind::Send, _)) => Said::Send,
+            Some((Kind::Echo, _)) => Said::Echo,
+            Some((Kind::Ready, _)) => Said::Ready,
+            None => Said::Nothing,
+        }
+    }
+
+    /// The message of this kind, if any.
+    #[inline(always)]
+    fn message(self, owner: NodeName, place: Place, command: Command) -> Option<Message>
+        ensures { result ≡ option_map (said_of owner place command) (said_kind self) }
+    {
+        let kind = match self {
+            Said::Nothing => return None,
+            Said::Send => Kind::Send,
+            Said::Echo => Kind::Echo,
+            Said::Ready => Kind::Ready,
+        };
+        Some(Message {
+            kind,
+            owner,
+            place,
+            command,
+        })
+    }
 }

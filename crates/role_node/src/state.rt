@@ -201,7 +201,7 @@ impl State {
                 role,
             } => {
                 self.sessions.activate(&self.policy, session, user, role)?;
-                Ok(Entry::acted(act))
+                Ok(Entry::activated(session, user, role))
             }
             ClientEvent::DropRole {
                 session,
@@ -209,11 +209,11 @@ impl State {
                 role,
             } => {
                 self.sessions.drop_role(session, user, role)?;
-                Ok(Entry::acted(act))
+                Ok(Entry::dropped(session, user, role))
             }
             ClientEvent::Close { session, user } => {
                 self.sessions.close(session, user)?;
-                Ok(Entry::acted(act))
+                Ok(Entry::closed(session, user))
             }
         }
     }
