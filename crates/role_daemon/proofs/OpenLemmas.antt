@@ -32,7 +32,7 @@ use Rattle.role_daemon.specs.declared.fault.ClusterFault.TheVariants.{NotJson}
 use Rattle.role_daemon.specs.declared.fault.PipeFault.{PipeFault}
 use Rattle.role_daemon.specs.declared.fault.PipeFault.TheVariants.{Cluster, Device, Memory}
 use Rattle.role_daemon.proofs.PipeLemmas.{answers_text-nil}
-use Rattle.role_daemon.proofs.RunLemmas.{HasBytes-kept}
+use Rattle.role_daemon.proofs.RunLemmas.{reads, HasBytes-kept}
 
 setup_due-long : (line : List ℕ) → most_text_bytes < length line → setup_due Pipe line ≡ Err NotJson
 unfolding setup_due
@@ -55,7 +55,8 @@ module _ (p q reader known : Option (List ℕ)) (front : List ℕ) (kept : Keeps
       )
 
   pub opened-line : (left : List ℕ) (n : ℕ) (node : NodeValue) → EndsAt front n → left ≡ drop (n + 1) front
-      → IsNodeOf (take n front) node → Opened p (prepend_known left known) reader (Ok (Some node))
+      → IsNodeOf (take n front) node
+      → Opened (reads p None) (reads (prepend_known left known) reader) (Ok (Some node))
   opened-line left n node (none, within, is) left_is made =
       let line = take n front in
       let behind = drop (n + 1) front in
@@ -66,14 +67,14 @@ module _ (p q reader known : Option (List ℕ)) (front : List ℕ) (kept : Keeps
       (line, none, subst (λ (l : List ℕ). Consumes p (prepend_known l known) (ended line)) (sym left_is) took, made)
 
   pub opened-refused_line : (n : ℕ) (e : PipeFault) → EndsAt front n → RefusesNode (take n front) e
-      → Opened p q reader (Err e)
+      → Opened (reads p None) (reads q reader) (Err e)
   opened-refused_line n (Cluster fault) at refused =
       let (rest, has, lines) = first_of n at in (front ++ rest, has, inr (take n front, _, lines, refused))
   opened-refused_line n Device at refused = tt
   opened-refused_line n Memory at refused = tt
 
   pub opened-last : (limit n : ℕ) (node : NodeValue) → Begins limit front (Last n) → IsAtEnd known → IsNodeOf front node
-      → Opened p q known (Ok None)
+      → Opened (reads p None) (reads q known) (Ok None)
   opened-last limit n node (none, all, some, short) end (setup, due, is) = (
     front,
     HasBytes-kept p _ _ kept (tail_at_end known front end),
@@ -84,7 +85,7 @@ module _ (p q reader known : Option (List ℕ)) (front : List ℕ) (kept : Keeps
 
   pub opened-refused_last : (limit n : ℕ) (e : PipeFault) → Begins limit front (Last n) → IsAtEnd known
       → RefusesNode front e
-      → Opened p q reader (Err e)
+      → Opened (reads p None) (reads q reader) (Err e)
   opened-refused_last limit n (Cluster fault) (none, all, some, short) end refused = (
     front,
     HasBytes-kept p _ _ kept (tail_at_end known front end),
@@ -93,14 +94,15 @@ module _ (p q reader known : Option (List ℕ)) (front : List ℕ) (kept : Keeps
   opened-refused_last limit n Device begun end refused = tt
   opened-refused_last limit n Memory begun end refused = tt
 
-  pub opened-end : front ≡ [] → IsAtEnd known → Opened p q reader (Err (Cluster NotJson))
+  pub opened-end : front ≡ [] → IsAtEnd known → Opened (reads p None) (reads q reader) (Err (Cluster NotJson))
   opened-end none end = (
     [],
     HasBytes-kept p _ _ kept (subst (HasBytes (prepend_known front known)) none (tail_at_end known front end)),
     inl (lines_of-nil, refl),
   )
 
-  pub opened-too_long : Begins most_text_bytes front TooLong → Opened p q reader (Err (Cluster NotJson))
+  pub opened-too_long : Begins most_text_bytes front TooLong
+      → Opened (reads p None) (reads q reader) (Err (Cluster NotJson))
   opened-too_long (long, none) =
       let (rest, has) = tail_of known front in
       let cut = take (most_text_bytes + 1) front in
@@ -121,9 +123,11 @@ module _ (p q reader known : Option (List ℕ)) (front : List ℕ) (kept : Keeps
       )
 
 pub opened-fault : (p q reader : Option (List ℕ)) (f : AheadFault) (e : PipeFault) → e ≡ of_ahead_fault f
-    → Opened p q reader (Err e)
-opened-fault p q reader ahead.Device e is = subst (λ (e : PipeFault). Opened p q reader (Err e)) (sym is) tt
-opened-fault p q reader ahead.Memory e is = subst (λ (e : PipeFault). Opened p q reader (Err e)) (sym is) tt
+    → Opened (reads p None) (reads q reader) (Err e)
+opened-fault p q reader ahead.Device e is =
+    subst (λ (f : PipeFault). Opened (reads p None) (reads q reader) (Err f)) (sym is) tt
+opened-fault p q reader ahead.Memory e is =
+    subst (λ (f : PipeFault). Opened (reads p None) (reads q reader) (Err f)) (sym is) tt
 
 -- the node of a text that is not refused
 pub made_node : (text : List ℕ) (setup : Setup) (node : NodeValue) → IsDueOrMemory (setup_due Pipe text) (Ok setup)
@@ -171,7 +175,7 @@ module _ (known p : Option (List ℕ)) (front first : List ℕ) (node : NodeValu
 
   -- the first line, and then client lines
   pub whole_run : (reader a c : Option (List ℕ)) (result : Result (Unit {0}) PipeFault)
-      → LinesRan node p reader a c result
+      → LinesRan node (devices p a) (devices reader c) result
       → PipeRan (devices known a) (devices reader c) result
   whole_run reader a c (Ok x) (input, has, end, wrote) = (
     ended first ++ input,
@@ -189,7 +193,7 @@ module _ (known p : Option (List ℕ)) (front first : List ℕ) (node : NodeValu
   whole_run reader a c (Err Device) ran = front_is a c ran
   whole_run reader a c (Err Memory) ran = front_is a c ran
 
-  pub whole_endless : (reader a c : Option (List ℕ)) → LinesEndless node p a c
+  pub whole_endless : (reader a c : Option (List ℕ)) → LinesEndless node (devices p a) (devices reader c)
       → IsEndless (devices known a) (devices reader c)
   whole_endless reader a c (input, left, read, many, wrote) = (
     ended first ++ input,
@@ -204,7 +208,7 @@ module _ (known p reader a : Option (List ℕ)) (front : List ℕ) (none_ahead :
   known_has input has = subst (λ (k : Option (List ℕ)). HasBytes k input) (known_is known front none_ahead) has
 
   -- there is no line behind the first
-  pub alone : Opened (prepend_known front known) p reader (Ok None)
+  pub alone : Opened (reads (prepend_known front known) known) (reads p reader) (Ok None)
       → PipeRan (devices known a) (devices reader a) (Ok tt)
   unfolding pipe_text opening_fault
   alone (first, has, lines, end, (setup, due)) =
@@ -218,7 +222,7 @@ module _ (known p reader a : Option (List ℕ)) (front : List ℕ) (none_ahead :
       )
 
   -- the first line sets up no node, or it was not read
-  pub not_opened : (e : PipeFault) → Opened (prepend_known front known) p reader (Err e)
+  pub not_opened : (e : PipeFault) → Opened (reads (prepend_known front known) known) (reads p reader) (Err e)
       → PipeRan (devices known a) (devices reader a) (Err e)
   unfolding opening_fault
   not_opened (Cluster fault) (input, has, inl (none, is)) =

@@ -9,6 +9,7 @@ use Rattle.link_frames.specs.Watching.{Tally}
 use Rattle.link_frames.specs.Devices.{WentOn, CallFailed, AppendsFront}
 use Rattle.link_frames.specs.Lines.{line_end, lines_of, ended}
 use Rattle.link_frames.specs.LinePrograms.{text_by, HasBytes, WroteFront}
+use Rattle.link_frames.specs.LinesAt.{Lines, devices}
 use Rattle.link_frames.specs.Nexts.{Begins, EndsAt, PassedLine}
 use Rattle.link_frames.specs.declared.next.Next.TheVariants.{TooLong, Last}
 use Rattle.link_frames.proofs.Exported.{lines_of-line, lines_of-last, Consumes-front}
@@ -20,7 +21,7 @@ use Rattle.client_lines.specs.Requests.{most_line_bytes}
 use Rattle.client_lines.specs.declared.answer.ClientAnswer.TheVariants.{BadLine}
 use Rattle.client_lines.specs.declared.fault.LineFault.TheVariants.{NotJson}
 use Rattle.role_daemon.specs.Pipes.{stops, line_text, after_line, going_on, one_stops, stop_text, answers_text}
-use Rattle.role_daemon.specs.Steps.{client_text, Answered, LinesRan, LinesEndless, Finished}
+use Rattle.role_daemon.specs.Steps.{client_text, Answering, Answered, LinesRan, LinesEndless, Finished}
 use Rattle.role_daemon.specs.declared.fault.PipeFault.{PipeFault}
 use Rattle.role_daemon.specs.declared.fault.PipeFault.TheVariants.{Device, Memory}
 use Rattle.link_frames.proofs.Exported.{nothing_left}
@@ -28,6 +29,10 @@ use Rattle.role_daemon.proofs.PipeLemmas.{goes_on, any_number, client_text-nil, 
 use Rattle.role_daemon.proofs.PipeLemmas.{one_stops-stop, long_text, long_goes_on, long_changes_nothing}
 
 -- ---- the bytes that are left
+
+-- these bytes are not used yet, and these of them the device has left; nothing is known of what was written
+abbrev pub reads : Option (List ℕ) → Option (List ℕ) → Lines
+reads unread at_device = record { unread = unread; at_device = at_device; written = None }
 
 pub HasBytes-kept : (p q : Option (List ℕ)) (input : List ℕ) → Keeps p q → HasBytes q input → HasBytes p input
 HasBytes-kept p q input kept has = HasBytes-done p q [] input (Consumes-kept p p q [] (Consumes-nil p) kept) has
@@ -42,13 +47,16 @@ end_behind (Some xs) front end = no_more front xs end
 
 -- ---- one more line
 
+abbrev holds : NodeValue → List ℕ → Answering
+holds node held = record { node = node; held = held }
+
 -- a line with its end was answered; whether it stops the node
 pub line_answered : (p known reader : Option (List ℕ)) (front left : List ℕ) (n : ℕ) (old new : NodeValue)
     (held more : List ℕ)
     (stopped : Bool) → Keeps p (prepend_known front known) → EndsAt front n
     → left ≡ drop (n + 1) front → stopped ≡ stops old (take n front)
     → new ≡ after_line old (take n front) → more ≡ held ++ ended (line_text old (take n front))
-    → Answered p (prepend_known left known) reader old new held more (not stopped)
+    → Answered (reads p None) (reads (prepend_known left known) reader) (holds old held) (holds new more) (not stopped)
 line_answered p known reader front left n old new held more false kept (none, within, is) left_is so after grown =
     let line = take n front in
     let behind = drop (n + 1) front in
@@ -81,7 +89,8 @@ line_answered p known reader front left n old new held more true kept (none, wit
 pub last_answered : (p q known : Option (List ℕ)) (front : List ℕ) (limit n : ℕ) (old new : NodeValue)
     (held more : List ℕ)
     → Keeps p (prepend_known front known) → Begins limit front (Last n) → IsAtEnd known
-    → more ≡ held ++ ended (line_text old front) → Answered p q known old new held more false
+    → more ≡ held ++ ended (line_text old front)
+    → Answered (reads p None) (reads q known) (holds old held) (holds new more) false
 last_answered p q known front limit n old new held more kept (none, all, some, short) end grown =
     let last = lines_of-last front none (omega (arith, all, some)) in (
       front,
@@ -93,7 +102,7 @@ last_answered p q known front limit n old new held more kept (none, all, some, s
 -- nothing is left
 pub end_answered : (p q known : Option (List ℕ)) (front : List ℕ) (old new : NodeValue) (held more : List ℕ)
     → Keeps p (prepend_known front known) → front ≡ [] → IsAtEnd known → more ≡ held
-    → Answered p q known old new held more false
+    → Answered (reads p None) (reads q known) (holds old held) (holds new more) false
 end_answered p q known front old new held more kept none end same = (
   [],
   HasBytes-kept p _ _ kept (subst (HasBytes (prepend_known front known)) none (tail_at_end known front end)),
@@ -106,7 +115,7 @@ pub long_answered : (p q known reader : Option (List ℕ)) (ahead front : List �
     (held more : List ℕ)
     (had_end : Bool) → Keeps p q → PassedLine front q (prepend_known ahead known) had_end
     → Begins most_line_bytes front TooLong → new ≡ node → more ≡ held ++ ended (answer_text (BadLine NotJson))
-    → Answered p (prepend_known ahead known) known node new held more had_end
+    → Answered (reads p None) (reads (prepend_known ahead known) known) (holds node held) (holds new more) had_end
 long_answered p q known reader ahead front node new held more true kept passed long same grown =
     let far = passed.long most_line_bytes long in (
       passed.line,
@@ -147,11 +156,11 @@ text_front start k a c (input, has, (front, rest, is, wrote)) =
     (input, has, (front, rest ++ stop, ap (λ t. t ++ stop) is ∙ append_assoc front rest stop, wrote))
 
 pub LinesRan-fault : (start : NodeValue) (k reader a c : Option (List ℕ)) (e : PipeFault) → (e ≡ Device) ⊎ (e ≡ Memory)
-    → WroteFront (client_text start) k a c → LinesRan start k reader a c (Err e)
+    → WroteFront (client_text start) k a c → LinesRan start (devices k a) (devices reader c) (Err e)
 LinesRan-fault start k reader a c e (inl is) wrote =
-    subst (λ (f : PipeFault). LinesRan start k reader a c (Err f)) (sym is) wrote
+    subst (λ (f : PipeFault). LinesRan start (devices k a) (devices reader c) (Err f)) (sym is) wrote
 LinesRan-fault start k reader a c e (inr is) wrote =
-    subst (λ (f : PipeFault). LinesRan start k reader a c (Err f)) (sym is) wrote
+    subst (λ (f : PipeFault). LinesRan start (devices k a) (devices reader c) (Err f)) (sym is) wrote
 
 module _ {start node : NodeValue} {k p a b : Option (List ℕ)} {held : List ℕ} {number : ℕ}
     (ran : Ran going_on start k p a b held node number) where
@@ -168,7 +177,8 @@ module _ {start node : NodeValue} {k p a b : Option (List ℕ)} {held : List ℕ
 
   -- one more line was answered
   pub Ran-more : (q reader : Option (List ℕ)) (new : NodeValue) (more : List ℕ)
-      → Answered p q reader node new held more true → Ran going_on start k q a b more new (number + 1)
+      → Answered (reads p None) (reads q reader) (holds node held) (holds new more) true
+      → Ran going_on start k q a b more new (number + 1)
   Ran-more q reader new more (line, none, took, goes, after, grown) =
       let good = goes_on node line goes ∙ ap (λ (n : NodeValue). Some (n, line_text node line)) (sym after) in
       Ran-taken ran q line (line_text node line) more new none took good grown
@@ -183,8 +193,8 @@ module _ {start node : NodeValue} {k p a b : Option (List ℕ)} {held : List ℕ
   -- the run has ended, and what is held is written
   pub Lines-end : (c q reader : Option (List ℕ)) (new : NodeValue) (more shown : List ℕ) (result : Result (Unit
       {0}) PipeFault) (Failed : Type 0)
-      → Answered p q reader node new held more false → shown ≡ more → Finished b c shown (Ok tt) result Failed
-      → LinesRan start k reader a c result
+      → Answered (reads p None) (reads q reader) (holds node held) (holds new more) false → shown ≡ more
+      → Finished b c shown (Ok tt) result Failed → LinesRan start (devices k a) (devices reader c) result
   Lines-end c q reader new more shown result Failed (tail, has, end, grown) same finished =
       let input = ran.done ++ tail in
       let has_all = HasBytes-done k p ran.done tail ran.read has in
@@ -200,9 +210,9 @@ module _ {start node : NodeValue} {k p a b : Option (List ℕ)} {held : List ℕ
 
       by_end : (input : List ℕ) → HasBytes k input → client_text start input ≡ ran.sent ++ shown
           → (IsAtEnd reader ⊎ (one_stops start (lines_of input) ≡ true))
-          → Finished b c shown (Ok tt) result Failed → LinesRan start k reader a c result
+          → Finished b c shown (Ok tt) result Failed → LinesRan start (devices k a) (devices reader c) result
       by_end input has_all whole ended_so (inl (is, wrote)) =
-          subst (LinesRan start k reader a c) (sym is) (
+          subst (LinesRan start (devices k a) (devices reader c)) (sym is) (
             input,
             has_all,
             ended_so,
@@ -210,7 +220,7 @@ module _ {start node : NodeValue} {k p a b : Option (List ℕ)} {held : List ℕ
                 (Appends-trans a b c ran.sent shown ran.wrote wrote),
           )
       by_end input has_all whole ended_so (inr (is, (front, rest, parts, wrote), failed)) =
-          subst (LinesRan start k reader a c) (sym is) (
+          subst (LinesRan start (devices k a) (devices reader c)) (sym is) (
             input,
             has_all,
             (
@@ -225,14 +235,16 @@ module _ {start node : NodeValue} {k p a b : Option (List ℕ)} {held : List ℕ
   -- there is no number for another line, or memory is wanting
   pub Lines-out : (c reader : Option (List ℕ)) (shown : List ℕ) (e : PipeFault) (result : Result (Unit {0}) PipeFault)
       (Failed : Type 0) → (e ≡ Device) ⊎ (e ≡ Memory) → shown ≡ held → Finished b c shown (Err e) result Failed
-      → LinesRan start k reader a c result
+      → LinesRan start (devices k a) (devices reader c) result
   Lines-out c reader shown e result Failed kind same (inl (is, wrote)) =
-      subst (LinesRan start k reader a c) (sym is) (LinesRan-fault start k reader a c e kind
+      subst (LinesRan start (devices k a) (devices reader c)) (sym is) (LinesRan-fault start k reader a c e kind
       (Lines-front c (AppendsFront-whole b c held (subst (Appends b c) same wrote))))
   Lines-out c reader shown e result Failed kind same (inr (is, wrote, failed)) =
-      subst (LinesRan start k reader a c) (sym is) (Lines-front c (subst (AppendsFront b c) same wrote))
+      let front = Lines-front c (subst (AppendsFront b c) same wrote) in
+      subst (LinesRan start (devices k a) (devices reader c)) (sym is) front
 
-  pub Lines-endless : (c : Option (List ℕ)) → 2 ^ 64 - 1 ≤ number → Appends b c held → LinesEndless start k a c
+  pub Lines-endless : (c : Option (List ℕ)) → 2 ^ 64 - 1 ≤ number → Appends b c held
+      → LinesEndless start (devices k a) (devices p c)
   Lines-endless c many wrote =
       let text : client_text start ran.done ≡ ran.sent ++ held =
       ap (client_text start) (sym (append-nil ran.done)) ∙ run_text []

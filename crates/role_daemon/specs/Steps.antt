@@ -5,7 +5,8 @@ use Rattle.std.specs.Prelude.{◌∷◌, ◌++◌, length, ⊤, Option, None, So
 use Rattle.std.specs.Io.KnownBytes.{Consumes, Appends, IsAtEnd}
 use Rattle.link_frames.specs.Devices.{AppendsFront}
 use Rattle.link_frames.specs.Lines.{lines_of, ended, NoLineEnd}
-use Rattle.link_frames.specs.LinePrograms.{HasBytes, WroteFront}
+use Rattle.link_frames.specs.LinePrograms.{HasBytes}
+use Rattle.link_frames.specs.LinesAt.{Lines, WroteFrontOf}
 use Rattle.link_frames.specs.declared.blocks.AheadFault.{AheadFault}
 use Rattle.link_frames.specs.declared.blocks.AheadFault.TheVariants as ahead
 use Rattle.role_node.specs.Nodes.{NodeValue}
@@ -33,19 +34,19 @@ RefusesNode first (Cluster fault) = setup_due Pipe first ≡ Err fault
 RefusesNode first Device = ⊥
 RefusesNode first Memory = ⊤
 
--- the first line was read, from the bytes that were left before to those that are left after
-abbrev pub Opened : Option (List ℕ) → Option (List ℕ) → Option (List ℕ) → Result (Option NodeValue) PipeFault → Type 0
-Opened before after reader (Ok (Some node)) =
-    (first : List ℕ) × NoLineEnd first × Consumes before after (ended first) × IsNodeOf first node
-Opened before after reader (Ok None) =
-    (first : List ℕ) × HasBytes before first × (lines_of first ≡ first ∷ []) × IsAtEnd reader
+-- The first line was read. It sets up a node; or it would, and no other line comes behind it; or it sets up none.
+abbrev pub Opened : Lines → Lines → Result (Option NodeValue) PipeFault → Type 0
+Opened old new (Ok (Some node)) =
+    (first : List ℕ) × NoLineEnd first × Consumes old.unread new.unread (ended first) × IsNodeOf first node
+Opened old new (Ok None) =
+    (first : List ℕ) × HasBytes old.unread first × (lines_of first ≡ first ∷ []) × IsAtEnd new.at_device
     × ((setup : Setup) × (setup_due Pipe first ≡ Ok setup))
-Opened before after reader (Err (Cluster fault)) =
-    (input : List ℕ) × HasBytes before input × ((lines_of input ≡ []) × (fault ≡ NotJson)
+Opened old new (Err (Cluster fault)) =
+    (input : List ℕ) × HasBytes old.unread input × ((lines_of input ≡ []) × (fault ≡ NotJson)
     ⊎ ((first : List ℕ) × (later : List (List ℕ)) × (lines_of input ≡ first ∷ later)
     × (setup_due Pipe first ≡ Err fault)))
-Opened before after reader (Err Device) = ⊤
-Opened before after reader (Err Memory) = ⊤
+Opened old new (Err Device) = ⊤
+Opened old new (Err Memory) = ⊤
 
 -- ---- client lines
 
@@ -53,32 +54,37 @@ Opened before after reader (Err Memory) = ⊤
 abbrev pub client_text : NodeValue → List ℕ → List ℕ
 client_text node input = answers_text node (lines_of input)
 
--- What comes next was answered: `more` lines may come, or the reader has ended or a line stopped the node.
-abbrev pub Answered : Option (List ℕ) → Option (List ℕ) → Option (List ℕ) → NodeValue → NodeValue → List ℕ
-    → List ℕ → Bool → Type 0
-Answered before after reader node_old node_new held_old held_new true =
-    (line : List ℕ) × NoLineEnd line × Consumes before after (ended line) × (stops node_old line ≡ false)
-    × (node_new ≡ after_line node_old line) × (held_new ≡ held_old ++ ended (line_text node_old line))
-Answered before after reader node_old node_new held_old held_new false =
-    (tail : List ℕ) × HasBytes before tail × (IsAtEnd reader ⊎ (one_stops node_old (lines_of tail) ≡ true))
-    × (held_new ≡ held_old ++ client_text node_old tail)
+-- a node that answers client lines, and the text of its answers that is held back
+pub record Answering : Type 0 where
+  pub node : NodeValue
+  pub held : List ℕ
 
--- what running client lines does
-abbrev pub LinesRan : NodeValue → Option (List ℕ) → Option (List ℕ) → Option (List ℕ) → Option (List ℕ)
-    → Result (Unit {0}) PipeFault → Type 0
-LinesRan node known reader writer_old writer_new (Ok _) =
-    (input : List ℕ) × HasBytes known input × (IsAtEnd reader ⊎ (one_stops node (lines_of input) ≡ true))
-    × Appends writer_old writer_new (client_text node input)
-LinesRan node known reader writer_old writer_new (Err (Cluster fault)) = ⊥
-LinesRan node known reader writer_old writer_new (Err Device) =
-    WroteFront (client_text node) known writer_old writer_new
-LinesRan node known reader writer_old writer_new (Err Memory) =
-    WroteFront (client_text node) known writer_old writer_new
+-- What comes next was answered: more lines may come, or the reader has ended or a line stopped the node.
+abbrev pub Answered : Lines → Lines → Answering → Answering → Bool → Type 0
+Answered old new before after true =
+    (line : List ℕ) × NoLineEnd line × Consumes old.unread new.unread (ended line) × (stops before.node line ≡ false)
+    × (after.node ≡ after_line before.node line) × (after.held ≡ before.held ++ ended (line_text before.node line))
+Answered old new before after false =
+    (tail : List ℕ) × HasBytes old.unread tail
+    × (IsAtEnd new.at_device ⊎ (one_stops before.node (lines_of tail) ≡ true))
+    × (after.held ≡ before.held ++ client_text before.node tail)
 
-abbrev pub LinesEndless : NodeValue → Option (List ℕ) → Option (List ℕ) → Option (List ℕ) → Type 0
-LinesEndless node known writer_old writer_new =
-    (input : List ℕ) × (left : Option (List ℕ)) × Consumes known left input × (2 ^ 64 - 2 ≤ length (lines_of input))
-    × Appends writer_old writer_new (client_text node input)
+-- What running client lines does. At the end the reader has ended or a line stopped the node, and the text that is due
+-- is written, and else a front of it.
+abbrev pub LinesRan : NodeValue → Lines → Lines → Result (Unit {0}) PipeFault → Type 0
+LinesRan node old new (Ok _) =
+    (input : List ℕ) × HasBytes old.unread input
+    × (IsAtEnd new.at_device ⊎ (one_stops node (lines_of input) ≡ true))
+    × Appends old.written new.written (client_text node input)
+LinesRan node old new (Err (Cluster fault)) = ⊥
+LinesRan node old new (Err Device) = WroteFrontOf (client_text node) old new
+LinesRan node old new (Err Memory) = WroteFrontOf (client_text node) old new
+
+-- so many lines were read that there is no number for another, and the text that is due for them was written
+abbrev pub LinesEndless : NodeValue → Lines → Lines → Type 0
+LinesEndless node old new =
+    (input : List ℕ) × (left : Option (List ℕ)) × Consumes old.unread left input
+    × (2 ^ 64 - 2 ≤ length (lines_of input)) × Appends old.written new.written (client_text node input)
 
 -- all that was held was written, or a front of it when the writer failed
 abbrev pub Finished : Option (List ℕ) → Option (List ℕ) → List ℕ → Result (Unit {0}) PipeFault

@@ -1,12 +1,12 @@
 //! The pipe: one node, whose clients speak in lines.
 
-ghost use Rattle.std.specs.Prelude.{◌≡◌, ◌≢◌, ◌++◌, ◌⊎◌, IfOk, IfErr, OnOk, OnErr, Err};
+ghost use Rattle.std.specs.Prelude.{◌≡◌, ◌≢◌, ◌++◌, ◌⊎◌, None, IfOk, IfErr, OnOk, OnErr, Err};
 ghost use Rattle.link_frames.specs.Watching.{watched_inner, watched_tally};
 ghost use Rattle.link_frames.specs.Devices.{WentOn, CallFailed, ReaderFailed};
 ghost use Rattle.link_frames.specs.Holding.{IsNotDue};
 ghost use Rattle.link_frames.specs.Lines.{ended};
-ghost use Rattle.link_frames.specs.LinesAt.{devices_at};
-ghost use Rattle.link_frames.specs.Aheads.{front_of, pending};
+ghost use Rattle.link_frames.specs.LinesAt.{devices_at, lines_at};
+ghost use Rattle.link_frames.specs.Aheads.{front_of};
 ghost use Rattle.client_lines.specs.Requests.{most_line_bytes};
 ghost use Rattle.role_daemon.specs.Pipes.{stops, line_text, after_line};
 ghost use Rattle.role_daemon.specs.Runs.{PipeRan, IsEndless};
@@ -62,8 +62,8 @@ fn open<R: Read>(
     ahead: &mut Ahead,
     reader: &mut Watched<R>,
 ) -> Result<Option<Node>, PipeFault>
-    ensures opened { Opened (pending (R.remaining (watched_inner reader.old)) ahead.old)
-        (pending (R.remaining (watched_inner reader.new)) ahead.new) (R.remaining (watched_inner reader.new)) result }
+    ensures opened { Opened (lines_at R.remaining reader.old ahead.old None)
+        (lines_at R.remaining reader.new ahead.new None) result }
     ensures device { IfErr result (λ e. e ≡ PipeFault.Device →
         ReaderFailed (watched_tally reader.old) (watched_tally reader.new)) }
     ensures quiet { result ≢ Err PipeFault.Device → WentOn (watched_tally reader.old) (watched_tally reader.new) }
@@ -103,14 +103,15 @@ fn answer_lines<R: Read, W: Write>(
     reader: &mut Watched<R>,
     writer: &mut Watched<W>,
 ) -> Result<(), PipeFault>
-    ensures ran { LinesRan node.old (pending (R.remaining (watched_inner reader.old)) ahead.old)
-        (R.remaining (watched_inner reader.new))
-        (W.contents (watched_inner writer.old)) (W.contents (watched_inner writer.new)) result }
+    ensures ran { LinesRan node.old
+        (lines_at R.remaining reader.old ahead.old (W.contents (watched_inner writer.old)))
+        (lines_at R.remaining reader.new ahead.new (W.contents (watched_inner writer.new))) result }
     ensures device { IfErr result (λ e. e ≡ PipeFault.Device →
         ReaderFailed (watched_tally reader.old) (watched_tally reader.new)
         ⊎ (CallFailed (watched_tally writer.old) (watched_tally writer.new)
-        ⊎ LinesEndless node.old (pending (R.remaining (watched_inner reader.old)) ahead.old)
-        (W.contents (watched_inner writer.old)) (W.contents (watched_inner writer.new)))) }
+        ⊎ LinesEndless node.old
+        (lines_at R.remaining reader.old ahead.old (W.contents (watched_inner writer.old)))
+        (lines_at R.remaining reader.new ahead.new (W.contents (watched_inner writer.new))))) }
     ensures quiet { result ≢ Err PipeFault.Device → WentOn (watched_tally reader.old) (watched_tally reader.new)
         × WentOn (watched_tally writer.old) (watched_tally writer.new) }
 {
@@ -139,9 +140,9 @@ fn answer_next<R: Read>(
     reader: &mut Watched<R>,
 ) -> Result<bool, PipeFault>
     requires due { IsNotDue most_line_bytes held.old (front_of ahead.old) }
-    ensures answered { IfOk result (Answered (pending (R.remaining (watched_inner reader.old)) ahead.old)
-        (pending (R.remaining (watched_inner reader.new)) ahead.new) (R.remaining (watched_inner reader.new))
-        node.old node.new held.old held.new) }
+    ensures answered { IfOk result (Answered (lines_at R.remaining reader.old ahead.old None)
+        (lines_at R.remaining reader.new ahead.new None)
+        (record { node = node.old; held = held.old }) (record { node = node.new; held = held.new })) }
     ensures device { IfErr result (λ e. e ≡ PipeFault.Device →
         ReaderFailed (watched_tally reader.old) (watched_tally reader.new)) }
     ensures kind { IfErr result (λ e. (e ≡ PipeFault.Device) ⊎ (e ≡ PipeFault.Memory)) }
