@@ -5,8 +5,10 @@ ghost use Rattle.link_frames.specs.Packets.{IsSound};
 ghost use Rattle.owner_streams.specs.Places.{window};
 ghost use Rattle.role_sessions.specs.declared.event.ClientEvent.{ClientEvent};
 ghost use Rattle.role_node.specs.Answers.{counted_reply};
-ghost use Rattle.role_node.specs.inside.Entries.{IsOwn, kept_with, packet_with, reply_with, said_in, said_of, said_kind};
+ghost use Rattle.role_node.specs.inside.Entries.{IsOwn, kept_with, packet_with, reply_with};
+ghost use Rattle.role_node.specs.inside.Entries.{said_in, said_of, said_kind};
 ghost use Rattle.role_node.specs.declared.event.Event.{Event};
+ghost use Rattle.role_node.specs.declared.event.Event.TheVariants.{Client};
 ghost use Rattle.role_node.specs.declared.event.Reply.{Reply};
 
 use crate::event::{Event, Reply};
@@ -167,7 +169,7 @@ impl Entry {
 
     /// The entry of a session that opened, with its id.
     pub(crate) fn opened(user: u32, session: u64) -> Self
-        ensures { result ≡ record { event = Event.Client (ClientEvent.Open user); reply = Reply.Session session } }
+        ensures { result ≡ record { event = Client (ClientEvent.Open user); reply = Reply.Session session } }
     {
         Entry {
             kept: Kept::Opened { user, session },
@@ -176,7 +178,7 @@ impl Entry {
 
     /// The entry of a role that became active in a session.
     pub(crate) fn activated(session: u64, user: u32, role: u16) -> Self
-        ensures { result ≡ record { event = Event.Client (ClientEvent.Activate session user role); reply = Reply.Done } }
+        ensures { result ≡ record { event = Client (ClientEvent.Activate session user role); reply = Reply.Done } }
     {
         Entry {
             kept: Kept::Activated {
@@ -189,7 +191,7 @@ impl Entry {
 
     /// The entry of a role that is no longer active in a session.
     pub(crate) fn dropped(session: u64, user: u32, role: u16) -> Self
-        ensures { result ≡ record { event = Event.Client (ClientEvent.DropRole session user role); reply = Reply.Done } }
+        ensures { result ≡ record { event = Client (ClientEvent.DropRole session user role); reply = Reply.Done } }
     {
         Entry {
             kept: Kept::Dropped {
@@ -202,7 +204,7 @@ impl Entry {
 
     /// The entry of a session that ended.
     pub(crate) fn closed(session: u64, user: u32) -> Self
-        ensures { result ≡ record { event = Event.Client (ClientEvent.Close session user); reply = Reply.Done } }
+        ensures { result ≡ record { event = Client (ClientEvent.Close session user); reply = Reply.Done } }
     {
         Entry {
             kept: Kept::Closed { user, session },
