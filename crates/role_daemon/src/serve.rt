@@ -1,8 +1,9 @@
 //! The node over TCP: frames of its peers, and lines of its clients.
 //!
-//! Each connection is served by a thread of its own, which is started when the connection comes and puts jobs into one
-//! inbox; four workers make their calls under the node's lock. A worker has no thread: whoever put jobs does them with
-//! an idle worker, and what is left is done by threads that wait for it. A thread that waits sleeps.
+//! One thread takes the frames of all peers. Each client is served by a thread of its own, which is started when its
+//! connection comes. All put jobs into one inbox; four workers make their calls under the node's lock. A worker has no
+//! thread: whoever put jobs does them with an idle worker, and what is left is done by threads that wait for it. A
+//! thread that waits sleeps.
 
 ghost use Rattle.std.specs.Prelude.{◌≡◌, length, IfOk};
 ghost use Rattle.role_daemon.specs.Linked.{ring_of};
@@ -15,13 +16,15 @@ mod connection;
 #[cfg(test)]
 mod connection_tests;
 mod crew;
-mod frames;
+mod frame_jobs;
 #[cfg(test)]
 mod idle_tests;
 mod job_queue;
 mod last_writes;
 mod links;
 mod outbox;
+mod peer;
+mod peers;
 mod senders;
 mod shared;
 mod task;
@@ -30,14 +33,15 @@ mod workers;
 
 use crate::cluster::Setup;
 use crate::fault::ServeFault;
-use accept::Side;
-use caller::{MOST_CLIENTS, MOST_PEERS};
+use caller::MOST_CLIENTS;
 use connection::connections;
 use crew::Crew;
+use frame_jobs::FrameNews;
 use job_queue::{JobQueue, job_queues};
 use links::Links;
 use node_lock::{Inbox, Seat, SharedNode};
 use outbox::Outbox;
+use peers::PeerPort;
 use role_node::Node;
 use shared::{Life, Shared, local};
 use std::alloc::{AllocError, Global};
@@ -61,13 +65,13 @@ const SEATS: u8 = WORKERS + 1;
 /// The milliseconds after which a client that sends nothing is closed.
 const IDLE: u64 = 600_000;
 
-/// One pass for each worker, and one for each connection.
-const PASSES: u8 = WORKERS + MOST_CLIENTS as u8 + MOST_PEERS as u8;
+/// One pass for each worker, one for each client, and one for all peers.
+const PASSES: u8 = WORKERS + MOST_CLIENTS as u8 + 1;
 
-/// The two listeners.
+/// The two ports.
 #[derive(Drop)]
-struct Listeners {
-    peers: TcpListener,
+struct Ports {
+    peers: PeerPort,
     clients: TcpListener,
 }
 
@@ -116,24 +120,30 @@ where
     requires me { IsNodeSetup setup }
     requires peers { IsServerSetup setup }
 {
-    let listeners = Listeners::new(rt, &setup)?;
+    let ports = Ports::new(rt, alloc, &setup)?;
     let (inbox, passes) = Inbox::new(alloc, PASSES)?;
-    let queues = job_queues(alloc, &inbox, passes)?;
+    let mut queues = job_queues(alloc, &inbox, passes)?;
+    let Some(queue) = queues.pop() else {
+        return Err(ServeFault::Memory);
+    };
     let shared = shared_of::<L>(alloc, blank, setup, idle, queues)?;
-    serve_shared(rt, alloc, &shared, &listeners)
+    serve_shared(rt, alloc, &shared, ports, queue)
 }
 
 /// The same with what its threads share.
-fn serve_shared<L: Ledger + Send + Sync, R>(
+fn serve_shared<'b, L: Ledger + Send + Sync, R>(
     rt: &R,
     alloc: Global,
-    shared: &Shared<'_, L>,
-    listeners: &Listeners,
+    shared: &'b Shared<'_, L>,
+    ports: Ports,
+    queue: JobQueue<'b>,
 ) -> Result<(), ServeFault>
 where
     R: Net<Listener = TcpListener, Stream = TcpStream> + Threads + Wait + Clock + Sync,
 {
-    let tasks = tasks(alloc, shared, listeners)?;
+    let Ports { peers, clients } = ports;
+    let take_frames = Task::TakeFrames { port: peers, queue };
+    let tasks = tasks(alloc, &*shared, take_frames, &clients)?;
     run(rt, alloc, shared, tasks)?;
     if shared.life.lock(rt).value.failed {
         Err(ServeFault::Device)
@@ -142,9 +152,9 @@ where
     }
 }
 
-impl Listeners {
-    /// The listeners of a setup's node.
-    fn new<R>(rt: &R, setup: &Setup) -> Result<Listeners, ServeFault>
+impl Ports {
+    /// The ports of a setup's node.
+    fn new<R>(rt: &R, alloc: Global, setup: &Setup) -> Result<Ports, ServeFault>
     where
         R: Net<Listener = TcpListener, Stream = TcpStream>,
         requires me { IsNodeSetup setup.now }
@@ -153,7 +163,10 @@ impl Listeners {
         let own = setup.nodes.as_slice()[usize::from(setup.me.index())];
         let peers = listener(rt, own)?;
         let clients = listener(rt, setup.client)?;
-        Ok(Listeners { peers, clients })
+        match PeerPort::new(rt, alloc, peers) {
+            Ok(peers) => Ok(Ports { peers, clients }),
+            Err(error) => Err(fault_of(&error)),
+        }
     }
 }
 
@@ -163,13 +176,15 @@ fn listener<R: Net<Listener = TcpListener, Stream = TcpStream>>(
 ) -> Result<TcpListener, ServeFault> {
     match bound(rt, port) {
         Ok(listener) => Ok(listener),
-        Err(error) => {
-            if error.kind() == io::ErrorKind::OutOfMemory {
-                Err(ServeFault::Memory)
-            } else {
-                Err(ServeFault::Device)
-            }
-        }
+        Err(error) => Err(fault_of(&error)),
+    }
+}
+
+fn fault_of(error: &io::Error) -> ServeFault {
+    if error.kind() == io::ErrorKind::OutOfMemory {
+        ServeFault::Memory
+    } else {
+        ServeFault::Device
     }
 }
 
@@ -200,14 +215,13 @@ fn shared_of<'a, L: Ledger>(
 {
     let links = Links::new(alloc, &setup)?;
     let outboxes = outboxes(alloc, &links, setup.nodes.as_slice())?;
-    let speakers = Vec::from_elem(alloc, None, setup.nodes.as_slice().len())?;
+    let frame_news = FrameNews::new(alloc)?;
     let node = Node::new(alloc, setup.config, setup.me)?;
     let (node, mut seats) = SharedNode::<L>::new(alloc, blank, node, SEATS)?;
     let Some(view_seat) = seats.pop() else {
         unreachable!()
     };
     let clients = connections(alloc, &mut queues, MOST_CLIENTS)?;
-    let peers = connections(alloc, &mut queues, MOST_PEERS)?;
     let crew = crew_of(alloc, seats, queues)?;
     Ok(Shared {
         node,
@@ -216,8 +230,7 @@ fn shared_of<'a, L: Ledger>(
         crew: Waiting::new(crew),
         outboxes,
         clients,
-        peers,
-        speakers: Mutex::new(speakers),
+        frame_news: Waiting::new(frame_news),
         life: Waiting::new(Life { failed: false }),
         idle,
     })
@@ -256,11 +269,13 @@ fn outboxes(alloc: Global, links: &Links, ports: &[u16]) -> Result<Vec<Outbox>, 
     Ok(made)
 }
 
-/// What the threads do that are there from the start: the workers, one for each other node, and one for each listener.
+/// What the threads do that are there from the start: the workers, one for each other node, the one that takes frames, and
+/// one for the listener for clients.
 fn tasks<'b, L: Ledger>(
     alloc: Global,
     shared: &'b Shared<'_, L>,
-    listeners: &'b Listeners,
+    take_frames: Task<'b>,
+    clients: &'b TcpListener,
 ) -> Result<Vec<Task<'b>>, AllocError> {
     let mut tasks = Vec::new(alloc);
     for _ in 0..WORKERS {
@@ -269,16 +284,8 @@ fn tasks<'b, L: Ledger>(
     for outbox in &shared.outboxes {
         tasks.push(Task::SendFrames(outbox))?;
     }
-    let peers = Task::Accept {
-        listener: &listeners.peers,
-        side: Side::Peers,
-    };
-    let clients = Task::Accept {
-        listener: &listeners.clients,
-        side: Side::Clients,
-    };
-    tasks.push(peers)?;
-    tasks.push(clients)?;
+    tasks.push(take_frames)?;
+    tasks.push(Task::Accept(clients))?;
     Ok(tasks)
 }
 

@@ -301,11 +301,7 @@ impl<L: Ledger> Client<'_, '_, L> {
     /// `Memory` where one of them has no answer. Those before it are held.
     fn collect<R: Wait>(&mut self, rt: &R) -> Result<(), PipeFault> {
         let due = mem::replace(&mut self.in_flight, 0);
-        if self
-            .connection
-            .wait(rt, self.put, &mut self.answers)
-            .is_none()
-        {
+        if !self.connection.wait(rt, self.put, &mut self.answers) {
             return Err(PipeFault::Device);
         }
         let mut next = 0u32;

@@ -1,7 +1,10 @@
-//! A place for connections, one after another.
+//! A place for clients, one after another, and what is told of frames.
 
-use crate::serve::connection::{Connection, Standing};
+use crate::serve::caller::MOST_PEERS;
+use crate::serve::connection::{Connection, LineAnswers};
+use crate::serve::frame_jobs::FrameNews;
 use crate::serve::job_queue::{JobQueue, job_queues};
+use link_frames::Held;
 use node_lock::Inbox;
 use std::alloc::Global;
 use std::net::{Ipv4Addr, Net, SocketAddr, SocketAddrV4, TcpListener, TcpStream};
@@ -11,10 +14,7 @@ use std::thread;
 use std::thread::Threads;
 use std::time::{Clock, Duration};
 
-/// How often something is looked for that is due, a millisecond apart.
-const MOST_LOOKS: u32 = 20_000;
-
-/// How often it is looked whether something comes that must not.
+/// How often it is looked whether something comes that must not, a millisecond apart.
 const FEW_LOOKS: u32 = 20;
 
 /// A connection with this test itself.
@@ -27,21 +27,10 @@ where
     Ok(Arc::new(alloc, TcpStream::connect(rt, listener.local_addr()?)?)?)
 }
 
-/// Whether the place is about to be free, at the last of some looks.
-fn is_left<R: Wait + Clock>(rt: &R, place: &Connection<'_>) -> bool {
-    for _ in 0..MOST_LOOKS {
-        if place.standing(rt) == Standing::Leaving {
-            return true;
-        }
-        thread::sleep(rt, Duration::from_millis(1));
-    }
-    false
-}
-
-/// Whether the place is not free at any of some looks.
-fn stays_taken<R: Wait + Clock>(rt: &R, place: &Connection<'_>) -> bool {
+/// Whether the place takes no connection at any of some looks.
+fn stays_taken<R: Wait + Clock>(rt: &R, place: &Connection<'_>, next: &Arc<TcpStream>) -> bool {
     for _ in 0..FEW_LOOKS {
-        if place.standing(rt) != Standing::Leaving {
+        if place.give(rt, next) {
             return false;
         }
         thread::sleep(rt, Duration::from_millis(1));
@@ -49,40 +38,62 @@ fn stays_taken<R: Wait + Clock>(rt: &R, place: &Connection<'_>) -> bool {
     true
 }
 
-/// Whether a job of a connection that has ended is refused and done, and the next connection hears nothing of it.
-fn is_refused_late<R>(rt: &R, alloc: Global, queue: JobQueue<'_>) -> Result<bool, Fail>
+/// The answer to a line.
+fn answer(alloc: Global) -> LineAnswers {
+    LineAnswers {
+        first: 0,
+        count: 1,
+        lines: Held::new(alloc),
+    }
+}
+
+/// Whether the place is taken until the last job of a connection that has ended is done, and the next connection hears
+/// nothing of it.
+fn is_done_late<R>(rt: &R, alloc: Global, queue: JobQueue<'_>) -> Result<bool, Fail>
 where
     R: Net<Listener = TcpListener, Stream = TcpStream> + Threads + Wait + Clock + Sync,
 {
     let place = Connection::new(alloc, queue);
     let (first, next) = (stream(rt, alloc)?, stream(rt, alloc)?);
-    let given = place.give(rt, &first, 1);
+    let given = place.give(rt, &first);
     let Some(queue) = place.begin(rt) else {
         return Ok(false);
     };
-    let shown = &place;
+    let (shown, newcomer) = (&place, &next);
     let waited = thread::scope(thread::scope_env(), rt, |scope| -> Result<bool, Fail> {
         let leaver = scope.spawn(move || shown.free(rt, queue, 2))?;
-        let left = is_left(rt, shown);
-        shown.cut(rt);
-        shown.done(rt, 1, None);
-        let waits = stays_taken(rt, shown);
-        shown.done(rt, 1, None);
+        shown.done(rt, 1, answer(alloc));
+        let waits = stays_taken(rt, shown, newcomer);
+        shown.done(rt, 1, answer(alloc));
         leaver.join(rt);
-        Ok(left && waits)
+        Ok(waits)
     })?;
-    let again = place.give(rt, &next, 2) && place.is_live(rt);
-    let begun = place.begin(rt).is_some() && !place.has_done(rt, 1);
-    Ok(given && waited && again && begun && place.standing(rt) == Standing::Silent(2))
+    let again = place.give(rt, &next) && place.begin(rt).is_some();
+    Ok(given && waited && again && !place.has_done(rt, 1))
 }
 
 #[test]
-fn a_late_refusal_cuts_no_other_connection(rt: HostRuntime) -> Result<(), Fail> {
+fn a_late_answer_meets_no_other_connection(rt: HostRuntime) -> Result<(), Fail> {
     let (inbox, passes) = Inbox::new(rt.alloc(), 1)?;
     let mut queues = job_queues(rt.alloc(), &inbox, passes)?;
     let Some(queue) = queues.pop() else {
         return Err("no queue".into());
     };
-    assert!(rt; is_refused_late(&rt, rt.alloc(), queue)?);
+    assert!(rt; is_done_late(&rt, rt.alloc(), queue)?);
+    Ok(())
+}
+
+#[test]
+fn a_refused_packet_is_told_once_of_its_own_place(rt: HostRuntime) -> Result<(), Fail> {
+    let mut news = FrameNews::new(rt.alloc())?;
+    news.refuse(MOST_PEERS);
+    assert!(rt; !news.was_refused());
+    news.refuse(2);
+    assert!(rt; news.was_refused());
+    assert!(rt; !news.was_refused());
+    for slot in 0..MOST_PEERS as usize {
+        assert_eq!(rt; news.take_refused(slot), slot == 2);
+        assert!(rt; !news.take_refused(slot));
+    }
     Ok(())
 }

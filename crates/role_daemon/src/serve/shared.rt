@@ -3,6 +3,7 @@
 use crate::serve::caller::Caller;
 use crate::serve::connection::Connection;
 use crate::serve::crew::Crew;
+use crate::serve::frame_jobs::FrameNews;
 use crate::serve::job_queue::JobQueue;
 use crate::serve::links::Links;
 use crate::serve::outbox::{Outbox, batch_room};
@@ -12,7 +13,6 @@ use node_lock::{Call, Job, Seat, SharedNode, View};
 use quorum_sizes::NodeName;
 use role_node::Event;
 use std::alloc::{AllocError, Global};
-use std::mem;
 use std::net::{Ipv4Addr, SocketAddr, SocketAddrV4};
 use std::sync::ledger::Ledger;
 use std::sync::{Mutex, Wait};
@@ -41,9 +41,8 @@ pub struct Shared<'a, L: Ledger> {
     /// An outbox for each other node.
     pub outboxes: Vec<Outbox>,
     pub clients: Vec<Connection<'a>>,
-    pub peers: Vec<Connection<'a>>,
-    /// The place of the connection of each node, at the node's index.
-    pub speakers: Mutex<Vec<Option<u32>>>,
+    /// What is told of the jobs of frames.
+    pub frame_news: Waiting<FrameNews>,
     pub life: Waiting<Life>,
     /// After so long a client that sends nothing is closed.
     pub idle: Duration,
@@ -109,9 +108,7 @@ impl<L: Ledger> Shared<'_, L> {
         for connection in &self.clients {
             connection.end(rt);
         }
-        for connection in &self.peers {
-            connection.end(rt);
-        }
+        self.frame_news.end(rt);
     }
 
     /// A listener has failed, which ends the node.
@@ -137,30 +134,6 @@ impl<L: Ledger> Shared<'_, L> {
         for message in messages {
             if let Some(frame) = self.links.seal(to, message) {
                 let _ = frames.push(frame);
-            }
-        }
-    }
-
-    /// The connection at this place is the node's from now on. An older one is shut down.
-    pub fn speaks<R: Wait>(&self, rt: &R, from: NodeName, slot: u32) {
-        let mut speakers = self.speakers.lock(rt);
-        if let Some(speaker) = speakers.get_mut(usize::from(from.index())) {
-            if let Some(older) = mem::replace(speaker, Some(slot)) {
-                if older != slot {
-                    if let Some(connection) = self.peers.get(older as usize) {
-                        connection.cut(rt);
-                    }
-                }
-            }
-        }
-    }
-
-    /// The connection at this place has ended.
-    pub fn is_silent<R: Wait>(&self, rt: &R, from: NodeName, slot: u32) {
-        let mut speakers = self.speakers.lock(rt);
-        if let Some(speaker) = speakers.get_mut(usize::from(from.index())) {
-            if *speaker == Some(slot) {
-                *speaker = None;
             }
         }
     }

@@ -1,7 +1,9 @@
 //! What the threads of a serving node do.
 
-use crate::serve::accept::{Side, accept};
+use crate::serve::accept::accept;
+use crate::serve::job_queue::JobQueue;
 use crate::serve::outbox::Outbox;
+use crate::serve::peers::PeerPort;
 use crate::serve::senders::send_frames;
 use crate::serve::shared::Shared;
 use std::alloc::Global;
@@ -18,11 +20,10 @@ pub enum Task<'b> {
     Work,
     /// It sends the frames of an outbox.
     SendFrames(&'b Outbox),
-    /// It has each connection of a listener served.
-    Accept {
-        listener: &'b TcpListener,
-        side: Side,
-    },
+    /// It takes the frames of all peers.
+    TakeFrames { port: PeerPort, queue: JobQueue<'b> },
+    /// It has each connection of the listener for clients served.
+    Accept(&'b TcpListener),
 }
 
 impl Task<'_> {
@@ -34,7 +35,8 @@ impl Task<'_> {
         match self {
             Task::Work => shared.do_jobs(rt),
             Task::SendFrames(outbox) => send_frames(rt, alloc, outbox),
-            Task::Accept { listener, side } => accept(rt, alloc, shared, listener, side),
+            Task::TakeFrames { port, queue } => port.take_frames(rt, alloc, shared, queue),
+            Task::Accept(listener) => accept(rt, alloc, shared, listener),
         }
     }
 }

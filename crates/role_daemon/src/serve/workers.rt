@@ -6,7 +6,7 @@ ghost use Rattle.role_daemon.specs.Served.{served, sent_outcome};
 
 use crate::answers::{hold_answer, listed};
 use crate::serve::caller::Caller;
-use crate::serve::connection::{Connection, LineAnswers};
+use crate::serve::connection::LineAnswers;
 use crate::serve::job_queue::JobQueue;
 use crate::serve::shared::{Room, Shared, put_own};
 use client_lines::ClientAnswer;
@@ -30,10 +30,10 @@ struct Done {
     said: Option<(Outcome, View)>,
 }
 
-/// What a batch of jobs has for one connection.
+/// What a batch of jobs has for one client.
 #[derive(Drop)]
 struct Share {
-    caller: Caller,
+    slot: u32,
     /// How many of its jobs are done.
     count: u64,
     /// Whether one of them has no receipt, or an answer no text.
@@ -103,29 +103,32 @@ impl<'a, L: Ledger> Worker<'a, L> {
         self.messages.clear();
     }
 
-    /// Tells each connection what was done for it, and its answers.
+    /// Tells each client what was done for it, and its answers, and the thread of the peers how many of its jobs are
+    /// done.
     pub fn answer<R: Wait>(&mut self, rt: &R, shared: &Shared<'a, L>) {
+        let mut frames = 0u64;
         for done in self.done.drain(..) {
-            if done.caller == Caller::Itself {
-                continue;
-            }
-            if let Some(share) = share_of(self.alloc, &mut self.shares, done.caller) {
-                share.add(self.alloc, done);
-            }
-        }
-        for share in self.shares.drain(..) {
-            match share.caller {
-                Caller::Client { slot, line: _ } => {
-                    if let Some(connection) = shared.clients.get(slot as usize) {
-                        connection.done(rt, share.count, Some(share.answers));
+            match done.caller {
+                Caller::Client { slot, line } => {
+                    if let Some(share) = share_of(self.alloc, &mut self.shares, slot, line) {
+                        share.add(self.alloc, done.said);
                     }
                 }
                 Caller::Peer { slot } => {
-                    if let Some(connection) = shared.peers.get(slot as usize) {
-                        hand(rt, connection, share.count, share.broken);
+                    frames = frames.saturating_add(1);
+                    if done.said.is_none() {
+                        shared.frame_news.lock(rt).value.refuse(slot);
                     }
                 }
                 Caller::Itself => {}
+            }
+        }
+        if frames > 0 {
+            tell(rt, shared, frames);
+        }
+        for share in self.shares.drain(..) {
+            if let Some(connection) = shared.clients.get(share.slot as usize) {
+                connection.done(rt, share.count, share.answers);
             }
         }
     }
@@ -147,52 +150,30 @@ fn call<L: Ledger>(
     }
 }
 
-/// So many jobs of a peer's connection are done. It is shut down where one of them has no receipt.
-fn hand<R: Wait>(rt: &R, connection: &Connection<'_>, count: u64, broken: bool) {
-    if broken {
-        connection.cut(rt);
-    }
-    connection.done(rt, count, None);
-}
-
-/// Whether the two callers are one connection.
-fn is_same(a: Caller, b: Caller) -> bool {
-    match (a, b) {
-        (
-            Caller::Client { slot, line: _ },
-            Caller::Client {
-                slot: other,
-                line: _,
-            },
-        )
-        | (Caller::Peer { slot }, Caller::Peer { slot: other }) => slot == other,
-        (Caller::Itself, Caller::Itself) => true,
-        _ => false,
+/// So many jobs of frames are done.
+fn tell<L: Ledger, R: Wait>(rt: &R, shared: &Shared<'_, L>, count: u64) {
+    let is_due = shared.frame_news.lock(rt).value.add(count);
+    if is_due {
+        shared.frame_news.wake();
     }
 }
 
-/// The share of a caller's connection, made where there is none.
-fn share_of(alloc: Global, shares: &mut Vec<Share>, caller: Caller) -> Option<&mut Share> {
-    let found = shares
-        .iter()
-        .position(|share| is_same(share.caller, caller));
+/// The share of a client, made where there is none, for the answers from this line on.
+fn share_of(alloc: Global, shares: &mut Vec<Share>, slot: u32, line: u32) -> Option<&mut Share> {
+    let found = shares.iter().position(|share| share.slot == slot);
     match found {
         Some(at) => shares.get_mut(at),
         None => {
-            shares.push(Share::new(alloc, caller)).ok()?;
+            shares.push(Share::new(alloc, slot, line)).ok()?;
             shares.last_mut()
         }
     }
 }
 
 impl Share {
-    fn new(alloc: Global, caller: Caller) -> Share {
-        let first = match caller {
-            Caller::Client { slot: _, line } => line,
-            Caller::Peer { .. } | Caller::Itself => 0,
-        };
+    fn new(alloc: Global, slot: u32, first: u32) -> Share {
         Share {
-            caller,
+            slot,
             count: 0,
             broken: false,
             answers: LineAnswers {
@@ -204,20 +185,17 @@ impl Share {
     }
 
     /// One job more is done. A client's answers end where one is wanting.
-    fn add(&mut self, alloc: Global, done: Done) {
+    fn add(&mut self, alloc: Global, said: Option<(Outcome, View)>) {
         self.count = self.count.saturating_add(1);
-        let Done { caller, said } = done;
-        let Some((outcome, view)) = said else {
-            self.broken = true;
-            return;
-        };
-        if self.broken || !matches!(caller, Caller::Client { .. }) {
+        if self.broken {
             return;
         }
-        if let Some(answer) = answer_of(&view, outcome) {
-            if hold_answer(alloc, &mut self.answers.lines, &answer).is_ok() {
-                self.answers.count = self.answers.count.saturating_add(1);
-                return;
+        if let Some((outcome, view)) = said {
+            if let Some(answer) = answer_of(&view, outcome) {
+                if hold_answer(alloc, &mut self.answers.lines, &answer).is_ok() {
+                    self.answers.count = self.answers.count.saturating_add(1);
+                    return;
+                }
             }
         }
         self.broken = true;
