@@ -20,7 +20,7 @@ const BATCH_FRAMES: usize = 128;
 
 /// The thread that put frames writes them if they are no more than so many. Else it leaves that to the outbox's own
 /// thread, and goes on beside it.
-const FEW_FRAMES: usize = 8;
+const FEW_FRAMES: usize = 32;
 
 /// A connection is looked at before a batch is written there, but once in so many milliseconds at most.
 const NEXT_LOOK: u64 = 20;

@@ -21,7 +21,7 @@ use std::sync::ledger::Ledger;
 use std::time::Clock;
 
 /// The most jobs that a worker takes at once.
-const MOST_BATCH: usize = 64;
+const MOST_BATCH: usize = 192;
 
 /// What a hold said to a job; nothing for want of memory, and where the seat does not fit the node.
 #[derive(Drop)]
