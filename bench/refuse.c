@@ -12,7 +12,7 @@ extern long syscall(long number, ...);
 extern int *__errno_location(void);
 
 enum { SYS_WRITE = 1, SYS_OPEN = 2, SYS_CLOSE = 3, WRITE_ONLY_CREATE = 1 | 64 };
-enum { EIO = 5, EAGAIN = 11, ENOMEM = 12, EMFILE = 24, EPIPE = 32 };
+enum { EINTR = 4, EIO = 5, EAGAIN = 11, ENOMEM = 12, EMFILE = 24, EPIPE = 32 };
 enum { EADDRINUSE = 98, ECONNRESET = 104, ECONNREFUSED = 111 };
 #define NEXT ((void *)-1L)
 
@@ -54,6 +54,9 @@ CALL(int, socket, "socket", (int domain, int type, int protocol), (domain, type,
 CALL(int, bind, "listen", (int s, const void *a, unsigned n), (s, a, n), -1, EADDRINUSE)
 CALL(int, listen, "listen", (int s, int n), (s, n), -1, EADDRINUSE)
 CALL(int, accept4, "accept", (int s, void *a, unsigned *n, int flags), (s, a, n, flags), -1, EMFILE)
+CALL(int, epoll_create1, "poll", (int flags), (flags), -1, EMFILE)
+CALL(int, epoll_ctl, "poll", (int e, int what, int f, void *x), (e, what, f, x), -1, ENOMEM)
+CALL(int, epoll_wait, "poll", (int e, void *x, int n, int millis), (e, x, n, millis), -1, EINTR)
 CALL(int, connect, "connect", (int s, const void *a, unsigned n), (s, a, n), -1, ECONNREFUSED)
 CALL(int, setsockopt, "option", (int s, int level, int name, const void *v, unsigned n), (s, level, name, v, n), -1,
      ENOMEM)
