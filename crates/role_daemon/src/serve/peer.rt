@@ -17,8 +17,8 @@ const BLOCK_FRAMES: usize = 160;
 /// The milliseconds in which the first frame has to open.
 const FIRST_FRAME: u64 = 2_000;
 
-/// The milliseconds after which a connection on which no frame has opened makes room for another. A node sends its first
-/// frame 50 after it has connected.
+/// The milliseconds after which a connection on which no frame has opened makes room for another. A node sends its
+/// first frame 50 after it has connected.
 const SILENT_LIFE: u64 = 500;
 
 /// How often in a row a read may be interrupted.

@@ -28,7 +28,7 @@ const NEXT_PLACE: u64 = 1;
 
 /// Which place a connection may have that comes.
 #[derive(Clone, Copy, Debug, PartialEq, Eq)]
-enum Room {
+enum Vacancy {
     /// This one, which is free, or is that of the oldest connection on which no frame has opened.
     Place(usize),
     /// None yet, since that one has not had its time.
@@ -174,15 +174,15 @@ impl PeerPort {
         jobs: &mut FrameJobs<'_, '_, L>,
     ) -> bool {
         for _ in 0..LISTENER {
-            let room = self.room(rt);
-            if room == Room::Later {
+            let vacancy = self.vacancy(rt);
+            if vacancy == Vacancy::Later {
                 self.asked = Some(NEXT_PLACE);
                 return true;
             }
             match self.listener.accept() {
                 Ok((stream, _)) => {
                     self.failures = 0;
-                    if let Room::Place(slot) = room {
+                    if let Vacancy::Place(slot) = vacancy {
                         let _ = self.add(rt, alloc, jobs, slot, stream);
                     }
                 }
@@ -231,13 +231,13 @@ impl PeerPort {
         Ok(())
     }
 
-    /// The place for a connection that comes: the first free one, or that of the oldest connection on which no frame has
-    /// opened, once it has had some time.
-    fn room<R: Clock>(&self, rt: &R) -> Room {
+    /// The place for a connection that comes: the first free one, or that of the oldest connection on which no frame
+    /// has opened, once it has had some time.
+    fn vacancy<R: Clock>(&self, rt: &R) -> Vacancy {
         let mut oldest: Option<(usize, &Peer)> = None;
         for (slot, place) in self.places.iter().enumerate() {
             match place {
-                None => return Room::Place(slot),
+                None => return Vacancy::Place(slot),
                 Some(peer) => {
                     if peer.from.is_none()
                         && oldest.is_none_or(|(_, old)| peer.number < old.number)
@@ -248,9 +248,9 @@ impl PeerPort {
             }
         }
         match oldest {
-            Some((slot, peer)) if peer.makes_room(rt) => Room::Place(slot),
-            Some(_) => Room::Later,
-            None => Room::Nowhere,
+            Some((slot, peer)) if peer.makes_room(rt) => Vacancy::Place(slot),
+            Some(_) => Vacancy::Later,
+            None => Vacancy::Nowhere,
         }
     }
 
