@@ -269,8 +269,8 @@ fn outboxes(alloc: Global, links: &Links, ports: &[u16]) -> Result<Vec<Outbox>, 
     Ok(made)
 }
 
-/// What the threads do that are there from the start: the workers, one for each other node, the one that takes frames, and
-/// one for the listener for clients.
+/// What the threads do that are there from the start: the workers, one for each other node, the one that takes frames,
+/// and one for the listener for clients.
 fn tasks<'b, L: Ledger>(
     alloc: Global,
     shared: &'b Shared<'_, L>,
