@@ -5,7 +5,6 @@ pub mod FrameReadLemmas
 pub mod LineEndLemmas
 pub mod LineLemmas
 pub mod ListTextLemmas
-pub mod BlockLemmas
 pub mod OpeningLemmas
 pub mod AheadLemmas
 pub mod PacketReading

@@ -9,7 +9,7 @@ ghost use Rattle.link_frames.specs.Lines.{ended, NoLineEnd};
 ghost use Rattle.link_frames.specs.Nexts.{Begins, EndsWith, PassedLine, PassedPart};
 ghost use Rattle.link_frames.specs.Blocks.{block_bytes, ReadAhead};
 
-use crate::blocks::{AheadFault, read_onto};
+use crate::blocks::{AheadFault, BLOCK_BYTES, read_onto};
 use crate::next::{Next, first_line_end, next_of};
 use crate::watched::Watched;
 use std::alloc::Global;
@@ -20,6 +20,8 @@ use std::io::Read;
 pub struct Ahead {
     bytes: Vec<u8>,
     used: usize,
+    /// What is read comes here first, so that no room has to be blanked for it.
+    block: [u8; BLOCK_BYTES],
     ghost within: { used ≤ vec_len bytes },
 }
 
@@ -34,6 +36,7 @@ impl Ahead {
         Ahead {
             bytes: Vec::new(alloc),
             used: 0,
+            block: [0; BLOCK_BYTES],
         }
     }
 
@@ -153,7 +156,7 @@ impl Ahead {
         ensures counts { ReadAhead (watched_tally reader.old) (watched_tally reader.new) result }
     {
         self.drop_used();
-        let count = read_onto(&mut self.bytes, reader)?;
+        let count = read_onto(&mut self.bytes, &mut self.block, reader)?;
         Ok(count > 0)
     }
 

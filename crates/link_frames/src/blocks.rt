@@ -1,9 +1,9 @@
 //! Blocks of bytes that are read behind others.
 
-ghost use Rattle.std.specs.Prelude.{◌≡◌, ◌≤◌, ◌+◌, length, take, drop, OnOk, OnErr, IfOk};
-ghost use Rattle.std.specs.Io.KnownBytes.{Keeps, ReadConsumes};
+ghost use Rattle.std.specs.Prelude.{◌≡◌, ◌≤◌, ◌+◌, length, OnOk, OnErr, IfOk};
+ghost use Rattle.std.specs.Io.KnownBytes.{Keeps};
 ghost use Rattle.link_frames.specs.Watching.{watched_inner, watched_tally};
-ghost use Rattle.link_frames.specs.Devices.{WentOn, WasAsked, ReaderFailed};
+ghost use Rattle.link_frames.specs.Devices.{WasAsked};
 ghost use Rattle.link_frames.specs.Blocks.{block_bytes, Onto, ReadAhead};
 
 use crate::device::{DeviceFault, read_patiently};
@@ -14,7 +14,7 @@ use std::fmt;
 use std::io::Read;
 
 /// How many bytes are read at once.
-const BLOCK_BYTES: usize = 8192;
+pub(crate) const BLOCK_BYTES: usize = 8192;
 
 /// Why no bytes were read ahead.
 #[derive(Clone, Copy, Debug, PartialEq, Eq)]
@@ -61,9 +61,10 @@ impl From<AllocError> for AheadFault {
     }
 }
 
-/// Puts what one read gives behind the bytes. How many they are.
+/// Puts what one read gives behind the bytes, by way of a block whose bytes count for nothing. How many they are.
 pub(crate) fn read_onto<R: Read>(
     bytes: &mut Vec<u8>,
+    block: &mut [u8; BLOCK_BYTES],
     reader: &mut Watched<R>,
 ) -> Result<usize, AheadFault>
     ensures ok { IfOk result (Onto (R.remaining (watched_inner reader.old)) (R.remaining (watched_inner reader.new))
@@ -75,34 +76,10 @@ pub(crate) fn read_onto<R: Read>(
     ensures asked { OnOk result (WasAsked (watched_tally reader.old) (watched_tally reader.new)) }
     ensures counts { ReadAhead (watched_tally reader.old) (watched_tally reader.new) result }
 {
-    let have = bytes.len();
-    bytes.resize(have + BLOCK_BYTES, 0)?;
-    match read_behind(bytes.as_mut_slice(), have, reader) {
-        Ok(count) => {
-            bytes.truncate(have + count);
-            Ok(count)
-        }
-        Err(_) => {
-            bytes.truncate(have);
-            Err(AheadFault::Device)
-        }
-    }
-}
-
-/// Reads into the buffer behind its first bytes.
-fn read_behind<R: Read>(
-    buffer: &mut [u8],
-    have: usize,
-    reader: &mut Watched<R>,
-) -> Result<usize, DeviceFault>
-    requires { have ≤ length buffer.old }
-    ensures within { IfOk result (λ n. have + n ≤ length buffer.new) }
-    ensures front { take have buffer.new ≡ take have buffer.old }
-    ensures bytes { ReadConsumes (R.remaining (watched_inner reader.old)) (R.remaining (watched_inner reader.new))
-        result (drop have buffer.new) }
-    ensures ok { OnOk result (WentOn (watched_tally reader.old) (watched_tally reader.new)) }
-    ensures asked { OnOk result (WasAsked (watched_tally reader.old) (watched_tally reader.new)) }
-    ensures err { OnErr result (ReaderFailed (watched_tally reader.old) (watched_tally reader.new)) }
-{
-    read_patiently(reader, &mut buffer[have..])
+    bytes.try_reserve(BLOCK_BYTES)?;
+    let count = read_patiently(reader, block)?;
+    let Ok(()) = bytes.extend_from_slice(&block[..count]) else {
+        unreachable!()
+    };
+    Ok(count)
 }
