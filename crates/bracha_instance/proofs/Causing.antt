@@ -9,7 +9,7 @@ use Rattle.link_frames.specs.declared.kind.Kind.TheVariants.{Send, Echo, Ready}
 use Rattle.bracha_instance.specs.States.{State}
 use Rattle.bracha_instance.specs.Taking.{newly, sent_for}
 use Rattle.bracha_instance.specs.NewTakes.{kind_due}
-use Rattle.bracha_instance.specs.Next.{only_if, after_echo, after_ready, after_kind}
+use Rattle.bracha_instance.specs.inside.Next.{only_if, after_echo, after_ready, after_kind}
 
 -- if there is a command, it is this one
 abbrev pub IsThis : Command → Option Command → Type 0

@@ -12,7 +12,7 @@ use Rattle.bracha_instance.specs.Broadcast.{Take, command_of, is_of_kind, is_vot
 use Rattle.bracha_instance.specs.States.{State, state}
 use Rattle.bracha_instance.specs.Taking.{SendsAreFrom, effect_of, newly, sent_for}
 use Rattle.bracha_instance.specs.Taking.{newly_sent, newly_delivered, has_voted}
-use Rattle.bracha_instance.specs.Next.{after_kind, after}
+use Rattle.bracha_instance.specs.inside.Next.{after_kind, after}
 use Rattle.bracha_instance.proofs.Same.{same_kind-true}
 use Rattle.bracha_instance.proofs.Voting.{contains-voters}
 use Rattle.bracha_instance.proofs.StateOf.{state_push}

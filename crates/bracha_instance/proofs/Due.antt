@@ -14,7 +14,7 @@ use Rattle.bracha_instance.specs.Broadcast.{readied, delivered, may_ready, may_d
 use Rattle.bracha_instance.specs.States.{votes}
 use Rattle.bracha_instance.specs.Laws.{ReadiesItsOwn, DeliversItsOwn, EchoStays, ReadyStays, DeliveryStays}
 use Rattle.bracha_instance.specs.Laws.{ReadyWasFirst, DeliveryWasFirst, ReadyComes, DeliveryComes}
-use Rattle.bracha_instance.specs.Next.{ready_now, deliver_now}
+use Rattle.bracha_instance.specs.inside.Next.{ready_now, deliver_now}
 use Rattle.bracha_instance.proofs.Voting.{map_or, or_is, supporters_in-votes, supporters_push-other, supporters-nobody}
 use Rattle.bracha_instance.proofs.FirstDue.{due_push, due_stays, due_was_first, due_comes, not_due}
 

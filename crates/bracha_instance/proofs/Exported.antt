@@ -1,5 +1,5 @@
 -- What layers above may cite of the proofs. Declares nothing.
---     state_push      the state of a longer list is one step, `after` of specs/Next.antt, from the state of the list
+--     state_push      the state of a longer list is one step, `after` of inside/Next.antt, from the state of the list
 --     state-..      each field of a state, by its definition
 --     or_else_if-never      what is never due is not kept
 --     voted_at      what a state says of a vote is what the messages say

@@ -5,40 +5,29 @@ use Rattle.std.specs.FinMap as maps
 use Rattle.std.specs.FinSet as sets
 use Rattle.role_commands.specs.declared.command.Command.{Command}
 use Rattle.role_commands.specs.Same.{same_command}
-use Rattle.bracha_instance.specs.Tallies.{TallyValue, no_names, names_in_tally, all_of, is_tally_of, with_tally}
-use Rattle.bracha_instance.specs.Tallies.{Tallied, tallied, AreTallies, with_echo, with_ready, echoed_by, ready_by}
-use Rattle.bracha_instance.specs.Tallies.{IsFirstChanged, IsOther, names_for, echo_row, ready_row, support_in}
+use Rattle.bracha_instance.specs.inside.Tallies.{TallyValue, no_names, names_in_tally, all_of, is_tally_of, with_tally}
+use Rattle.bracha_instance.specs.inside.Tallies.{Tallied, tallied, AreTallies, votes_of, with_vote, voted_by}
+use Rattle.bracha_instance.specs.inside.Tallies.{IsFirstChanged, IsOther, names_for, echo_row, ready_row, support_in}
 use Rattle.bracha_instance.specs.declared.tallies.Support.{Support}
+use Rattle.bracha_instance.specs.declared.tallies.Vote.{Vote}
 use Rattle.bracha_instance.proofs.Same.{same_command-refl}
-use Rattle.bracha_instance.proofs.TallyLemmas.{tallied-echo, AreTallies-echo, tallied-ready, AreTallies-ready}
+use Rattle.bracha_instance.proofs.TallyLemmas.{tallied-vote, AreTallies-vote}
 
 -- One more vote, where all tallies are these.
 
-pub tallied_one_echo : (tallies now : List TallyValue) (p : ℕ) (c : Command) (v : Tallied) → tallied tallies ≡ v
-    → maps.get v.echoes p ≡ None → now ≡ with_tally (echoed_by p) c tallies → tallied now ≡ with_echo v p c
-tallied_one_echo tallies now p c v kept none is =
+pub tallied_one : (k : Vote) (tallies now : List TallyValue) (p : ℕ) (c : Command) (v : Tallied) → tallied tallies ≡ v
+    → maps.get (votes_of k v) p ≡ None → now ≡ with_tally (voted_by k p) c tallies → tallied now ≡ with_vote k v p c
+tallied_one k tallies now p c v kept none is =
     ap tallied is
-    ∙ tallied-echo tallies p c (ap (λ (w : Tallied). maps.get w.echoes p) kept ∙ none)
-    ∙ ap (λ w. with_echo w p c) kept
+    ∙ tallied-vote k tallies p c (ap (λ (w : Tallied). maps.get (votes_of k w) p) kept ∙ none)
+    ∙ ap (λ w. with_vote k w p c) kept
 
-pub are_with_echo : (tallies now : List TallyValue) (p : ℕ) (c : Command) (v : Tallied) → tallied tallies ≡ v
-    → maps.get v.echoes p ≡ None → now ≡ with_tally (echoed_by p) c tallies → AreTallies tallies → AreTallies now
-are_with_echo tallies now p c v kept none is are =
+pub are_with_vote : (k : Vote) (tallies now : List TallyValue) (p : ℕ) (c : Command) (v : Tallied)
+    → tallied tallies ≡ v → maps.get (votes_of k v) p ≡ None → now ≡ with_tally (voted_by k p) c tallies
+    → AreTallies tallies → AreTallies now
+are_with_vote k tallies now p c v kept none is are =
     subst AreTallies (sym is)
-    (AreTallies-echo tallies p c (ap (λ (w : Tallied). maps.get w.echoes p) kept ∙ none) are)
-
-pub tallied_one_ready : (tallies now : List TallyValue) (p : ℕ) (c : Command) (v : Tallied) → tallied tallies ≡ v
-    → maps.get v.readies p ≡ None → now ≡ with_tally (ready_by p) c tallies → tallied now ≡ with_ready v p c
-tallied_one_ready tallies now p c v kept none is =
-    ap tallied is
-    ∙ tallied-ready tallies p c (ap (λ (w : Tallied). maps.get w.readies p) kept ∙ none)
-    ∙ ap (λ w. with_ready w p c) kept
-
-pub are_with_ready : (tallies now : List TallyValue) (p : ℕ) (c : Command) (v : Tallied) → tallied tallies ≡ v
-    → maps.get v.readies p ≡ None → now ≡ with_tally (ready_by p) c tallies → AreTallies tallies → AreTallies now
-are_with_ready tallies now p c v kept none is are =
-    subst AreTallies (sym is)
-    (AreTallies-ready tallies p c (ap (λ (w : Tallied). maps.get w.readies p) kept ∙ none) are)
+    (AreTallies-vote k tallies p c (ap (λ (w : Tallied). maps.get (votes_of k w) p) kept ∙ none) are)
 
 -- The first is changed.
 

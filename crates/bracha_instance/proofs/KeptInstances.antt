@@ -22,10 +22,11 @@ use Rattle.link_frames.specs.Kinds.{same_kind}
 use Rattle.bracha_instance.specs.Broadcast.{Take, Names, command_of, vote, voters, supporters}
 use Rattle.bracha_instance.specs.Broadcast.{is_vote_of, echoed, readied, delivered}
 use Rattle.bracha_instance.specs.States.{Votes, State, votes, kept, state}
-use Rattle.bracha_instance.specs.Kept.{names_of}
-use Rattle.bracha_instance.specs.Next.{supporters_in, ready_now, deliver_now, only_if, after_echo, after_ready}
-use Rattle.bracha_instance.specs.Tallies.{Tallied, no_votes, with_echo, with_ready, support_of, HasVote, AreVoted}
-use Rattle.bracha_instance.specs.Instances.{instance_state, IsInstance}
+use Rattle.bracha_instance.specs.inside.Kept.{names_of}
+use Rattle.bracha_instance.specs.inside.Next.{supporters_in, ready_now, deliver_now, only_if, after_echo, after_ready}
+use Rattle.bracha_instance.specs.declared.tallies.Vote.TheVariants as vote_kind
+use Rattle.bracha_instance.specs.inside.Tallies.{Tallied, no_votes, with_vote, support_of, HasVote, AreVoted}
+use Rattle.bracha_instance.specs.inside.Instances.{instance_state, IsInstance}
 use Rattle.bracha_instance.specs.Supported.{CountsSupported}
 use Rattle.bracha_instance.proofs.Same.{same_command-true}
 use Rattle.bracha_instance.proofs.VoteMaps.{contains-names_of, names_of-insert, names_of-empty}
@@ -95,7 +96,8 @@ free_ready a p h early is = no_vote a.votes.readies a.readiers p (h.readiers (no
 
 pub echo_kept : (a : Inside) (p : ℕ) (c : Command) (now : Option Command) (echoers : Names) (v : Tallied) →
     IsInstance a → is_some a.delivered ≡ false → sets.contains a.echoers p ≡ false →
-    echoers ≡ sets.insert a.echoers p → sets.len echoers ≤ most_nodes → v ≡ with_echo a.votes p c →
+    echoers ≡ sets.insert a.echoers p → sets.len echoers ≤ most_nodes
+    → v ≡ with_vote vote_kind.Echo a.votes p c →
     IsInstance (record a { readied = now; echoers = echoers; votes = v })
 echo_kept a p c now echoers v h early new is fit more =
     let none = none_of a.delivered early in record {
@@ -117,7 +119,8 @@ echo_kept a p c now echoers v h early new is fit more =
 
 pub ready_kept : (a : Inside) (p : ℕ) (c : Command) (now : Option Command) (readiers : Names) (v : Tallied) →
     IsInstance a → is_some a.delivered ≡ false → sets.contains a.readiers p ≡ false →
-    readiers ≡ sets.insert a.readiers p → sets.len readiers ≤ most_nodes → v ≡ with_ready a.votes p c →
+    readiers ≡ sets.insert a.readiers p → sets.len readiers ≤ most_nodes
+    → v ≡ with_vote vote_kind.Ready a.votes p c →
     IsInstance (record a { readied = now; readiers = readiers; votes = v })
 ready_kept a p c now readiers v h early new is fit more =
     let none = none_of a.delivered early in record {
@@ -153,7 +156,8 @@ unfolding deliver_now
 deliver_by_support s c due n v is support = is ∙ ap (λ (m : Support). nat_le (deliver_of s) m.readies) support
 
 pub echo_early : (s : Counts) (p : ℕ) (c : Command) (a : Inside) (due : Bool) (now : Option Command) (echoers : Names)
-    (v : Tallied) → is_some a.delivered ≡ false → echoers ≡ sets.insert a.echoers p → v ≡ with_echo a.votes p c →
+    (v : Tallied) → is_some a.delivered ≡ false → echoers ≡ sets.insert a.echoers p
+    → v ≡ with_vote vote_kind.Echo a.votes p c →
     due ≡ ready_now s c v.echoes v.readies → now ≡ option_or a.readied (only_if due c) →
     instance_state (record a { readied = now; echoers = echoers; votes = v })
     ≡ after_echo s (instance_state a) p c a.delivered
@@ -174,7 +178,8 @@ echo_early s p c a due now echoers v early is more is_due is_now =
     step ∙ ap (after_echo s (instance_state a) p c) (sym (none_of a.delivered early))
 
 pub ready_early : (s : Counts) (p : ℕ) (c : Command) (a : Inside) (due : Bool) (now : Option Command) (readiers : Names)
-    (v : Tallied) → is_some a.delivered ≡ false → readiers ≡ sets.insert a.readiers p → v ≡ with_ready a.votes p c →
+    (v : Tallied) → is_some a.delivered ≡ false → readiers ≡ sets.insert a.readiers p
+    → v ≡ with_vote vote_kind.Ready a.votes p c →
     due ≡ ready_now s c v.echoes v.readies → now ≡ option_or a.readied (only_if due c) →
     false ≡ deliver_now s c v.readies →
     instance_state (record a { readied = now; readiers = readiers; votes = v })
@@ -208,7 +213,8 @@ ready_early s p c a due now readiers v early is more is_due is_now not_yet =
 
 pub deliver_early : (s : Counts) (p : ℕ) (c : Command) (a : Inside) (due : Bool) (now : Option Command)
     (readiers : Names)
-    (v w : Tallied) → is_some a.delivered ≡ false → readiers ≡ sets.insert a.readiers p → v ≡ with_ready a.votes p c →
+    (v w : Tallied) → is_some a.delivered ≡ false → readiers ≡ sets.insert a.readiers p
+    → v ≡ with_vote vote_kind.Ready a.votes p c →
     due ≡ ready_now s c v.echoes v.readies → now ≡ option_or a.readied (only_if due c) →
     true ≡ deliver_now s c v.readies → w ≡ no_votes →
     instance_state (record a { readied = now; delivered = Some c; readiers = readiers; votes = w })

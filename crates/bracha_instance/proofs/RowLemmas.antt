@@ -10,8 +10,8 @@ use Rattle.role_commands.specs.declared.command.Command.{Command}
 use Rattle.role_commands.specs.Same.{same_command}
 use Rattle.bracha_instance.specs.Broadcast.{Names}
 use Rattle.bracha_instance.specs.States.{Votes}
-use Rattle.bracha_instance.specs.Next.{supporters_in}
-use Rattle.bracha_instance.specs.Tallies.{Row, vote_all, votes_in, names_for, RowsAgree}
+use Rattle.bracha_instance.specs.inside.Next.{supporters_in}
+use Rattle.bracha_instance.specs.inside.Tallies.{Row, vote_all, votes_in, names_for, RowsAgree}
 use Rattle.bracha_instance.proofs.Same.{same_command-true, same_command-refl}
 use Rattle.quorum_sizes.proofs.Exported.{contains-insert}
 use Rattle.bracha_instance.proofs.VoteMaps.{same_votes, get-insert, supporters_in-empty}

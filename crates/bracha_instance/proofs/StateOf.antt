@@ -14,8 +14,8 @@ use Rattle.bracha_instance.specs.Broadcast.{Take, command_of, is_of_kind, is_vot
 use Rattle.bracha_instance.specs.Broadcast.{supporters, echoed, readied, delivered, may_ready, may_deliver}
 use Rattle.bracha_instance.specs.States.{State, votes, kept, state}
 use Rattle.bracha_instance.specs.Laws.{or_else_if, RepeatChangesNothing}
-use Rattle.bracha_instance.specs.Next.{ready_now, deliver_now, only_if, after_send}
-use Rattle.bracha_instance.specs.Next.{after_echo, after_ready, after_kind, after}
+use Rattle.bracha_instance.specs.inside.Next.{ready_now, deliver_now, only_if, after_send}
+use Rattle.bracha_instance.specs.inside.Next.{after_echo, after_ready, after_kind, after}
 use Rattle.bracha_instance.specs.Taking.{has_voted}
 use Rattle.bracha_instance.proofs.Voting.{or_nothing, vote_push-other, vote_push-again, echoed_push}
 use Rattle.bracha_instance.proofs.Voting.{some_stays, contains-voters, supporters_alike}

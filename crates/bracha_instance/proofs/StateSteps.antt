@@ -6,7 +6,7 @@ use Rattle.std.specs.FinSet as sets
 use Rattle.quorum_sizes.specs.Sizes.{Counts}
 use Rattle.role_commands.specs.declared.command.Command.{Command}
 use Rattle.bracha_instance.specs.States.{Votes, State, kept}
-use Rattle.bracha_instance.specs.Next.{ready_now, deliver_now, only_if, after_send, after_echo, after_ready}
+use Rattle.bracha_instance.specs.inside.Next.{ready_now, deliver_now, only_if, after_send, after_echo, after_ready}
 
 -- a state with all votes, without those that are forgotten after a delivery
 abbrev pub forgetting : State → State

@@ -18,12 +18,15 @@ use Rattle.role_commands.specs.declared.command.Command.{Command}
 use Rattle.role_commands.specs.Same.{same_command}
 use Rattle.bracha_instance.specs.Broadcast.{Names}
 use Rattle.bracha_instance.specs.States.{Votes}
-use Rattle.bracha_instance.specs.Next.{supporters_in}
-use Rattle.bracha_instance.specs.Tallies.{Tallied, no_votes, with_command, with_echo, with_ready}
-use Rattle.bracha_instance.specs.Tallies.{support_of, HasVote, AreVoted, RowsAgree, echo_row, ready_row}
-use Rattle.bracha_instance.specs.Tallies.{TallyValue, no_names, names_for, command_in, is_tally_of, IsFirst, with_tally}
-use Rattle.bracha_instance.specs.Tallies.{echoed_by, ready_by, support_in, tallied, AreTallies, votes_in}
+use Rattle.bracha_instance.specs.inside.Next.{supporters_in}
+use Rattle.bracha_instance.specs.inside.Tallies.{Tallied, no_votes, votes_of, with_command, with_vote}
+use Rattle.bracha_instance.specs.inside.Tallies.{support_of, HasVote, AreVoted, RowsAgree, echo_row, ready_row}
+use Rattle.bracha_instance.specs.inside.Tallies.{TallyValue, no_names, names_for, command_in, is_tally_of}
+use Rattle.bracha_instance.specs.inside.Tallies.{IsFirst, with_tally}
+use Rattle.bracha_instance.specs.inside.Tallies.{voted_by, support_in, tallied, AreTallies, votes_in}
 use Rattle.bracha_instance.specs.declared.tallies.Support.{Support}
+use Rattle.bracha_instance.specs.declared.tallies.Vote.{Vote}
+use Rattle.bracha_instance.specs.declared.tallies.Vote.TheVariants.{Echo, Ready}
 use Rattle.bracha_instance.proofs.Same.{same_command-true, same_command-refl}
 use Rattle.bracha_instance.proofs.VoteMaps.{supporters_in-empty, supporters_in-insert_other, len_supporters_in-insert}
 use Rattle.bracha_instance.proofs.RowLemmas.{with_row, with_name, unchanged, votes_in-with_name, votes_in-unchanged}
@@ -313,18 +316,15 @@ as_before : (d c : Command) (v : Votes) (p : ℕ) → maps.get v p ≡ None → 
     → sets.len (supporters_in d (maps.insert v p c)) ≡ sets.len (supporters_in d v)
 as_before d c v p none other = ap sets.len (supporters_in-insert_other d c v p other none)
 
-AreVoted-echo : (v : Tallied) (p : ℕ) (c : Command) → maps.get v.echoes p ≡ None → AreVoted v
-    → AreVoted (with_echo v p c)
-AreVoted-echo v p c none are =
+AreVoted-vote : (k : Vote) (v : Tallied) (p : ℕ) (c : Command) → maps.get (votes_of k v) p ≡ None → AreVoted v
+    → AreVoted (with_vote k v p c)
+AreVoted-vote Echo v p c none are =
     let some = supported c v.echoes p none in
-    voted_more v (with_echo v p c) c are refl (omega arith) (λ d other i.
+    voted_more v (with_vote Echo v p c) c are refl (omega arith) (λ d other i.
     record { echoes = as_before d c v.echoes p none other i; readies = sets.len (supporters_in d v.readies) })
-
-AreVoted-ready : (v : Tallied) (p : ℕ) (c : Command) → maps.get v.readies p ≡ None → AreVoted v
-    → AreVoted (with_ready v p c)
-AreVoted-ready v p c none are =
+AreVoted-vote Ready v p c none are =
     let some = supported c v.readies p none in
-    voted_more v (with_ready v p c) c are refl (omega arith) (λ d other i.
+    voted_more v (with_vote Ready v p c) c are refl (omega arith) (λ d other i.
     record { echoes = sets.len (supporters_in d v.echoes); readies = as_before d c v.readies p none other i })
 
 AreVoted-none : AreVoted no_votes
@@ -350,62 +350,62 @@ AreTallies-none = record {
   voted = subst AreVoted (sym tallied-none) AreVoted-none;
 }
 
-echo_rows : (p : ℕ) (c : Command) (tallies : List TallyValue)
-    → map echo_row (with_tally (echoed_by p) c tallies) ≡ with_row (with_name p) c (map echo_row tallies)
-echo_rows p c = rows-with_tally (λ t. t.echoes) (echoed_by p) (with_name p) c (λ t. refl) (λ t. refl) refl
+pub command-voted_by : (k : Vote) (p : ℕ) (t : TallyValue) → (voted_by k p t).command ≡ t.command
+command-voted_by Echo p t = refl
+command-voted_by Ready p t = refl
 
-echo_rows_of_readies : (p : ℕ) (c : Command) (tallies : List TallyValue)
-    → map ready_row (with_tally (echoed_by p) c tallies) ≡ with_row unchanged c (map ready_row tallies)
-echo_rows_of_readies p c = rows-with_tally (λ t. t.readies) (echoed_by p) unchanged c (λ t. refl) (λ t. refl) refl
+-- the rows of a kind have a vote more, and those of the other are as they were
+same_rows : (p : ℕ) (c : Command) (tallies : List TallyValue)
+    → (map echo_row (with_tally (voted_by Echo p) c tallies) ≡ with_row (with_name p) c (map echo_row tallies))
+    × (map ready_row (with_tally (voted_by Ready p) c tallies) ≡ with_row (with_name p) c (map ready_row tallies))
+same_rows p c tallies = (
+  rows-with_tally (λ t. t.echoes) (voted_by Echo p) (with_name p) c (λ t. refl) (λ t. refl) refl tallies,
+  rows-with_tally (λ t. t.readies) (voted_by Ready p) (with_name p) c (λ t. refl) (λ t. refl) refl tallies,
+)
 
-ready_rows : (p : ℕ) (c : Command) (tallies : List TallyValue)
-    → map ready_row (with_tally (ready_by p) c tallies) ≡ with_row (with_name p) c (map ready_row tallies)
-ready_rows p c = rows-with_tally (λ t. t.readies) (ready_by p) (with_name p) c (λ t. refl) (λ t. refl) refl
+other_rows : (p : ℕ) (c : Command) (tallies : List TallyValue)
+    → (map ready_row (with_tally (voted_by Echo p) c tallies) ≡ with_row unchanged c (map ready_row tallies))
+    × (map echo_row (with_tally (voted_by Ready p) c tallies) ≡ with_row unchanged c (map echo_row tallies))
+other_rows p c tallies = (
+  rows-with_tally (λ t. t.readies) (voted_by Echo p) unchanged c (λ t. refl) (λ t. refl) refl tallies,
+  rows-with_tally (λ t. t.echoes) (voted_by Ready p) unchanged c (λ t. refl) (λ t. refl) refl tallies,
+)
 
-ready_rows_of_echoes : (p : ℕ) (c : Command) (tallies : List TallyValue)
-    → map echo_row (with_tally (ready_by p) c tallies) ≡ with_row unchanged c (map echo_row tallies)
-ready_rows_of_echoes p c = rows-with_tally (λ t. t.echoes) (ready_by p) unchanged c (λ t. refl) (λ t. refl) refl
-
--- one more ECHO
-pub tallied-echo : (tallies : List TallyValue) (p : ℕ) (c : Command) → maps.get (tallied tallies).echoes p ≡ None
-    → tallied (with_tally (echoed_by p) c tallies) ≡ with_echo (tallied tallies) p c
+-- one more vote
+pub tallied-vote : (k : Vote) (tallies : List TallyValue) (p : ℕ) (c : Command)
+    → maps.get (votes_of k (tallied tallies)) p ≡ None
+    → tallied (with_tally (voted_by k p) c tallies) ≡ with_vote k (tallied tallies) p c
 unfolding tallied
-tallied-echo tallies p c none = λ i. record {
-  echoes = (ap votes_in (echo_rows p c tallies) ∙ votes_in-with_name c p (map echo_row tallies) none) i;
-  readies = (ap votes_in (echo_rows_of_readies p c tallies) ∙ votes_in-unchanged c (map ready_row tallies)) i;
-  commands = commands-with_tally (echoed_by p) c (λ t. refl) tallies i;
+tallied-vote Echo tallies p c none = λ i. record {
+  echoes = (ap votes_in (same_rows p c tallies).0 ∙ votes_in-with_name c p (map echo_row tallies) none) i;
+  readies = (ap votes_in (other_rows p c tallies).0 ∙ votes_in-unchanged c (map ready_row tallies)) i;
+  commands = commands-with_tally (voted_by Echo p) c (λ t. refl) tallies i;
+}
+tallied-vote Ready tallies p c none = λ i. record {
+  echoes = (ap votes_in (other_rows p c tallies).1 ∙ votes_in-unchanged c (map echo_row tallies)) i;
+  readies = (ap votes_in (same_rows p c tallies).1 ∙ votes_in-with_name c p (map ready_row tallies) none) i;
+  commands = commands-with_tally (voted_by Ready p) c (λ t. refl) tallies i;
 }
 
-pub AreTallies-echo : (tallies : List TallyValue) (p : ℕ) (c : Command) → maps.get (tallied tallies).echoes p ≡ None
-    → AreTallies tallies → AreTallies (with_tally (echoed_by p) c tallies)
+pub AreTallies-vote : (k : Vote) (tallies : List TallyValue) (p : ℕ) (c : Command)
+    → maps.get (votes_of k (tallied tallies)) p ≡ None
+    → AreTallies tallies → AreTallies (with_tally (voted_by k p) c tallies)
 unfolding tallied
-AreTallies-echo tallies p c none are = record {
-  echoes = subst RowsAgree (sym (echo_rows p c tallies)) (RowsAgree-with_name c p
-      (map echo_row tallies) none are.echoes);
-  readies = subst RowsAgree (sym (echo_rows_of_readies p c tallies))
+AreTallies-vote Echo tallies p c none are = record {
+  echoes = subst RowsAgree (sym (same_rows p c tallies).0)
+      (RowsAgree-with_name c p (map echo_row tallies) none are.echoes);
+  readies = subst RowsAgree (sym (other_rows p c tallies).0)
       (RowsAgree-unchanged c (map ready_row tallies) are.readies);
-  voted = subst AreVoted (sym (tallied-echo tallies p c none)) (AreVoted-echo (tallied tallies) p c none are.voted);
+  voted = subst AreVoted (sym (tallied-vote Echo tallies p c none)) (AreVoted-vote Echo (tallied tallies) p c none
+      are.voted);
 }
-
--- one more READY
-pub tallied-ready : (tallies : List TallyValue) (p : ℕ) (c : Command) → maps.get (tallied tallies).readies p ≡ None
-    → tallied (with_tally (ready_by p) c tallies) ≡ with_ready (tallied tallies) p c
-unfolding tallied
-tallied-ready tallies p c none = λ i. record {
-  echoes = (ap votes_in (ready_rows_of_echoes p c tallies) ∙ votes_in-unchanged c (map echo_row tallies)) i;
-  readies = (ap votes_in (ready_rows p c tallies) ∙ votes_in-with_name c p (map ready_row tallies) none) i;
-  commands = commands-with_tally (ready_by p) c (λ t. refl) tallies i;
-}
-
-pub AreTallies-ready : (tallies : List TallyValue) (p : ℕ) (c : Command) → maps.get (tallied tallies).readies p ≡ None
-    → AreTallies tallies → AreTallies (with_tally (ready_by p) c tallies)
-unfolding tallied
-AreTallies-ready tallies p c none are = record {
-  echoes = subst RowsAgree (sym (ready_rows_of_echoes p c tallies))
+AreTallies-vote Ready tallies p c none are = record {
+  echoes = subst RowsAgree (sym (other_rows p c tallies).1)
       (RowsAgree-unchanged c (map echo_row tallies) are.echoes);
-  readies = subst RowsAgree (sym (ready_rows p c tallies)) (RowsAgree-with_name c p
-      (map ready_row tallies) none are.readies);
-  voted = subst AreVoted (sym (tallied-ready tallies p c none)) (AreVoted-ready (tallied tallies) p c none are.voted);
+  readies = subst RowsAgree (sym (same_rows p c tallies).1)
+      (RowsAgree-with_name c p (map ready_row tallies) none are.readies);
+  voted = subst AreVoted (sym (tallied-vote Ready tallies p c none)) (AreVoted-vote Ready (tallied tallies) p c none
+      are.voted);
 }
 
 -- a command has as many supporters as names

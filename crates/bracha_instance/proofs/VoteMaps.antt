@@ -11,8 +11,8 @@ use Rattle.role_commands.specs.declared.command.Command.{Command}
 use Rattle.role_commands.specs.Same.{same_command}
 use Rattle.bracha_instance.specs.Broadcast.{is_for}
 use Rattle.bracha_instance.specs.States.{Votes}
-use Rattle.bracha_instance.specs.Kept.{names_of}
-use Rattle.bracha_instance.specs.Next.{supporters_in}
+use Rattle.bracha_instance.specs.inside.Kept.{names_of}
+use Rattle.bracha_instance.specs.inside.Next.{supporters_in}
 
 -- two maps that answer alike are the same
 pub same_votes : (v w : Votes) → ((q : ℕ) → maps.get v q ≡ maps.get w q) → v ≡ w

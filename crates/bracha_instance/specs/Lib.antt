@@ -4,8 +4,5 @@ pub mod States
 pub mod Taking
 pub mod NewTakes
 pub mod Laws
-pub mod Kept
-pub mod Next
-pub mod Tallies
 pub mod Supported
-pub mod Instances
+pub mod inside

@@ -10,11 +10,11 @@ ghost use Rattle.bracha_instance.specs.States.{state};
 ghost use Rattle.bracha_instance.specs.NewTakes.{kind_due, taken_for};
 ghost use Rattle.bracha_instance.specs.Taking.{SendsAreFrom, has_voted, effect_of, newly};
 ghost use Rattle.bracha_instance.specs.Taking.{newly_sent, newly_delivered};
-ghost use Rattle.bracha_instance.specs.Next.{only_if, after_send, after_echo, after_ready, after_kind};
+ghost use Rattle.bracha_instance.specs.inside.Next.{only_if, after_send, after_echo, after_ready, after_kind};
 ghost use Rattle.bracha_instance.specs.Supported.{CountsSupported};
 
 use crate::record::Record;
-use crate::tallies::{Support, Tallies};
+use crate::tallies::{Support, Tallies, Vote};
 use link_frames::Kind;
 use quorum_sizes::{NodeName, NodeSet, Sizes};
 use role_commands::Command;
@@ -82,13 +82,13 @@ pub struct Instance {
 
 impl Model for Instance {
     ghost use Rattle.bracha_instance.specs.States.{State};
-    ghost use Rattle.bracha_instance.specs.Kept.{state_code};
+    ghost use Rattle.bracha_instance.specs.inside.Kept.{state_code};
 
     ghost Value = { State };
 
     ghost coded = { state_code };
 
-    ghost use Rattle.bracha_instance.specs.Instances.{instance_state, IsInstance};
+    ghost use Rattle.bracha_instance.specs.inside.Instances.{instance_state, IsInstance};
 
     ghost view = { instance_state };
 
@@ -288,7 +288,7 @@ impl Instance {
             self.echoers.insert(from);
             return Ok(());
         }
-        let support = self.votes.count_echo(from, command)?;
+        let support = self.votes.count(Vote::Echo, from, command)?;
         self.echoers.insert(from);
         keep_first(&mut self.readied, may_ready(sizes, support), command);
         Ok(())
@@ -310,7 +310,7 @@ impl Instance {
             self.readiers.insert(from);
             return Ok(());
         }
-        let support = self.votes.count_ready(from, command)?;
+        let support = self.votes.count(Vote::Ready, from, command)?;
         self.readiers.insert(from);
         keep_first(&mut self.readied, may_ready(sizes, support), command);
         if may_deliver(sizes, support) {

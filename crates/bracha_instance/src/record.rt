@@ -7,7 +7,7 @@ ghost use Rattle.bracha_instance.specs.Broadcast.{Take, vote};
 ghost use Rattle.bracha_instance.specs.States.{state};
 ghost use Rattle.bracha_instance.specs.NewTakes.{taken_for};
 ghost use Rattle.bracha_instance.specs.Taking.{SendsAreFrom, has_voted, effect_of, newly_sent, newly_delivered};
-ghost use Rattle.bracha_instance.specs.Next.{after_kind};
+ghost use Rattle.bracha_instance.specs.inside.Next.{after_kind};
 
 use crate::instance::{Caused, Effect, Taken, is_new, keep_first, kind_for};
 use link_frames::Kind;
@@ -30,13 +30,13 @@ pub struct Record {
 
 impl Model for Record {
     ghost use Rattle.bracha_instance.specs.States.{State};
-    ghost use Rattle.bracha_instance.specs.Kept.{state_code};
+    ghost use Rattle.bracha_instance.specs.inside.Kept.{state_code};
 
     ghost Value = { State };
 
     ghost coded = { state_code };
 
-    ghost use Rattle.bracha_instance.specs.Instances.{record_state};
+    ghost use Rattle.bracha_instance.specs.inside.Instances.{record_state};
 
     ghost view = { record_state };
 }

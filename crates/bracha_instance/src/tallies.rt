@@ -4,14 +4,21 @@ ghost use Rattle.std.specs.Prelude.{◌≡◌, length, None, Some, position, IfO
 ghost use Rattle.std.specs.FinMap as maps;
 ghost use Rattle.std.specs.FinSet as sets;
 ghost use Rattle.role_commands.specs.Same.{same_command};
-ghost use Rattle.bracha_instance.specs.Tallies.{no_votes, with_echo, with_ready, support_of, AreVoted};
-ghost use Rattle.bracha_instance.specs.Tallies.{is_tally_of, IsFirst, with_tally, echoed_by, ready_by, support_in};
-ghost use Rattle.bracha_instance.specs.Tallies.{no_names, names_in_tally, IsFirstChanged, IsOther};
+ghost use Rattle.bracha_instance.specs.inside.Tallies.{no_votes, votes_of, with_vote, support_of, AreVoted};
+ghost use Rattle.bracha_instance.specs.inside.Tallies.{is_tally_of, IsFirst, with_tally, voted_by, support_in};
+ghost use Rattle.bracha_instance.specs.inside.Tallies.{no_names, names_in_tally, IsFirstChanged, IsOther};
 
 use quorum_sizes::{NodeName, NodeSet};
 use role_commands::Command;
 use std::alloc::{AllocError, Global};
 use std::marker::Model;
+
+/// The kinds of message that are votes for a command.
+#[derive(Clone, Copy)]
+pub enum Vote {
+    Echo,
+    Ready,
+}
 
 /// The names of the nodes whose vote is for a command, and how many these are.
 #[derive(Drop)]
@@ -26,7 +33,7 @@ struct Tally {
 impl Model for Tally {
     ghost use Rattle.std.specs.Prelude.{◌≡◌};
     ghost use Rattle.std.specs.FinSet as sets;
-    ghost use Rattle.bracha_instance.specs.Tallies.{TallyValue, tally_code};
+    ghost use Rattle.bracha_instance.specs.inside.Tallies.{TallyValue, tally_code};
 
     ghost Value = { TallyValue };
 
@@ -54,7 +61,7 @@ pub struct Tallies {
 }
 
 impl Model for Tallies {
-    ghost use Rattle.bracha_instance.specs.Tallies.{Tallied, tallied_code, tallied, all_of, AreKept};
+    ghost use Rattle.bracha_instance.specs.inside.Tallies.{Tallied, tallied_code, tallied, all_of, AreKept};
 
     ghost Value = { Tallied };
 
@@ -88,26 +95,23 @@ impl Tally {
         is_same(&command, &self.command)
     }
 
-    /// Adds a name to the ECHOs. How many nodes support the command then.
+    /// Adds a name to the votes of this kind. How many nodes support the command then.
     #[inline(always)]
-    fn add_echo(&mut self, name: NodeName) -> Support
-        ensures tally { self.new ≡ echoed_by name self.old }
+    fn add(&mut self, vote: Vote, name: NodeName) -> Support
+        ensures tally { self.new ≡ voted_by vote name self.old }
         ensures support { result ≡ names_in_tally self.new }
     {
-        if self.echoes.insert(name) {
-            self.echo_count += 1;
-        }
-        self.support()
-    }
-
-    /// Adds a name to the READYs. How many nodes support the command then.
-    #[inline(always)]
-    fn add_ready(&mut self, name: NodeName) -> Support
-        ensures tally { self.new ≡ ready_by name self.old }
-        ensures support { result ≡ names_in_tally self.new }
-    {
-        if self.readies.insert(name) {
-            self.ready_count += 1;
+        match vote {
+            Vote::Echo => {
+                if self.echoes.insert(name) {
+                    self.echo_count += 1;
+                }
+            }
+            Vote::Ready => {
+                if self.readies.insert(name) {
+                    self.ready_count += 1;
+                }
+            }
         }
         self.support()
     }
@@ -193,77 +197,45 @@ fn add_tally(tallies: &mut Vec<Tally>, command: Command) -> Result<usize, AllocE
     Ok(at)
 }
 
-/// Adds a name to the ECHOs for a command. How many nodes support it then.
+/// Adds a name to the votes of this kind for a command. How many nodes support it then.
 #[inline(never)]
-fn add_echo(
+fn add(
     tallies: &mut Vec<Tally>,
+    vote: Vote,
     name: NodeName,
     command: Command,
 ) -> Result<Support, AllocError>
-    ensures tallies { OnOk result (tallies.new.items ≡ with_tally (echoed_by name) command tallies.old.items) }
+    ensures tallies { OnOk result (tallies.new.items ≡ with_tally (voted_by vote name) command tallies.old.items) }
     ensures support { IfOk result (λ support. support ≡ support_in command tallies.new.items) }
     ensures err { OnErr result (tallies.new.items ≡ tallies.old.items) }
 {
     let at = tally_of(tallies, command)?;
-    Ok(tallies[at].add_echo(name))
+    Ok(tallies[at].add(vote, name))
 }
 
-/// Adds a name to the READYs for a command. How many nodes support it then.
-#[inline(never)]
-fn add_ready(
-    tallies: &mut Vec<Tally>,
-    name: NodeName,
-    command: Command,
-) -> Result<Support, AllocError>
-    ensures tallies { OnOk result (tallies.new.items ≡ with_tally (ready_by name) command tallies.old.items) }
-    ensures support { IfOk result (λ support. support ≡ support_in command tallies.new.items) }
-    ensures err { OnErr result (tallies.new.items ≡ tallies.old.items) }
-{
-    let at = tally_of(tallies, command)?;
-    Ok(tallies[at].add_ready(name))
-}
-
-/// Adds a name to the ECHOs of the first command, which this is where there is none yet. How many nodes support it
-/// then; `None`, which changes nothing, where the first is another.
+/// Adds a name to the votes of this kind for the first command, which this is where there is none yet. How many nodes
+/// support it then; `None`, which changes nothing, where the first is another.
 #[inline(always)]
-fn echo_first(first: &mut Option<Tally>, name: NodeName, command: Command) -> Option<Support>
-    ensures some { IfSome result (IsFirstChanged (echoed_by name) command first.old first.new) }
+fn add_to_first(
+    first: &mut Option<Tally>,
+    vote: Vote,
+    name: NodeName,
+    command: Command,
+) -> Option<Support>
+    ensures some { IfSome result (IsFirstChanged (voted_by vote name) command first.old first.new) }
     ensures none { IfNone result (IsOther command first.old × (first.new ≡ first.old)) }
 {
     match first {
         Some(tally) => {
             if tally.is_of(command) {
-                Some(tally.add_echo(name))
+                Some(tally.add(vote, name))
             } else {
                 None
             }
         }
         None => {
             let mut tally = Tally::new(command);
-            let support = tally.add_echo(name);
-            *first = Some(tally);
-            Some(support)
-        }
-    }
-}
-
-/// Adds a name to the READYs of the first command, as [`echo_first`] does.
-#[inline(always)]
-fn ready_first(first: &mut Option<Tally>, name: NodeName, command: Command) -> Option<Support>
-    ensures some { IfSome result (IsFirstChanged (ready_by name) command first.old first.new) }
-    ensures none { IfNone result (IsOther command first.old × (first.new ≡ first.old)) }
-{
-    match first {
-        Some(tally) => {
-            if tally.is_of(command) {
-                Some(tally.add_ready(name))
-            } else {
-                None
-            }
-        }
-        None => {
-            let mut tally = Tally::new(command);
-            let support = tally.add_ready(name);
+            let support = tally.add(vote, name);
             *first = Some(tally);
             Some(support)
         }
@@ -281,41 +253,27 @@ impl Tallies {
         }
     }
 
-    /// Counts the ECHO of a node that has none. How many nodes support its command then.
+    /// Counts the vote of a node that has none of this kind. How many nodes support its command then.
     ///
     /// # Errors
     ///
     /// `AllocError`, which changes nothing.
     #[inline(always)]
-    pub fn count_echo(&mut self, name: NodeName, command: Command) -> Result<Support, AllocError>
-        requires { maps.get self.old.echoes name ≡ None }
-        ensures ok { OnOk result (self.new ≡ with_echo self.old name command) }
+    pub fn count(
+        &mut self,
+        vote: Vote,
+        name: NodeName,
+        command: Command,
+    ) -> Result<Support, AllocError>
+        requires { maps.get (votes_of vote self.old) name ≡ None }
+        ensures ok { OnOk result (self.new ≡ with_vote vote self.old name command) }
         ensures support { IfOk result (λ support. support ≡ support_of self.new command) }
         ensures err { OnErr result (self.new ≡ self.old) }
     {
-        if let Some(support) = echo_first(&mut self.first, name, command) {
+        if let Some(support) = add_to_first(&mut self.first, vote, name, command) {
             return Ok(support);
         }
-        let support = add_echo(&mut self.others, name, command)?;
-        Ok(support)
-    }
-
-    /// Counts the READY of a node that has none. How many nodes support its command then.
-    ///
-    /// # Errors
-    ///
-    /// `AllocError`, which changes nothing.
-    #[inline(always)]
-    pub fn count_ready(&mut self, name: NodeName, command: Command) -> Result<Support, AllocError>
-        requires { maps.get self.old.readies name ≡ None }
-        ensures ok { OnOk result (self.new ≡ with_ready self.old name command) }
-        ensures support { IfOk result (λ support. support ≡ support_of self.new command) }
-        ensures err { OnErr result (self.new ≡ self.old) }
-    {
-        if let Some(support) = ready_first(&mut self.first, name, command) {
-            return Ok(support);
-        }
-        let support = add_ready(&mut self.others, name, command)?;
+        let support = add(&mut self.others, vote, name, command)?;
         Ok(support)
     }
 

@@ -14,10 +14,10 @@ use Rattle.byz_world.specs.Pools.{pool}
 use Rattle.byz_world.specs.Worlds.{WorldValue, is_correct_in, IsClusterRunOf}
 use Rattle.byz_world.specs.Steps.{Arrival, arrival, arrives, given, unless_forged, opened_at, of_opened}
 use Rattle.byz_world.specs.Steps.{is_pool_full, is_forged, of_reply, step_due, after_step, IsStepAnswer}
-use Rattle.byz_world.specs.Inside.{MayArrive, told_of}
+use Rattle.byz_world.specs.inside.Kept.{MayArrive, result_reply}
 use Rattle.byz_world.specs.declared.step.Step.{Step}
 use Rattle.byz_world.specs.declared.step.Step.TheVariants.{Issue, Give, Lie, Bytes, Client}
-use Rattle.byz_world.specs.declared.step.Came.TheVariants as came
+use Rattle.byz_world.specs.declared.step.StepOutcome.TheVariants as outcome
 use Rattle.byz_world.specs.declared.step.StepReply.TheVariants.{Absorbed}
 use Rattle.byz_world.specs.declared.faults.WorldFault.TheVariants as fault
 use Rattle.byz_world.proofs.Stepping.{MayBe, given_may}
@@ -111,7 +111,7 @@ absorbed_stays w step p at liar = absorbed_after w step (at ∙ liar_absorbs w p
 pub recorded_told : (w : WorldValue) (step : Step) (at : ℕ) (e : Event) (entry : EntryValue) →
     arrival w step ≡ Ok (Some (at, e)) → outlook w.config at (history_of at w.run) e ≡ Ok effect.Counted →
     entry.reply ≡ reply_to w.config.roles at (history_of at w.run) e →
-    IsStepAnswer w step (told_of w (Ok (came.Recorded entry)))
+    IsStepAnswer w step (result_reply w (Ok (outcome.Recorded entry)))
 recorded_told w step at e entry arrives' counts due =
     recorded_answer w step at e (Ok (of_reply w entry.reply)) arrives' counts (ap (of_reply w) due) tt
 

@@ -7,8 +7,8 @@ use Rattle.std.proofs.lemmas.Bool.{cases_lt}
 use Rattle.std.proofs.lemmas.Option.{slice_get_within}
 use Rattle.std.proofs.Math.Nat.{mul-le-mul_right}
 use Rattle.byz_world.specs.Pools.{Sent}
-use Rattle.byz_world.specs.Inside.{Members, member_in}
-use Rattle.byz_world.specs.Blocks.{member_after, member_marks, mark_in, TookFirst, GaveSome, AreGiven}
+use Rattle.byz_world.specs.inside.Kept.{Members, member_in}
+use Rattle.byz_world.specs.inside.Blocks.{member_after, member_marks, mark_in, TookFirst, GaveSome, AreGiven}
 use Rattle.byz_world.specs.declared.block.Mark.{Mark}
 use Rattle.byz_world.proofs.BlockTakes.{member_after-none, member_marks-at, took-length}
 use Rattle.byz_world.proofs.Elements.{at_tail}

@@ -32,9 +32,11 @@ use Rattle.byz_world.specs.Settled.{IsProlonged}
 use Rattle.byz_world.specs.Steps.{arrival, given, is_pool_full, recorded_pair, with_run, after_step, after_steps}
 use Rattle.byz_world.specs.Settled.{after_gives}
 use Rattle.byz_world.specs.declared.step.Step.TheVariants.{Give}
-use Rattle.byz_world.specs.Blocks.{counts_at, kind_of, sends_at, mark_of, taken, mark_due, after_take, after_takes, mark_in}
-use Rattle.byz_world.specs.Blocks.{noted_names, noted_messages, message_for, mark_of_row, row_names, row_messages}
-use Rattle.byz_world.specs.Blocks.{block_names, block_messages}
+use Rattle.byz_world.specs.inside.Blocks.{counts_at, kind_of, sends_at, mark_of, taken, mark_due, after_take}
+use Rattle.byz_world.specs.inside.Blocks.{after_takes, mark_in}
+use Rattle.byz_world.specs.inside.Blocks.{noted_names, noted_messages, message_for, mark_of_row, row_names}
+use Rattle.byz_world.specs.inside.Blocks.{row_messages}
+use Rattle.byz_world.specs.inside.Blocks.{block_names, block_messages}
 use Rattle.byz_world.specs.declared.block.Mark.{Mark}
 use Rattle.byz_world.specs.declared.block.Mark.TheVariants.{Passed, Counted}
 use Rattle.byz_world.proofs.BlockRuns.{names, names-append, names-one, names-none, messages-append}
@@ -45,7 +47,8 @@ use Rattle.byz_world.proofs.Progress.{some_within}
 use Rattle.byz_world.proofs.BlockTakes.{after_takes-push, after_takes-none}
 use Rattle.byz_world.proofs.Elements.{contained, at_front}
 use Rattle.byz_world.proofs.Numbering.{pool-length, packet_at}
-use Rattle.byz_world.proofs.Passes.{give_prolongs, prolonged_more, prolonged_runs, prolonged_none, arrived, pair_of, added}
+use Rattle.byz_world.proofs.Passes.{give_prolongs, prolonged_more, prolonged_runs, prolonged_none, arrived}
+use Rattle.byz_world.proofs.Passes.{pair_of, added}
 use Rattle.byz_world.proofs.Pushing.{history_of-push, history_of-push_other, messages-push}
 use Rattle.byz_world.proofs.Sound.{message_is_due}
 use Rattle.byz_world.proofs.Stepping.{after_where, after_steps-push, after_steps-none}

@@ -4,8 +4,8 @@ use Rattle.std.proofs.Common.{drop, refl, sym, ap, ◌∙◌, append-nil, append
 use Rattle.std.specs.Prelude.{slice_get}
 use Rattle.link_frames.specs.declared.packet.Message.{Message}
 use Rattle.byz_world.specs.Pools.{Sent}
-use Rattle.byz_world.specs.Blocks.{noted_names, noted_messages, row_names, row_messages, row_of}
-use Rattle.byz_world.specs.Blocks.{mark_of_row, block_names, block_messages}
+use Rattle.byz_world.specs.inside.Blocks.{noted_names, noted_messages, row_names, row_messages, row_of}
+use Rattle.byz_world.specs.inside.Blocks.{mark_of_row, block_names, block_messages}
 use Rattle.byz_world.specs.declared.block.Mark.{Mark}
 use Rattle.byz_world.specs.declared.block.Mark.TheVariants.{Passed, Counted}
 

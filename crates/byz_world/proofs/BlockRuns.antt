@@ -7,7 +7,7 @@ use Rattle.role_node.specs.Configs.{ConfigValue}
 use Rattle.role_node.specs.declared.event.Event.{Event}
 use Rattle.byz_world.specs.Runs.{Run, history_of}
 use Rattle.byz_world.specs.Pools.{listed, sends_next, messages_after, messages}
-use Rattle.byz_world.specs.Inside.{next_event, run_after}
+use Rattle.byz_world.specs.inside.Kept.{next_event, run_after}
 use Rattle.role_commands.proofs.Exported.{slice_get-seam}
 use Rattle.byz_world.proofs.Ordered.{times, times-own, times-other}
 use Rattle.byz_world.proofs.Pushing.{history_of-append, history_of-none, history_of-own, history_of-other}

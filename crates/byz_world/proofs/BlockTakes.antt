@@ -5,8 +5,9 @@ use Rattle.std.proofs.Common.{arith, take_all}
 use Rattle.std.specs.Prelude.{slice_get}
 use Rattle.role_node.specs.Nodes.{NodeValue}
 use Rattle.byz_world.specs.Pools.{Sent}
-use Rattle.byz_world.specs.Blocks.{after_take, after_takes, mark_due, marks_due, member_after, member_marks, all_passed}
-use Rattle.byz_world.specs.Blocks.{mark_in, TookFirst}
+use Rattle.byz_world.specs.inside.Blocks.{after_take, after_takes, mark_due, marks_due, member_after}
+use Rattle.byz_world.specs.inside.Blocks.{member_marks, all_passed}
+use Rattle.byz_world.specs.inside.Blocks.{mark_in, TookFirst}
 use Rattle.byz_world.specs.declared.block.Mark.{Mark}
 use Rattle.byz_world.specs.declared.block.Mark.TheVariants.{Passed}
 

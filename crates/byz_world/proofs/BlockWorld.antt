@@ -15,12 +15,13 @@ use Rattle.role_node.specs.declared.event.Event.{Event}
 use Rattle.byz_world.specs.Runs.{Run, history_of, IsClusterRun}
 use Rattle.byz_world.specs.Pools.{Sent, listed, messages, messages_after, pool}
 use Rattle.byz_world.specs.Worlds.{WorldValue, node_in, node_due, is_correct_in}
-use Rattle.byz_world.specs.Inside.{Members, member_in, history_in, next_event, run_after, run_in, world_in, IsWorldIn}
+use Rattle.byz_world.specs.inside.Kept.{Members, member_in, history_in, next_event, run_after, run_in, world_in}
+use Rattle.byz_world.specs.inside.Kept.{IsWorldIn}
 use Rattle.byz_world.specs.Settled.{IsProlonged}
 use Rattle.byz_world.specs.Steps.{with_run, after_step, after_steps}
 use Rattle.byz_world.specs.Settled.{after_gives}
-use Rattle.byz_world.specs.Blocks.{member_after, after_takes, mark_in, AreGiven, block_names, block_messages}
-use Rattle.byz_world.specs.Blocks.{block_most, IsBlock, StartsBlock}
+use Rattle.byz_world.specs.inside.Blocks.{member_after, after_takes, mark_in, AreGiven, block_names, block_messages}
+use Rattle.byz_world.specs.inside.Blocks.{block_most, IsBlock, StartsBlock}
 use Rattle.byz_world.specs.declared.step.Step.TheVariants.{Give}
 use Rattle.byz_world.specs.declared.block.Mark.{Mark}
 use Rattle.byz_world.proofs.BlockMerge.{Merged, IsMarked, given_to, takes_are, merged_none, merged_block}

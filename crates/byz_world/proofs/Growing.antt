@@ -15,7 +15,7 @@ use Rattle.role_node.specs.Configs.{ConfigValue}
 use Rattle.role_node.specs.declared.event.Event.{Event}
 use Rattle.role_node.specs.declared.event.Event.TheVariants.{Take}
 use Rattle.byz_world.specs.Runs.{Run, history_of, is_correct, has_sent, IsClusterRun}
-use Rattle.byz_world.specs.Inside.{MayFollow}
+use Rattle.byz_world.specs.inside.Kept.{MayFollow}
 use Rattle.byz_world.proofs.Pushing.{history_of-none, history_of-push, history_of-push_other}
 
 -- one more recorded event leaves a history legal

@@ -29,7 +29,7 @@ use Rattle.role_node.specs.declared.event.Reply.{Reply}
 use Rattle.role_node.specs.declared.faults.NodeFault.{NodeFault}
 use Rattle.role_node.specs.declared.faults.NodeFault.TheVariants as fault
 use Rattle.byz_world.specs.Runs.{Run, history_of, is_correct, IsClusterRun}
-use Rattle.byz_world.specs.Inside.{is_idle}
+use Rattle.byz_world.specs.inside.Kept.{is_idle}
 use Rattle.byz_world.proofs.Elements.{contained, number_of}
 use Rattle.byz_world.proofs.Lists.{IsIn, IsFront, IsPicked, picked_from, is_picked}
 use Rattle.byz_world.proofs.Lists.{found_there, front_taken, front_picked}

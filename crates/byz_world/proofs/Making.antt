@@ -17,7 +17,7 @@ use Rattle.byz_world.specs.Runs.{history_of}
 use Rattle.byz_world.specs.Pools.{packets_of, pool}
 use Rattle.byz_world.specs.Worlds.{WorldValue, new_world, node_in, node_due, is_correct_in}
 use Rattle.byz_world.specs.LabKeys.{lab_ring, ring_due, rings_due, ring_in}
-use Rattle.byz_world.specs.Inside.{member_in, history_in, run_after, run_in, IsWorldIn}
+use Rattle.byz_world.specs.inside.Kept.{member_in, history_in, run_after, run_in, IsWorldIn}
 use Rattle.byz_world.proofs.Pushing.{history_of-none, messages-none}
 use Rattle.byz_world.proofs.Pooled.{name_at}
 use Rattle.byz_world.proofs.Growing.{empty_run}

@@ -8,7 +8,7 @@ use Rattle.std.proofs.lemmas.Map.Views.{exact_unsigned_eq}
 use Rattle.role_commands.proofs.Exported.{slice_get-front, slice_get-seam}
 use Rattle.role_node.specs.declared.event.Event.{Event}
 use Rattle.byz_world.specs.Pools.{listed}
-use Rattle.byz_world.specs.Inside.{next_event, run_after}
+use Rattle.byz_world.specs.inside.Kept.{next_event, run_after}
 
 -- how often a name stands among these
 abbrev pub times : ℕ → List ℕ → ℕ

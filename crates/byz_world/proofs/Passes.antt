@@ -16,7 +16,7 @@ use Rattle.role_node.proofs.Exported.{legal_within}
 use Rattle.role_node.specs.Configs.{ConfigValue}
 use Rattle.role_node.specs.declared.event.Event.{Event}
 use Rattle.role_node.specs.declared.event.Event.TheVariants as event
-use Rattle.byz_world.specs.Inside.{Members, next_event, run_after, run_in, member_in, history_in, IsWorldIn}
+use Rattle.byz_world.specs.inside.Kept.{Members, next_event, run_after, run_in, member_in, history_in, IsWorldIn}
 use Rattle.byz_world.specs.Pools.{Sent, listed, pool}
 use Rattle.byz_world.specs.Progress.{counts_now, IsGivable, IsProlongation, IsStuck}
 use Rattle.byz_world.specs.Runs.{Run, history_of, IsClusterRun}

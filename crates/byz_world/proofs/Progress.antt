@@ -31,7 +31,7 @@ use Rattle.role_node.specs.declared.event.Event.{Event}
 use Rattle.role_node.specs.declared.event.Event.TheVariants as event
 use Rattle.role_node.specs.declared.faults.NodeFault.{NodeFault}
 use Rattle.role_node.specs.declared.faults.NodeFault.TheVariants as fault
-use Rattle.byz_world.specs.Inside.{is_idle}
+use Rattle.byz_world.specs.inside.Kept.{is_idle}
 use Rattle.byz_world.specs.Laws.{stream_of, reach_of}
 use Rattle.byz_world.specs.Pools.{pool, WasSent}
 use Rattle.byz_world.specs.Progress.{IsStuck, HasRoom, NothingIsStuck}

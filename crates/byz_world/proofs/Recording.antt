@@ -18,7 +18,7 @@ use Rattle.role_sessions.specs.declared.event.ClientEvent.TheVariants.{Open, Act
 use Rattle.byz_world.specs.Runs.{Run, history_of, IsClusterRun}
 use Rattle.byz_world.specs.Pools.{Sent, listed, sends_next, messages, pool}
 use Rattle.byz_world.specs.Worlds.{WorldValue, node_in, node_due, is_correct_in}
-use Rattle.byz_world.specs.Inside.{Members, member_in, history_in, run_in, world_in, IsWorldIn, MayHappen, is_act}
+use Rattle.byz_world.specs.inside.Kept.{Members, member_in, history_in, run_in, world_in, IsWorldIn, MayHappen, is_act}
 use Rattle.byz_world.proofs.Pushing.{history_of-push, history_of-push_other, messages-push}
 use Rattle.byz_world.proofs.Growing.{cluster_run_push}
 use Rattle.byz_world.proofs.Numbering.{pool-length}

@@ -11,7 +11,8 @@ use Rattle.byz_world.specs.Runs.{Run, history_of}
 use Rattle.byz_world.specs.Pools.{Sent, messages, packets_of, pool}
 use Rattle.byz_world.specs.Resting.{IsAtRest}
 use Rattle.byz_world.specs.Worlds.{WorldValue, node_in}
-use Rattle.byz_world.specs.Inside.{Members, run_in, world_in, IsWorldIn, has_taken, has_taken_packet, has_taken_all}
+use Rattle.byz_world.specs.inside.Kept.{Members, run_in, world_in, IsWorldIn, has_taken, has_taken_packet}
+use Rattle.byz_world.specs.inside.Kept.{has_taken_all}
 use Rattle.byz_world.proofs.Elements.{number_of, contained, contains_flat, flat_contains}
 use Rattle.byz_world.proofs.Pooled.{number_in, to_each, pooled_is_sent}
 use Rattle.byz_world.proofs.Idle.{taken_is_idle, idle_is_taken}

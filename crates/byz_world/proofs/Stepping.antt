@@ -19,7 +19,7 @@ use Rattle.byz_world.specs.Worlds.{WorldValue, node_in, is_correct_in}
 use Rattle.byz_world.specs.Steps.{Arrival, arrival, arrives, given, unless_forged, opened_at, of_opened}
 use Rattle.byz_world.specs.Steps.{is_pool_full, is_forged, of_reply, of_answer, answer_of, step_due}
 use Rattle.byz_world.specs.Steps.{recorded_pair, with_run, after_step, after_steps, adds, IsStepAnswer, IsSoundStep}
-use Rattle.byz_world.specs.Inside.{MayHappen}
+use Rattle.byz_world.specs.inside.Kept.{MayHappen}
 use Rattle.byz_world.specs.Worlds.{IsClusterRunOf}
 use Rattle.byz_world.specs.declared.step.Step.{Step}
 use Rattle.byz_world.specs.declared.step.Step.TheVariants.{Issue, Give, Lie, Bytes, Client}

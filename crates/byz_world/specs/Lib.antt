@@ -10,10 +10,8 @@ pub mod Progress
 pub mod Agreement
 pub mod Laws
 pub mod Limits
-pub mod Inside
 pub mod Example
 pub mod Checks
 pub mod Headline
-pub mod Fields
 pub mod Asking
-pub mod Blocks
+pub mod inside

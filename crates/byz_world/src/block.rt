@@ -4,9 +4,10 @@
 ghost use Rattle.std.specs.Prelude.{◌≡◌, ◌+◌, ◌*◌, ◌<◌, ◌≤◌, [], ◌++◌, length, drop, slice_get};
 ghost use Rattle.std.specs.Prelude.{IfOk, OnOk, OnErr, Some, None};
 ghost use Rattle.std.specs.Vec.{vec_len, vec_capacity};
-ghost use Rattle.byz_world.specs.Blocks.{kind_of, mark_due, mark_of, after_take, taken, TookSome, GaveSome, AreGiven};
-ghost use Rattle.byz_world.specs.Blocks.{noted_names, noted_messages, mark_of_row, row_names, row_messages};
-ghost use Rattle.byz_world.specs.Blocks.{block_most, block_names, block_messages};
+ghost use Rattle.byz_world.specs.inside.Blocks.{kind_of, mark_due, mark_of, after_take, taken, TookSome};
+ghost use Rattle.byz_world.specs.inside.Blocks.{GaveSome, AreGiven};
+ghost use Rattle.byz_world.specs.inside.Blocks.{noted_names, noted_messages, mark_of_row, row_names, row_messages};
+ghost use Rattle.byz_world.specs.inside.Blocks.{block_most, block_names, block_messages};
 ghost use Rattle.byz_world.specs.declared.block.Mark.TheVariants.{Counted};
 
 use bracha_instance::Effect;

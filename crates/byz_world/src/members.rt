@@ -13,7 +13,7 @@ ghost use Rattle.role_node.specs.Questions.{ask_due, IsAsked, IsAnswerTo};
 ghost use Rattle.role_node.specs.Answers.{outlook, reply_to};
 ghost use Rattle.role_node.specs.Nodes.{NodeValue, with_event};
 ghost use Rattle.byz_world.specs.Runs.{of_kind};
-ghost use Rattle.byz_world.specs.Inside.{member_in, has_taken, has_taken_all};
+ghost use Rattle.byz_world.specs.inside.Kept.{member_in, has_taken, has_taken_all};
 ghost use Rattle.byz_world.specs.Worlds.{new_world, node_due};
 
 use bracha_instance::Effect;

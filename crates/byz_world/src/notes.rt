@@ -3,21 +3,21 @@
 ghost use Rattle.std.specs.Prelude.{◌≡◌, ◌<◌, ◌++◌, ◌∷◌, [], option_map};
 ghost use Rattle.std.specs.Vec.{vec_len, vec_capacity};
 ghost use Rattle.byz_world.specs.Pools.{listed};
-ghost use Rattle.byz_world.specs.Inside.{told_by};
+ghost use Rattle.byz_world.specs.inside.Kept.{outcome_reply};
 
-use crate::step::{Came, StepReply};
+use crate::step::{StepOutcome, StepReply};
 use link_frames::Message;
 use quorum_sizes::NodeName;
 use role_node::Reply;
 
 /// What a step answers by what came of it, where so many packets were sent before it and there are so many nodes.
-pub(crate) fn told(came: &Came, first: u32, nodes: u8) -> StepReply
-    ensures { result ≡ told_by first nodes came.now }
+pub(crate) fn step_reply(outcome: &StepOutcome, first: u32, nodes: u8) -> StepReply
+    ensures { result ≡ outcome_reply first nodes outcome.now }
 {
-    let reply = match came {
-        Came::Absorbed => return StepReply::Absorbed,
-        Came::Idle => Reply::Idle,
-        Came::Recorded(entry) => entry.reply(),
+    let reply = match outcome {
+        StepOutcome::Absorbed => return StepReply::Absorbed,
+        StepOutcome::Idle => Reply::Idle,
+        StepOutcome::Recorded(entry) => entry.reply(),
     };
     let count = if reply.message().is_some() { nodes } else { 0 };
     StepReply::Node {

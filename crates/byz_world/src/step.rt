@@ -38,7 +38,7 @@ pub enum StepReply {
 
 /// What comes of a step that is not refused.
 #[derive(Clone, Copy)]
-pub(crate) enum Came {
+pub(crate) enum StepOutcome {
     /// The packet went to a liar.
     Absorbed,
     /// The node has taken the packet before.

@@ -20,13 +20,13 @@ ghost use Rattle.byz_world.specs.Steps.{arrival, opened_at, unless_forged, arriv
 ghost use Rattle.byz_world.specs.Steps.{with_run, adds, after_step, after_steps, IsStepAnswer};
 ghost use Rattle.byz_world.specs.Settled.{after_gives};
 ghost use Rattle.byz_world.specs.Settled.{IsProlonged};
-ghost use Rattle.byz_world.specs.Blocks.{IsBlock, StartsBlock};
+ghost use Rattle.byz_world.specs.inside.Blocks.{IsBlock, StartsBlock};
 ghost use Rattle.byz_world.specs.Agreement.{agree_due};
 ghost use Rattle.byz_world.specs.Laws.{reach_of};
 ghost use Rattle.byz_world.specs.Resting.{IsAtRest};
 ghost use Rattle.byz_world.specs.Asking.{IsMade, IsQuestionAnswer};
 ghost use Rattle.byz_world.specs.Checks.{decision_due};
-ghost use Rattle.byz_world.specs.Inside.{MayHappen, MayArrive, told_of};
+ghost use Rattle.byz_world.specs.inside.Kept.{MayHappen, MayArrive, result_reply};
 ghost use Rattle.byz_world.specs.Worlds.{IsClusterRunOf};
 ghost use Rattle.byz_world.specs.declared.step.Step.{Step};
 ghost use Rattle.byz_world.specs.declared.step.Step.TheVariants.{Issue, Give, Lie, Bytes, Client};
@@ -36,8 +36,8 @@ use crate::cursor::PacketCursor;
 use crate::faults::WorldFault;
 use crate::keys::{keys_of, new_keys};
 use crate::members::{ask_at, check_at, has_sent, has_taken_all, member, new_members, record_at};
-use crate::notes::{note_name, note_sent, told};
-use crate::step::{Came, Step, StepReply};
+use crate::notes::{note_name, note_sent, step_reply};
+use crate::step::{Step, StepOutcome, StepReply};
 use bracha_instance::Effect;
 use link_frames::{LinkFault, Message, Packet, PairKeys, open_frame};
 use quorum_sizes::{NodeName, NodeSet, Sizes};
@@ -74,7 +74,7 @@ impl Model for World {
 
     ghost coded = { world_code };
 
-    ghost use Rattle.byz_world.specs.Fields.{world_value, IsWorld};
+    ghost use Rattle.byz_world.specs.inside.Fields.{world_value, IsWorld};
 
     ghost view = { world_value };
 
@@ -261,7 +261,7 @@ impl World {
         if self.is_full() {
             return Ok(());
         }
-        let Err(fault) = self.happen(to, &Event::Take(packet)) else {
+        let Err(fault) = self.answer_event(to, &Event::Take(packet)) else {
             return Ok(());
         };
         match fault {
@@ -285,12 +285,12 @@ impl World {
     {
         let first = self.sent_len();
         let nodes = self.sizes().n();
-        let came = self.answer(&step)?;
-        Ok(told(&came, first, nodes))
+        let outcome = self.answer(&step)?;
+        Ok(step_reply(&outcome, first, nodes))
     }
 
-    fn answer(&mut self, step: &Step) -> Result<Came, WorldFault>
-        ensures due { IsStepAnswer self.old step.now (told_of self.old result) }
+    fn answer(&mut self, step: &Step) -> Result<StepOutcome, WorldFault>
+        ensures due { IsStepAnswer self.old step.now (result_reply self.old result) }
         ensures ok { OnOk result (self.new ≡ after_step self.old step.now) }
         ensures err { OnErr result (self.new ≡ self.old) }
         ensures run { IsClusterRunOf self.new }
@@ -305,8 +305,8 @@ impl World {
     }
 
     /// A correct node publishes a command.
-    fn issue(&mut self, name: NodeName, command: Command) -> Result<Came, WorldFault>
-        ensures due { IsStepAnswer self.old (Issue name command) (told_of self.old result) }
+    fn issue(&mut self, name: NodeName, command: Command) -> Result<StepOutcome, WorldFault>
+        ensures due { IsStepAnswer self.old (Issue name command) (result_reply self.old result) }
         ensures ok { OnOk result (self.new ≡ after_step self.old (Issue name command)) }
         ensures err { OnErr result (self.new ≡ self.old) }
         ensures run { IsClusterRunOf self.new }
@@ -317,12 +317,12 @@ impl World {
         if self.is_full() {
             return Err(WorldFault::PoolFull);
         }
-        self.happen(name, &Event::Issue(command))
+        self.answer_event(name, &Event::Issue(command))
     }
 
     /// The packet of this number comes to its receiver.
-    fn give(&mut self, number: u32) -> Result<Came, WorldFault>
-        ensures due { IsStepAnswer self.old (Give number) (told_of self.old result) }
+    fn give(&mut self, number: u32) -> Result<StepOutcome, WorldFault>
+        ensures due { IsStepAnswer self.old (Give number) (result_reply self.old result) }
         ensures ok { OnOk result (self.new ≡ after_step self.old (Give number)) }
         ensures err { OnErr result (self.new ≡ self.old) }
         ensures run { IsClusterRunOf self.new }
@@ -334,8 +334,8 @@ impl World {
     }
 
     /// A packet comes to its receiver that anybody may have sent.
-    fn lie(&mut self, packet: &Packet) -> Result<Came, WorldFault>
-        ensures due { IsStepAnswer self.old (Lie packet.now) (told_of self.old result) }
+    fn lie(&mut self, packet: &Packet) -> Result<StepOutcome, WorldFault>
+        ensures due { IsStepAnswer self.old (Lie packet.now) (result_reply self.old result) }
         ensures ok { OnOk result (self.new ≡ after_step self.old (Lie packet.now)) }
         ensures err { OnErr result (self.new ≡ self.old) }
         ensures run { IsClusterRunOf self.new }
@@ -347,8 +347,8 @@ impl World {
     }
 
     /// Bytes come to a correct node.
-    fn receive(&mut self, to: NodeName, bytes: &[u8]) -> Result<Came, WorldFault>
-        ensures due { IsStepAnswer self.old (Bytes to bytes.now) (told_of self.old result) }
+    fn receive(&mut self, to: NodeName, bytes: &[u8]) -> Result<StepOutcome, WorldFault>
+        ensures due { IsStepAnswer self.old (Bytes to bytes.now) (result_reply self.old result) }
         ensures ok { OnOk result (self.new ≡ after_step self.old (Bytes to bytes.now)) }
         ensures err { OnErr result (self.new ≡ self.old) }
         ensures run { IsClusterRunOf self.new }
@@ -360,8 +360,8 @@ impl World {
     }
 
     /// A client acts at a correct node.
-    fn act(&mut self, name: NodeName, act: ClientEvent) -> Result<Came, WorldFault>
-        ensures due { IsStepAnswer self.old (Client name act) (told_of self.old result) }
+    fn act(&mut self, name: NodeName, act: ClientEvent) -> Result<StepOutcome, WorldFault>
+        ensures due { IsStepAnswer self.old (Client name act) (result_reply self.old result) }
         ensures ok { OnOk result (self.new ≡ after_step self.old (Client name act)) }
         ensures err { OnErr result (self.new ≡ self.old) }
         ensures run { IsClusterRunOf self.new }
@@ -369,13 +369,13 @@ impl World {
         if !self.is_correct(name) {
             return Err(WorldFault::NotCorrect);
         }
-        self.happen(name, &Event::Client(act))
+        self.answer_event(name, &Event::Client(act))
     }
 
     /// A packet comes to its receiver, unless it is forged.
-    fn unless_forged(&mut self, packet: Packet) -> Result<Came, WorldFault>
+    fn unless_forged(&mut self, packet: Packet) -> Result<StepOutcome, WorldFault>
         ensures due { (step : Step) → arrival self.old step ≡ unless_forged self.old packet →
-            IsStepAnswer self.old step (told_of self.old result) }
+            IsStepAnswer self.old step (result_reply self.old result) }
         ensures ok { (step : Step) → arrival self.old step ≡ unless_forged self.old packet →
             OnOk result (self.new ≡ after_step self.old step) }
         ensures err { OnErr result (self.new ≡ self.old) }
@@ -388,10 +388,10 @@ impl World {
     }
 
     /// A packet that may be taken comes to its receiver. A liar absorbs it.
-    fn arrive(&mut self, packet: Packet) -> Result<Came, WorldFault>
+    fn arrive(&mut self, packet: Packet) -> Result<StepOutcome, WorldFault>
         requires { MayArrive self.old (arrives self.old packet) }
         ensures due { (step : Step) → arrival self.old step ≡ arrives self.old packet →
-            IsStepAnswer self.old step (told_of self.old result) }
+            IsStepAnswer self.old step (result_reply self.old result) }
         ensures ok { (step : Step) → arrival self.old step ≡ arrives self.old packet →
             OnOk result (self.new ≡ after_step self.old step) }
         ensures err { OnErr result (self.new ≡ self.old) }
@@ -399,12 +399,12 @@ impl World {
     {
         let to = packet.to();
         if !self.is_correct(to) {
-            return Ok(Came::Absorbed);
+            return Ok(StepOutcome::Absorbed);
         }
         if self.is_full() {
             return Err(WorldFault::PoolFull);
         }
-        self.happen(to, &Event::Take(packet))
+        self.answer_event(to, &Event::Take(packet))
     }
 
     /// Whether the packet is from a node to a node.
@@ -456,18 +456,18 @@ impl World {
 
     /// Has a node answer an event.
     #[inline(always)]
-    fn happen(&mut self, name: NodeName, event: &Event) -> Result<Came, WorldFault>
+    fn answer_event(&mut self, name: NodeName, event: &Event) -> Result<StepOutcome, WorldFault>
         requires { MayHappen self.old name event.now }
         ensures due { (step : Step) → arrival self.old step ≡ Ok (Some (name, event.now)) →
-            IsStepAnswer self.old step (told_of self.old result) }
+            IsStepAnswer self.old step (result_reply self.old result) }
         ensures ok { (step : Step) → arrival self.old step ≡ Ok (Some (name, event.now)) →
             OnOk result (self.new ≡ after_step self.old step) }
         ensures err { OnErr result (self.new ≡ self.old) }
         ensures run { IsClusterRunOf self.new }
     {
         match self.look(name, event)? {
-            Effect::Counted => Ok(Came::Recorded(self.record(name, event)?)),
-            Effect::Idle => Ok(Came::Idle),
+            Effect::Counted => Ok(StepOutcome::Recorded(self.record(name, event)?)),
+            Effect::Idle => Ok(StepOutcome::Idle),
         }
     }
 

@@ -6,7 +6,7 @@ use Rattle.serde_json.specs.Data.{Data, Members, object, put}
 use Rattle.serde_json.specs.Find.{as_str}
 use Rattle.serde_json.proofs.Views.{get_member-put, get_member-put_other}
 use Rattle.client_lines.specs.Members.{member_name, member_of, member_number, number_in}
-use Rattle.client_lines.specs.Says.{Says, most_number}
+use Rattle.client_lines.specs.inside.Says.{Says, most_number}
 use Rattle.client_lines.specs.declared.line.Line.{Line}
 use Rattle.client_lines.specs.declared.member.Member.{Member}
 use Rattle.client_lines.specs.declared.member.Member.TheVariants.{Op, User, Role, Operation, Object, Session, Owner}

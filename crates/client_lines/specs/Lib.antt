@@ -5,4 +5,4 @@ pub mod Operations
 pub mod Requests
 pub mod Faults
 pub mod AnswerTexts
-pub mod Says
+pub mod inside

@@ -5,7 +5,7 @@ ghost use Rattle.std.specs.Prelude.{◌≡◌, ◌<◌, ◌==◌, length, slice_
 ghost use Rattle.json.specs.Json.{value, members};
 ghost use Rattle.serde_json.specs.Data.{Data, Members, no_members, object, unsigned};
 ghost use Rattle.serde_json.specs.Read.{of_json, of_members, converted, number_of, number_from, read};
-ghost use Rattle.client_lines.specs.Says.{Says, IsScalarOf};
+ghost use Rattle.client_lines.specs.inside.Says.{Says, IsScalarOf};
 
 use crate::line::{Line, Scalar};
 use fast_float::Numeral;

@@ -5,7 +5,7 @@ ghost use Rattle.serde_json.specs.Data.{Data, Members, no_members, object, put};
 ghost use Rattle.serde_json.specs.Find.{as_str};
 ghost use Rattle.serde_json.specs.View.{view};
 ghost use Rattle.client_lines.specs.Members.{number_in};
-ghost use Rattle.client_lines.specs.Says.{Says, IsScalarOf};
+ghost use Rattle.client_lines.specs.inside.Says.{Says, IsScalarOf};
 
 use crate::member::{Member, MemberFault, member_number};
 use serde_json::Value;

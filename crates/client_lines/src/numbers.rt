@@ -3,7 +3,7 @@
 ghost use Rattle.std.specs.Prelude.{◌≡◌, ◌<◌, ◌≤◌, ◌-◌, ◌^◌, IfOk};
 ghost use Rattle.serde_json.specs.Data.{Data};
 ghost use Rattle.client_lines.specs.Requests as lines;
-ghost use Rattle.client_lines.specs.Says.{Says, most_number};
+ghost use Rattle.client_lines.specs.inside.Says.{Says, most_number};
 ghost use Rattle.client_lines.specs.Members.{member_number};
 
 use crate::fault::LineFault;

@@ -6,7 +6,7 @@ ghost use Rattle.serde_json.specs.Find.{as_str};
 ghost use Rattle.client_lines.specs.Json.{json_of};
 ghost use Rattle.client_lines.specs.Members.{member_of};
 ghost use Rattle.client_lines.specs.declared.member.Member.TheVariants.{Op};
-ghost use Rattle.client_lines.specs.Says.{Says};
+ghost use Rattle.client_lines.specs.inside.Says.{Says};
 ghost use Rattle.client_lines.specs.Requests as lines;
 ghost use Rattle.client_lines.specs.Requests.{request_due, most_line_bytes};
 

@@ -4,7 +4,7 @@ ghost use Rattle.std.specs.Prelude.{◌≡◌, IfOk};
 ghost use Rattle.quorum_sizes.specs.Sizes.{Counts};
 ghost use Rattle.serde_json.specs.Data.{Data};
 ghost use Rattle.client_lines.specs.Requests as lines;
-ghost use Rattle.client_lines.specs.Says.{Says};
+ghost use Rattle.client_lines.specs.inside.Says.{Says};
 ghost use Rattle.client_lines.specs.declared.operation.Operation.TheVariants as operation;
 
 use crate::fault::LineFault;

@@ -9,14 +9,14 @@ use Rattle.link_frames.specs.Packets.{PacketValue}
 use Rattle.bracha_instance.proofs.Exported.{delivery_stays}
 use Rattle.bracha_instance.specs.Broadcast.{Take, delivered}
 use Rattle.bracha_instance.specs.States.{State, state}
-use Rattle.bracha_instance.specs.Next.{after}
+use Rattle.bracha_instance.specs.inside.Next.{after}
 use Rattle.bracha_instance.specs.Taking.{newly}
 use Rattle.bracha_instance.specs.declared.instance.Taken.{Taken}
 use Rattle.role_commands.proofs.Exported.{some_value}
 use Rattle.role_commands.specs.declared.command.Command.{Command}
 use Rattle.owner_streams.specs.Places.{place_count, take_of, takes_at}
-use Rattle.owner_streams.specs.Slots.{state_in, delivered_in, IsTaken}
-use Rattle.owner_streams.specs.Kept.{reach_in, held, IsOwnerStream, SamePlaces}
+use Rattle.owner_streams.specs.inside.Slots.{state_in, delivered_in, IsTaken}
+use Rattle.owner_streams.specs.inside.Kept.{reach_in, held, IsOwnerStream, SamePlaces}
 use Rattle.owner_streams.specs.declared.owner_stream.OwnerStream.{OwnerStream}
 use Rattle.owner_streams.proofs.Taken.{takes_at-own, takes_at-other}
 use Rattle.owner_streams.proofs.Reaching.{delivered_is}

@@ -14,8 +14,8 @@ use Rattle.bracha_instance.specs.Taking.{SendsAreFrom}
 use Rattle.bracha_instance.specs.declared.instance.Effect.TheVariants.{Idle, Counted}
 use Rattle.owner_streams.specs.Places.{window, take_of, takes_at}
 use Rattle.owner_streams.specs.Steps.{SendsAreOwners, step_due, effect_due}
-use Rattle.owner_streams.specs.Slots.{state_in, voted_in}
-use Rattle.owner_streams.specs.Kept.{reach_in, held, look_in, IsOwnerStream, AreStatesOf}
+use Rattle.owner_streams.specs.inside.Slots.{state_in, voted_in}
+use Rattle.owner_streams.specs.inside.Kept.{reach_in, held, look_in, IsOwnerStream, AreStatesOf}
 use Rattle.owner_streams.specs.declared.owner_stream.OwnerStream.{OwnerStream}
 use Rattle.owner_streams.specs.declared.steps.StreamFault.TheVariants.{Beyond}
 use Rattle.owner_streams.proofs.Reaching.{reach_is_due}

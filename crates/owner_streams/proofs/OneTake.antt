@@ -8,7 +8,7 @@ use Rattle.bracha_instance.specs.States.{State, state}
 use Rattle.bracha_instance.specs.NewTakes.{taken_for}
 use Rattle.bracha_instance.specs.Taking.{newly_sent, newly_delivered}
 use Rattle.bracha_instance.specs.declared.instance.Caused.{Caused}
-use Rattle.owner_streams.specs.Slots.{state_in, IsAnswerAt}
+use Rattle.owner_streams.specs.inside.Slots.{state_in, IsAnswerAt}
 
 -- what the instance's own contract says of the answer to t is what is due to u, the same message
 pub is_taken : (s : Counts) (slot : Option State) {now : State} {t u : Take} (caused : Caused)

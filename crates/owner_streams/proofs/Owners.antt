@@ -15,8 +15,9 @@ use Rattle.link_frames.specs.Packets.{PacketValue}
 use Rattle.bracha_instance.specs.States.{state}
 use Rattle.owner_streams.specs.Places.{window, takes_at}
 use Rattle.owner_streams.specs.Values.{StreamsValue, state_at, IsStateOf}
-use Rattle.owner_streams.specs.Slots.{state_in, delivered_in}
-use Rattle.owner_streams.specs.Kept.{reach_in, held_in, held, IsOwnerStream, AreStatesOf, SamePlaces, instances_in}
+use Rattle.owner_streams.specs.inside.Slots.{state_in, delivered_in}
+use Rattle.owner_streams.specs.inside.Kept.{reach_in, held_in, held, IsOwnerStream, AreStatesOf, SamePlaces}
+use Rattle.owner_streams.specs.inside.Kept.{instances_in}
 use Rattle.owner_streams.specs.declared.owner_stream.OwnerStream.{OwnerStream}
 use Rattle.owner_streams.proofs.Taken.{takes_at-other}
 use Rattle.owner_streams.proofs.Rings.{held-window, held-beyond, get-instances_in, same_instances_in}

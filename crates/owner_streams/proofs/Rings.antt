@@ -13,8 +13,8 @@ use Rattle.std.proofs.lemmas.Bool.Decides.{nat_tests}
 use Rattle.role_commands.proofs.Exported.{slice_get-front, slice_get-seam}
 use Rattle.bracha_instance.specs.States.{State}
 use Rattle.owner_streams.specs.Places.{window}
-use Rattle.owner_streams.specs.Slots.{slot_at, delivered_in}
-use Rattle.owner_streams.specs.Kept.{reach_in, held_in, held, instances_in}
+use Rattle.owner_streams.specs.inside.Slots.{slot_at, delivered_in}
+use Rattle.owner_streams.specs.inside.Kept.{reach_in, held_in, held, instances_in}
 use Rattle.owner_streams.specs.declared.owner_stream.OwnerStream.{OwnerStream}
 use Rattle.owner_streams.proofs.Slots.{get-instances_from}
 

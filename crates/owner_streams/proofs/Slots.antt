@@ -7,7 +7,7 @@ use Rattle.std.specs.FinMap as maps
 use Rattle.std.proofs.lemmas.Bool.Decides.{nat_tests}
 use Rattle.bracha_instance.specs.States.{State}
 use Rattle.owner_streams.specs.Values.{Instances}
-use Rattle.owner_streams.specs.Slots.{slot_at, put_some, instances_from}
+use Rattle.owner_streams.specs.inside.Slots.{slot_at, put_some, instances_from}
 
 same_key : (q k : ℕ) → q ≡ k → eq_by_cmp nat_cmp q k ≡ true
 same_key q k e = grind (arith, nat_tests)

@@ -16,14 +16,14 @@ use Rattle.bracha_instance.proofs.Exported.{voted, state_push, state-echoed, sta
 use Rattle.bracha_instance.specs.Broadcast.{Take, vote, voters, delivered, echoed, readied}
 use Rattle.bracha_instance.specs.States.{State, state}
 use Rattle.bracha_instance.specs.Taking.{effect_of, sent_for, newly_sent, newly_delivered, has_voted}
-use Rattle.bracha_instance.specs.Next.{after, after_kind}
+use Rattle.bracha_instance.specs.inside.Next.{after, after_kind}
 use Rattle.bracha_instance.specs.declared.instance.Effect.{Effect}
 use Rattle.bracha_instance.specs.declared.instance.Effect.TheVariants.{Idle, Counted}
 use Rattle.bracha_instance.specs.declared.instance.Taken.{Taken}
 use Rattle.owner_streams.specs.Places.{window, take_of, takes_at, reach}
 use Rattle.owner_streams.specs.Steps.{step_of, step_due, effect_due}
-use Rattle.owner_streams.specs.Slots.{state_in, voted_in, IsTaken}
-use Rattle.owner_streams.specs.Kept.{reach_in, held, look_in}
+use Rattle.owner_streams.specs.inside.Slots.{state_in, voted_in, IsTaken}
+use Rattle.owner_streams.specs.inside.Kept.{reach_in, held, look_in}
 use Rattle.owner_streams.specs.declared.owner_stream.OwnerStream.{OwnerStream}
 use Rattle.owner_streams.specs.declared.steps.StreamFault.TheVariants.{Beyond}
 use Rattle.owner_streams.proofs.Taken.{takes_at-own}

@@ -2,5 +2,4 @@ pub mod Places
 pub mod Steps
 pub mod Values
 pub mod Laws
-pub mod Slots
-pub mod Kept
+pub mod inside

@@ -12,8 +12,10 @@ ghost use Rattle.bracha_instance.specs.States.{state};
 ghost use Rattle.bracha_instance.specs.declared.instance.Effect.TheVariants.{Idle, Counted};
 ghost use Rattle.owner_streams.specs.Places.{place_count, window, take_of, stream, reach as reach_of};
 ghost use Rattle.owner_streams.specs.Steps.{SendsAreOwners, step_due, IsAnswer, effect_due};
-ghost use Rattle.owner_streams.specs.Slots.{slot_at, state_in, delivered_in, again_in, voted_in, GoesOn, IsAnswerAt};
-ghost use Rattle.owner_streams.specs.Kept.{reach_in, held, IsOwnerStream, AreStatesOf, SamePlaces, command_in, look_in};
+ghost use Rattle.owner_streams.specs.inside.Slots.{slot_at, state_in, delivered_in, again_in, voted_in, GoesOn};
+ghost use Rattle.owner_streams.specs.inside.Slots.{IsAnswerAt};
+ghost use Rattle.owner_streams.specs.inside.Kept.{reach_in, held, IsOwnerStream, AreStatesOf, SamePlaces};
+ghost use Rattle.owner_streams.specs.inside.Kept.{command_in, look_in};
 
 use crate::steps::{Again, StreamFault, StreamStep};
 use bracha_instance::{Caused, Effect, Instance, Record};

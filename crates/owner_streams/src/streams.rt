@@ -7,7 +7,7 @@ ghost use Rattle.bracha_instance.specs.declared.instance.Effect.TheVariants.{Idl
 ghost use Rattle.owner_streams.specs.Places.{place_count, window, stream, reach as reach_of};
 ghost use Rattle.owner_streams.specs.Steps.{SendsAreOwners, step_due, IsAnswer, effect_due, again_due};
 ghost use Rattle.owner_streams.specs.Values.{IsStateOf, WouldCount};
-ghost use Rattle.owner_streams.specs.Kept.{AreOwnerStreams};
+ghost use Rattle.owner_streams.specs.inside.Kept.{AreOwnerStreams};
 
 use crate::owner_stream::OwnerStream;
 use crate::steps::{Again, StreamFault, StreamStep};
@@ -35,7 +35,7 @@ impl Model for Streams {
 
     ghost coded = { streams_code };
 
-    ghost use Rattle.owner_streams.specs.Kept.{streams_value, AreOwnerStreams};
+    ghost use Rattle.owner_streams.specs.inside.Kept.{streams_value, AreOwnerStreams};
 
     ghost view = { streams_value };
 

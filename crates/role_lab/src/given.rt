@@ -1,6 +1,7 @@
 //! Which packets of the pool were given.
 
-ghost use Rattle.std.specs.Prelude.{◌≡◌, ℕ, ◌<◌, ◌≤◌, ◌^◌, true, false, not, find, length, OnOk, OnErr, IfSome, IsTrue, ◌+◌};
+ghost use Rattle.std.specs.Prelude.{◌≡◌, ℕ, ◌<◌, ◌≤◌, ◌^◌, true, false, not, find, length, OnOk, OnErr, IfSome};
+ghost use Rattle.std.specs.Prelude.{IsTrue, ◌+◌};
 ghost use Rattle.std.specs.List.{range_with_len};
 ghost use Rattle.role_lab.specs.inside.Flags.{flagged, AreSet, NoneFrom, with_many};
 ghost use Rattle.role_lab.specs.Labs.{with_number, with_all_below};

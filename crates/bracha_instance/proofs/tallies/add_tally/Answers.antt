@@ -1,6 +1,6 @@
 use Rattle.std.proofs.Common.{◌≡◌, false, [], ◌∷◌, ◌++◌, length, sym, ap, ◌∙◌, subst, arith}
 use Rattle.std.specs.List.{list_any}
-use Rattle.bracha_instance.specs.Tallies.{no_names, is_tally_of, IsFirst}
+use Rattle.bracha_instance.specs.inside.Tallies.{no_names, is_tally_of, IsFirst}
 use Rattle.bracha_instance.proofs.TallyLemmas.{none-position, IsFirst-new, with_tally-new}
 use Rattle.bracha_instance.proofs.tallies.add_tally.Goals as goal
 use Rattle.bracha_instance.proofs.tallies.add_tally.Goals.{In_ok-push}

@@ -1,6 +1,6 @@
 use Rattle.std.proofs.Common.{sym, ap, ◌∙◌}
 use Rattle.std.specs.Prelude.{position}
-use Rattle.bracha_instance.specs.Tallies.{is_tally_of}
+use Rattle.bracha_instance.specs.inside.Tallies.{is_tally_of}
 use Rattle.bracha_instance.proofs.TallyLemmas.{IsFirst-position, with_tally-found}
 use Rattle.bracha_instance.proofs.tallies.tally_of.Goals as goal
 

@@ -1,6 +1,6 @@
 use Rattle.std.proofs.Common.{◌≡◌, ◌+◌, ◌<◌, length, drop, List, Some, sym, ap, ◌∙◌, length-append, arith}
 use Rattle.std.specs.Prelude.{slice_get}
-use Rattle.byz_world.specs.Blocks.{block_messages}
+use Rattle.byz_world.specs.inside.Blocks.{block_messages}
 use Rattle.byz_world.specs.Pools.{Sent}
 use Rattle.std.proofs.lemmas.Option.{slice_get-get_or}
 use Rattle.byz_world.proofs.BlockNotes.{noted_none, noted_more, block_names-none, block_names-next}

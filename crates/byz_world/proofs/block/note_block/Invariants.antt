@@ -1,6 +1,6 @@
 use Rattle.std.proofs.Common.{◌*◌, drop}
 use Rattle.std.specs.Vec.{vec_capacity}
-use Rattle.byz_world.specs.Blocks.{block_names, block_messages}
+use Rattle.byz_world.specs.inside.Blocks.{block_names, block_messages}
 use Rattle.byz_world.proofs.BlockNotes.{AreNoted}
 use Rattle.byz_world.proofs.block.note_block.Given as goal
 

@@ -1,6 +1,6 @@
 use Rattle.std.proofs.Common.{◌≡◌, ◌++◌, ap, ◌∙◌, arith}
 use Rattle.std.proofs.lemmas.Grind.{common_steps}
-use Rattle.byz_world.specs.Blocks.{mark_of_row, noted_names, noted_messages}
+use Rattle.byz_world.specs.inside.Blocks.{mark_of_row, noted_names, noted_messages}
 use Rattle.byz_world.proofs.BlockNotes.{noted_none, noted_more, row_names-none, row_names-next, row_messages-none}
 use Rattle.byz_world.proofs.BlockNotes.{row_messages-next, row_names-few, row_messages-few}
 use Rattle.byz_world.proofs.block.note_message.Goals as goal

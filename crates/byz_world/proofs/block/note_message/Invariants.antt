@@ -1,5 +1,5 @@
 use Rattle.std.specs.Vec.{vec_capacity}
-use Rattle.byz_world.specs.Blocks.{mark_of_row, row_names, row_messages}
+use Rattle.byz_world.specs.inside.Blocks.{mark_of_row, row_names, row_messages}
 use Rattle.byz_world.proofs.BlockNotes.{AreNoted}
 use Rattle.byz_world.proofs.block.note_message.Given as goal
 

@@ -1,5 +1,5 @@
 use Rattle.std.proofs.Common.{None}
-use Rattle.byz_world.specs.Blocks.{TookFirst}
+use Rattle.byz_world.specs.inside.Blocks.{TookFirst}
 use Rattle.byz_world.proofs.block.pass_messages.Given as goal
 
 abbrev pub invariant-loop-one : goal.invariant-loop-one

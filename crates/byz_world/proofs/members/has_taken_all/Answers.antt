@@ -2,7 +2,7 @@ use Rattle.std.proofs.Common.{◌≡◌, ap, sym, ◌∙◌, rules, tests}
 use Rattle.std.specs.List.{list_all}
 use Rattle.std.proofs.lemmas.Iterator.{YieldsList-from_slice}
 use Rattle.std.proofs.lemmas.Iterator.Search.{all_from_yields_List}
-use Rattle.byz_world.specs.Inside.{has_taken, has_taken_all}
+use Rattle.byz_world.specs.inside.Kept.{has_taken, has_taken_all}
 use Rattle.byz_world.proofs.members.has_taken_all.Goals as goal
 
 pub returns-in-Some : goal.returns-in-Some

@@ -2,7 +2,7 @@ use Rattle.std.proofs.Common.{◌≡◌, ℕ, ◌≤◌, length}
 use Rattle.json.specs.Json.{members, value}
 use Rattle.serde_json.specs.Data.{Members, no_members, object}
 use Rattle.serde_json.specs.Read.{of_members, converted}
-use Rattle.client_lines.specs.Says.{Says}
+use Rattle.client_lines.specs.inside.Says.{Says}
 use Rattle.client_lines.proofs.flat.members_line.Given as goal
 
 abbrev pub invariant-members : goal.invariant-members

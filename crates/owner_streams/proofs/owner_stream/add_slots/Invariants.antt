@@ -1,5 +1,5 @@
 use Rattle.std.proofs.Common.{◌≡◌, ℕ, ◌-◌, vec_len}
-use Rattle.owner_streams.specs.Slots.{slot_at}
+use Rattle.owner_streams.specs.inside.Slots.{slot_at}
 use Rattle.owner_streams.proofs.owner_stream.add_slots.Given as goal
 
 abbrev pub invariant-loop-slots : goal.invariant-loop-slots

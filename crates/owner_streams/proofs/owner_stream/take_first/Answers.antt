@@ -1,5 +1,5 @@
 use Rattle.std.proofs.Common.{sym, ap, ◌∙◌, refl}
-use Rattle.owner_streams.specs.Slots.{state_in}
+use Rattle.owner_streams.specs.inside.Slots.{state_in}
 use Rattle.bracha_instance.specs.Taking.{has_voted}
 use Rattle.owner_streams.proofs.OneTake.{is_taken}
 use Rattle.owner_streams.proofs.Stepping.{fresh_has_voted}

@@ -1,5 +1,5 @@
 use Rattle.std.proofs.Common.{ap}
-use Rattle.owner_streams.specs.Slots.{state_in}
+use Rattle.owner_streams.specs.inside.Slots.{state_in}
 use Rattle.owner_streams.proofs.OneTake.{is_taken_if_ok}
 use Rattle.owner_streams.proofs.owner_stream.take_in.Goals as goal
 

@@ -1,28 +1,28 @@
 use Rattle.std.proofs.Common.{sym, ap, ◌∙◌}
 use Rattle.link_frames.specs.declared.kind.Kind.TheVariants.{Echo}
 use Rattle.bracha_instance.specs.Taking.{has_voted}
-use Rattle.bracha_instance.specs.Next.{after_echo}
+use Rattle.bracha_instance.specs.inside.Next.{after_echo}
 use Rattle.bracha_instance.proofs.KeptInstances.{free_echo, echo_kept, ready_by_support, echo_early}
 use Rattle.bracha_instance.proofs.instance.Instance.count_echo.Goals as goal
 
-pub count_echo-requires : goal.count_echo-requires
-count_echo-requires c = free_echo c.self.inside c.args.from c.self.invariant (sym c.is_some.ensures
+pub count-requires : goal.count-requires
+count-requires c = free_echo c.self.inside c.args.from c.self.invariant (sym c.is_some.ensures
     ∙ c.if-is_some.false)
     (ap (λ st. has_voted st Echo c.args.from) c.self.view_is ∙ c.requires)
 
 pub invariant_of-self-2 : goal.invariant_of-self-2
 invariant_of-self-2 c =
     echo_kept c.self.inside c.args.from c.args.command c.keep_first.new.kept c.insert-2.new.self
-    c.count_echo.new.self c.self.invariant (sym c.is_some.ensures ∙ c.if-is_some.false)
+    c.count.new.self c.self.invariant (sym c.is_some.ensures ∙ c.if-is_some.false)
     (ap (λ st. has_voted st Echo c.args.from) c.self.view_is ∙ c.requires)
     c.insert-2.ensures.set c.insert-2.ensures.most c.in_ok-support.ensures.ok
 
 pub returns-clause-ok : goal.returns-clause-ok
 returns-clause-ok c =
     echo_early c.args.sizes.now c.args.from c.args.command c.self.inside c.may_ready.result
-    c.keep_first.new.kept c.insert-2.new.self c.count_echo.new.self
+    c.keep_first.new.kept c.insert-2.new.self c.count.new.self
     (sym c.is_some.ensures ∙ c.if-is_some.false) c.insert-2.ensures.set c.in_ok-support.ensures.ok
-    (ready_by_support c.args.sizes.now c.args.command c.may_ready.result c.in_ok-support.support c.count_echo.new.self
+    (ready_by_support c.args.sizes.now c.args.command c.may_ready.result c.in_ok-support.support c.count.new.self
     c.may_ready.ensures c.in_ok-support.ensures.support)
     c.keep_first.ensures
     ∙ ap (λ st. after_echo c.args.sizes.now st c.args.from c.args.command st.delivered) c.self.view_is

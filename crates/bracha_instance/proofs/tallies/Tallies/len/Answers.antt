@@ -1,5 +1,5 @@
 use Rattle.std.proofs.Common.{length, ap, ◌∙◌, arith}
-use Rattle.bracha_instance.specs.Tallies.{Tallied, all_of}
+use Rattle.bracha_instance.specs.inside.Tallies.{Tallied, all_of}
 use Rattle.bracha_instance.proofs.TallyLemmas.{length-tallied}
 use Rattle.bracha_instance.proofs.tallies.Tallies.len.Goals as goal
 

@@ -1,5 +1,5 @@
 use Rattle.std.proofs.Common.{sym, ap, ◌∙◌, subst}
-use Rattle.bracha_instance.specs.Tallies.{tallied, AreTallies}
+use Rattle.bracha_instance.specs.inside.Tallies.{tallied, AreTallies}
 use Rattle.bracha_instance.proofs.TallyLemmas.{tallied-none, AreTallies-none}
 use Rattle.bracha_instance.proofs.tallies.Tallies.new.Goals as goal
 

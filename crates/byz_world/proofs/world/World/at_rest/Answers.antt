@@ -3,7 +3,7 @@ use Rattle.std.specs.List.{list_all}
 use Rattle.std.specs.Prelude.{IsTrue, ◌↔◌}
 use Rattle.std.proofs.lemmas.Iterator.{YieldsList-from_slice}
 use Rattle.std.proofs.lemmas.Iterator.Search.{all_from_yields_List}
-use Rattle.byz_world.specs.Inside.{has_taken_all}
+use Rattle.byz_world.specs.inside.Kept.{has_taken_all}
 use Rattle.byz_world.specs.Resting.{IsAtRest}
 use Rattle.byz_world.specs.Worlds.{WorldValue}
 use Rattle.byz_world.proofs.Settling.{rest_is}

@@ -1,8 +1,8 @@
 use Rattle.std.proofs.Common.{◌≡◌, true, ap, sym, ◌∙◌}
 use Rattle.byz_world.specs.Checks.{decision_due}
-use Rattle.byz_world.specs.Inside.{member_in}
+use Rattle.byz_world.specs.inside.Kept.{member_in}
 use Rattle.byz_world.specs.Worlds.{is_correct_in}
-use Rattle.byz_world.specs.Fields.{world_value}
+use Rattle.byz_world.specs.inside.Fields.{world_value}
 use Rattle.byz_world.proofs.Telling.{decision_is}
 use Rattle.byz_world.proofs.Recording.{correct_member}
 use Rattle.byz_world.proofs.world.World.check.Goals as goal

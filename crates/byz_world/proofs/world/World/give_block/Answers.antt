@@ -1,6 +1,7 @@
-use Rattle.std.proofs.Common.{◌≡◌, ℕ, ◌+◌, ◌-◌, ◌*◌, ◌++◌, List, length, take, drop, Result, Ok, Err, ap, sym, ◌∙◌, subst, length-drop, arith}
+use Rattle.std.proofs.Common.{◌≡◌, ℕ, ◌+◌, ◌-◌, ◌*◌, ◌++◌, List, length, take, drop, Result, Ok, Err, ap, sym}
+use Rattle.std.proofs.Common.{◌∙◌, subst, length-drop, arith}
 use Rattle.std.specs.Prelude.{OnOk}
-use Rattle.byz_world.specs.Blocks.{AreGiven, block_names, block_messages}
+use Rattle.byz_world.specs.inside.Blocks.{AreGiven, block_names, block_messages}
 use Rattle.byz_world.specs.Pools.{Sent, messages}
 use Rattle.std.proofs.lemmas.List.{length-take-le}
 use Rattle.byz_world.specs.Worlds.{WorldValue}

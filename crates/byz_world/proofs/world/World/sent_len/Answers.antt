@@ -1,6 +1,6 @@
 use Rattle.std.proofs.Common.{◌≡◌, ◌*◌, ◌≤◌, length, ap, sym, ◌∙◌, subst, arith}
 use Rattle.role_node.specs.Configs.{most_events}
-use Rattle.byz_world.specs.Inside.{run_in}
+use Rattle.byz_world.specs.inside.Kept.{run_in}
 use Rattle.byz_world.specs.Pools.{messages, pool}
 use Rattle.byz_world.specs.Worlds.{WorldValue}
 use Rattle.byz_world.proofs.Numbering.{pool-length}

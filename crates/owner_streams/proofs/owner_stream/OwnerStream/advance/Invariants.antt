@@ -1,8 +1,8 @@
 use Rattle.std.proofs.Common.{◌≡◌, ℕ, ◌+◌, ◌-◌, ◌<◌, ◌≤◌}
 use Rattle.std.specs.Prelude.{IsSome, vec_capacity}
 use Rattle.owner_streams.specs.Places.{window}
-use Rattle.owner_streams.specs.Slots.{delivered_in}
-use Rattle.owner_streams.specs.Kept.{reach_in, held}
+use Rattle.owner_streams.specs.inside.Slots.{delivered_in}
+use Rattle.owner_streams.specs.inside.Kept.{reach_in, held}
 use Rattle.owner_streams.proofs.owner_stream.OwnerStream.advance.Given as goal
 
 abbrev pub invariant-loop-settled : goal.invariant-loop-settled

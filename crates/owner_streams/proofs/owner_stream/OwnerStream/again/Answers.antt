@@ -1,5 +1,5 @@
 use Rattle.std.proofs.Common.{sym, ap, ◌∙◌}
-use Rattle.owner_streams.specs.Slots.{again_in}
+use Rattle.owner_streams.specs.inside.Slots.{again_in}
 use Rattle.owner_streams.proofs.owner_stream.OwnerStream.again.Goals as goal
 
 pub returns-then-place-len : goal.returns-then-place-len

@@ -1,8 +1,8 @@
 use Rattle.std.proofs.Common.{◌≡◌, true, refl, sym, ap, ◌∙◌, arith}
 use Rattle.std.specs.Prelude.{nat_lt}
 use Rattle.std.proofs.lemmas.Bool.Decides.{nat_tests}
-use Rattle.owner_streams.specs.Slots.{delivered_in}
-use Rattle.owner_streams.specs.Kept.{reach_in, held, command_in}
+use Rattle.owner_streams.specs.inside.Slots.{delivered_in}
+use Rattle.owner_streams.specs.inside.Kept.{reach_in, held, command_in}
 use Rattle.owner_streams.proofs.owner_stream.OwnerStream.command.Goals as goal
 
 pub returns-then-place-len : goal.returns-then-place-len

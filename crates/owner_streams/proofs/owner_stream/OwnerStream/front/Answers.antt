@@ -1,7 +1,7 @@
 use Rattle.std.proofs.Common.{◌≡◌, Option, Some, None, sym, ap, ◌∙◌, arith}
 use Rattle.std.specs.Prelude.{is_some, IfSome}
-use Rattle.owner_streams.specs.Slots.{delivered_in}
-use Rattle.owner_streams.specs.Kept.{reach_in, held}
+use Rattle.owner_streams.specs.inside.Slots.{delivered_in}
+use Rattle.owner_streams.specs.inside.Kept.{reach_in, held}
 use Rattle.owner_streams.proofs.owner_stream.OwnerStream.front.Goals as goal
 
 if_some : {A : Type 0} (o : Option A) {P Q : A → Type 0} → ((x : A) → P x → Q x) → IfSome o P → IfSome o Q

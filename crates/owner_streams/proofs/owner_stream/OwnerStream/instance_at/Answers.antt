@@ -1,7 +1,7 @@
 use Rattle.std.proofs.Common.{◌%◌, sym, ap, ◌∙◌, arith}
 use Rattle.owner_streams.specs.Places.{window}
-use Rattle.owner_streams.specs.Slots.{slot_at}
-use Rattle.owner_streams.specs.Kept.{held}
+use Rattle.owner_streams.specs.inside.Slots.{slot_at}
+use Rattle.owner_streams.specs.inside.Kept.{held}
 use Rattle.owner_streams.proofs.Rings.{held-window, held-beyond}
 use Rattle.owner_streams.proofs.owner_stream.OwnerStream.instance_at.Goals as goal
 

@@ -2,7 +2,7 @@ use Rattle.std.proofs.Common.{◌∙◌, ◌+◌, ◌<◌, ◌≤◌, Err, sym, 
 use Rattle.bracha_instance.specs.declared.instance.Effect.TheVariants.{Idle, Counted}
 use Rattle.owner_streams.specs.Places.{window, takes_at}
 use Rattle.owner_streams.specs.Steps.{effect_due}
-use Rattle.owner_streams.specs.Kept.{reach_in}
+use Rattle.owner_streams.specs.inside.Kept.{reach_in}
 use Rattle.owner_streams.specs.declared.steps.StreamFault.TheVariants.{Beyond}
 use Rattle.owner_streams.proofs.Reaching.{reach_is_due}
 use Rattle.owner_streams.proofs.Stepping.{due_beyond, due_within, look_is}

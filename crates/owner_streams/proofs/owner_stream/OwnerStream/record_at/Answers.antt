@@ -1,6 +1,6 @@
 use Rattle.std.proofs.Common.{length, refl, ◌∙◌}
 use Rattle.std.proofs.lemmas.Option.{slice_get_read}
-use Rattle.owner_streams.specs.Kept.{held}
+use Rattle.owner_streams.specs.inside.Kept.{held}
 use Rattle.owner_streams.proofs.Rings.{held-below}
 use Rattle.owner_streams.proofs.owner_stream.OwnerStream.record_at.Goals as goal
 

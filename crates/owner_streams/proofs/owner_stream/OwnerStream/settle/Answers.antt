@@ -1,8 +1,8 @@
 use Rattle.std.proofs.Common.{◌≡◌, ◌%◌, [], ◌∷◌, ◌++◌, None, length, length-append, sym, ap, ◌∙◌, arith}
 use Rattle.std.specs.Prelude.{slice_set}
 use Rattle.owner_streams.specs.Places.{window}
-use Rattle.owner_streams.specs.Slots.{slot_at}
-use Rattle.owner_streams.specs.Kept.{held_in, held}
+use Rattle.owner_streams.specs.inside.Slots.{slot_at}
+use Rattle.owner_streams.specs.inside.Kept.{held_in, held}
 use Rattle.owner_streams.proofs.Rings.{held-window, held-moved, slot_within}
 use Rattle.owner_streams.proofs.owner_stream.OwnerStream.settle.Goals as goal
 

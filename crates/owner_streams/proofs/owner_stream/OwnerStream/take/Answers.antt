@@ -1,6 +1,6 @@
 use Rattle.std.proofs.Common.{◌≡◌, ◌+◌, ◌<◌, [], ◌∷◌, ◌++◌, Ok, sym, ap, ◌∙◌, arith, refl}
 use Rattle.bracha_instance.specs.declared.instance.Effect.TheVariants.{Idle}
-use Rattle.owner_streams.specs.Kept.{reach_in, held, look_in}
+use Rattle.owner_streams.specs.inside.Kept.{reach_in, held, look_in}
 use Rattle.owner_streams.specs.Places.{window, take_of}
 use Rattle.owner_streams.proofs.Reaching.{reach_of_run, reach_within}
 use Rattle.owner_streams.proofs.Keeping.{states_push}

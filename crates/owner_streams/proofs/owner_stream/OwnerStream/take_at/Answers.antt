@@ -6,8 +6,8 @@ use Rattle.bracha_instance.specs.Broadcast.{Take}
 use Rattle.bracha_instance.specs.States.{State}
 use Rattle.bracha_instance.specs.declared.instance.Caused.{Caused}
 use Rattle.owner_streams.specs.Places.{window}
-use Rattle.owner_streams.specs.Slots.{slot_at, state_in, voted_in, GoesOn, IsAnswerAt}
-use Rattle.owner_streams.specs.Kept.{held_in, held}
+use Rattle.owner_streams.specs.inside.Slots.{slot_at, state_in, voted_in, GoesOn, IsAnswerAt}
+use Rattle.owner_streams.specs.inside.Kept.{held_in, held}
 use Rattle.owner_streams.proofs.Rings.{held-below, held-window, held-record, held-other_record, held-other_slot}
 use Rattle.owner_streams.proofs.owner_stream.OwnerStream.take_at.Goals as goal
 

@@ -2,9 +2,9 @@ use Rattle.std.proofs.Common.{◌≡◌, ◌+◌, ◌<◌, [], ◌∷◌, ◌++�
 use Rattle.std.specs.Prelude.{IsSome, is_some, if◌then◌else◌, Some, None}
 use Rattle.bracha_instance.specs.NewTakes.{taken_for}
 use Rattle.bracha_instance.specs.declared.instance.Effect.TheVariants.{Counted}
-use Rattle.owner_streams.specs.Kept.{reach_in, held}
+use Rattle.owner_streams.specs.inside.Kept.{reach_in, held}
 use Rattle.owner_streams.specs.Places.{window, take_of, takes_at}
-use Rattle.owner_streams.specs.Slots.{state_in, delivered_in, IsTaken}
+use Rattle.owner_streams.specs.inside.Slots.{state_in, delivered_in, IsTaken}
 use Rattle.owner_streams.proofs.Reaching.{reach_of_run, reach_within}
 use Rattle.owner_streams.proofs.Keeping.{states_push, still_run, still_ends, same_states, at_each, still_kept}
 use Rattle.owner_streams.proofs.Stepping.{due_within, step_is, look_within}

@@ -3,8 +3,8 @@ use Rattle.std.specs.Prelude.{is_some}
 use Rattle.bracha_instance.specs.Broadcast.{Take, vote}
 use Rattle.bracha_instance.specs.Taking.{SendsAreFrom, has_voted}
 use Rattle.owner_streams.specs.Places.{take_of}
-use Rattle.owner_streams.specs.Slots.{state_in, voted_in}
-use Rattle.owner_streams.specs.Kept.{held}
+use Rattle.owner_streams.specs.inside.Slots.{state_in, voted_in}
+use Rattle.owner_streams.specs.inside.Kept.{held}
 use Rattle.owner_streams.proofs.Stepping.{none_voted}
 use Rattle.owner_streams.proofs.owner_stream.OwnerStream.voted.Goals as goal
 

@@ -1,6 +1,6 @@
 use Rattle.std.proofs.Common.{◌≡◌, ◌∙◌, arith}
 use Rattle.owner_streams.specs.Steps.{again_due}
-use Rattle.owner_streams.specs.Kept.{held}
+use Rattle.owner_streams.specs.inside.Kept.{held}
 use Rattle.owner_streams.proofs.Reaching.{again_is}
 use Rattle.owner_streams.proofs.Owners.{is_owners, by_owner}
 use Rattle.owner_streams.proofs.streams.Streams.again.Goals as goal

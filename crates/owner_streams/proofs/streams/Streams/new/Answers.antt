@@ -1,6 +1,6 @@
 use Rattle.std.proofs.Common.{arith}
 use Rattle.std.proofs.lemmas.List.Elements.{All-weaker}
-use Rattle.owner_streams.specs.Kept.{IsOwnerStream}
+use Rattle.owner_streams.specs.inside.Kept.{IsOwnerStream}
 use Rattle.owner_streams.proofs.Owners.{IsFresh, fresh_is_kept, fresh_state}
 use Rattle.owner_streams.proofs.streams.Streams.new.Goals as goal
 

@@ -2,7 +2,7 @@ use Rattle.std.proofs.Common.{◌∙◌, arith, length-set}
 use Rattle.std.proofs.lemmas.List.Elements.{All-set}
 use Rattle.std.proofs.lemmas.Result.{IfOk-weaker, on_err_weaker}
 use Rattle.owner_streams.specs.Steps.{SendsAreOwners, step_due, IsAnswer}
-use Rattle.owner_streams.specs.Kept.{IsOwnerStream}
+use Rattle.owner_streams.specs.inside.Kept.{IsOwnerStream}
 use Rattle.owner_streams.proofs.Owners.{is_owners, by_owner, states_go_on, same_as_before}
 use Rattle.owner_streams.proofs.streams.Streams.take.Goals as goal
 

@@ -2,7 +2,7 @@ use Rattle.std.proofs.Common.{◌≡◌, Ok, sym, ap, ◌∙◌, arith, length-s
 use Rattle.std.proofs.lemmas.List.Elements.{All-set}
 use Rattle.std.proofs.lemmas.Result.{IfOk-weaker, on_err_weaker}
 use Rattle.owner_streams.specs.Steps.{SendsAreOwners, step_due, effect_due}
-use Rattle.owner_streams.specs.Kept.{IsOwnerStream, look_in}
+use Rattle.owner_streams.specs.inside.Kept.{IsOwnerStream, look_in}
 use Rattle.owner_streams.proofs.Owners.{is_owners, is_kept, by_owner, states_go_on, same_as_before}
 use Rattle.owner_streams.proofs.Looking.{look_in_is}
 use Rattle.owner_streams.proofs.streams.Streams.take_new.Goals as goal

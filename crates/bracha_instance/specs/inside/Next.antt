@@ -11,7 +11,7 @@ use Rattle.link_frames.specs.declared.kind.Kind.TheVariants.{Send, Echo, Ready}
 use Rattle.bracha_instance.specs.Broadcast.{Take, Names, is_for}
 use Rattle.bracha_instance.specs.States.{Votes, State, kept}
 use Rattle.bracha_instance.specs.Taking.{has_voted}
-use Rattle.bracha_instance.specs.Kept.{names_of}
+use Rattle.bracha_instance.specs.inside.Kept.{names_of}
 
 -- the nodes that have this command
 unfoldable pub supporters_in : Command → Votes → Names

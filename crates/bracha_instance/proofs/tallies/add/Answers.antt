@@ -1,8 +1,8 @@
 use Rattle.std.proofs.Common.{sym, ap, ◌∙◌, arith}
 use Rattle.std.specs.Prelude.{slice_set}
-use Rattle.bracha_instance.specs.Tallies.{TallyValue, with_tally, ready_by}
-use Rattle.bracha_instance.proofs.TallyLemmas.{within, set-with_tally, with_tally-again, support_in-set}
-use Rattle.bracha_instance.proofs.tallies.add_ready.Goals as goal
+use Rattle.bracha_instance.specs.inside.Tallies.{TallyValue, with_tally, voted_by}
+use Rattle.bracha_instance.proofs.TallyLemmas.{within, set-with_tally, with_tally-again, support_in-set, command-voted_by}
+use Rattle.bracha_instance.proofs.tallies.add.Goals as goal
 
 pub index_mut-requires : goal.index_mut-requires
 index_mut-requires c =
@@ -12,8 +12,8 @@ pub returns-clause-tallies : goal.returns-clause-tallies
 returns-clause-tallies c =
     let tallies = c.tally_of.new.tallies.items in
     let tally = c.index_mut.result.now in
-    let change = ready_by c.args.name in
-    ap (slice_set tallies c.in_ok-at.at) c.add_ready.ensures.tally
+    let change = voted_by c.args.vote c.args.name in
+    ap (slice_set tallies c.in_ok-at.at) c.add.ensures.tally
     ∙ ap (λ (t : TallyValue). slice_set tallies c.in_ok-at.at (change t)) c.index_mut.ensures.value
     ∙ set-with_tally change c.args.command tallies c.in_ok-at.at tally c.in_ok-at.ensures.place
     ∙ ap (with_tally change c.args.command) c.in_ok-at.ensures.tallies
@@ -22,6 +22,7 @@ returns-clause-tallies c =
 pub returns-clause-support : goal.returns-clause-support
 returns-clause-support c =
     let tally = c.index_mut.result.now in
-    c.add_ready.ensures.support
-    ∙ sym (support_in-set c.args.command c.tally_of.new.tallies.items c.in_ok-at.at tally c.add_ready.new.self
-    c.in_ok-at.ensures.place c.index_mut.ensures.value (ap (λ (t : TallyValue). t.command) c.add_ready.ensures.tally))
+    c.add.ensures.support
+    ∙ sym (support_in-set c.args.command c.tally_of.new.tallies.items c.in_ok-at.at tally c.add.new.self
+    c.in_ok-at.ensures.place c.index_mut.ensures.value (ap (λ (t : TallyValue). t.command) c.add.ensures.tally
+    ∙ command-voted_by c.args.vote c.args.name tally))

@@ -19,8 +19,8 @@ use Rattle.byz_world.specs.Worlds.{WorldValue, node_due}
 use Rattle.role_node.specs.declared.event.Reply.{Reply}
 use Rattle.role_node.specs.declared.event.Reply.TheVariants as reply
 use Rattle.byz_world.specs.Steps.{is_pool_full, Arrival}
-use Rattle.byz_world.specs.declared.step.Came.{Came}
-use Rattle.byz_world.specs.declared.step.Came.TheVariants as came
+use Rattle.byz_world.specs.declared.step.StepOutcome.{StepOutcome}
+use Rattle.byz_world.specs.declared.step.StepOutcome.TheVariants as outcome
 use Rattle.byz_world.specs.declared.step.StepReply.{StepReply}
 use Rattle.byz_world.specs.declared.step.StepReply.TheVariants as told
 use Rattle.byz_world.specs.declared.faults.WorldFault.{WorldFault}
@@ -110,12 +110,12 @@ has_taken_all sent (Some node) = list_all (has_taken node) sent
 abbrev pub replied_by : ℕ → ℕ → Reply → StepReply
 replied_by first nodes r = told.Node r first (if is_some (sent_by r) then nodes else 0)
 
-abbrev pub told_by : ℕ → ℕ → Came → StepReply
-told_by first nodes came.Absorbed = told.Absorbed
-told_by first nodes came.Idle = replied_by first nodes reply.Idle
-told_by first nodes (came.Recorded entry) = replied_by first nodes entry.reply
+abbrev pub outcome_reply : ℕ → ℕ → StepOutcome → StepReply
+outcome_reply first nodes outcome.Absorbed = told.Absorbed
+outcome_reply first nodes outcome.Idle = replied_by first nodes reply.Idle
+outcome_reply first nodes (outcome.Recorded entry) = replied_by first nodes entry.reply
 
 -- .. in a world, with the refusals
-abbrev pub told_of : WorldValue → Result Came WorldFault → Result StepReply WorldFault
-told_of w (Ok c) = Ok (told_by (length (pool w.config w.run)) w.config.roles.sizes.nodes c)
-told_of w (Err f) = Err f
+abbrev pub result_reply : WorldValue → Result StepOutcome WorldFault → Result StepReply WorldFault
+result_reply w (Ok c) = Ok (outcome_reply (length (pool w.config w.run)) w.config.roles.sizes.nodes c)
+result_reply w (Err f) = Err f

@@ -9,7 +9,7 @@ use Rattle.role_node.specs.Nodes.{NodeValue, with_event}
 use Rattle.role_node.specs.declared.event.Event.TheVariants.{Take}
 use Rattle.byz_world.specs.Pools.{Sent, listed, messages}
 use Rattle.byz_world.specs.Worlds.{WorldValue}
-use Rattle.byz_world.specs.Inside.{Members, member_in}
+use Rattle.byz_world.specs.inside.Kept.{Members, member_in}
 use Rattle.byz_world.specs.declared.block.Mark.{Mark}
 use Rattle.byz_world.specs.declared.block.Mark.TheVariants.{Passed, Counted}
 

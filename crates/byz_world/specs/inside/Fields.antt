@@ -2,7 +2,7 @@
 use Rattle.std.specs.Prelude.{◌≡◌}
 use Rattle.byz_world.specs.LabKeys.{rings_due}
 use Rattle.byz_world.specs.Worlds.{WorldValue}
-use Rattle.byz_world.specs.Inside.{world_in, IsWorldIn}
+use Rattle.byz_world.specs.inside.Kept.{world_in, IsWorldIn}
 use Rattle.byz_world.specs.declared.world.World.TheInside.{Inside}
 
 abbrev pub world_value : Inside → WorldValue

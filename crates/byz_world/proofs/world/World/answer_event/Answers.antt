@@ -2,7 +2,7 @@ use Rattle.std.proofs.Common.{Ok, refl, ap, sym, ◌∙◌}
 use Rattle.std.proofs.lemmas.Result.{err_from_is_err_and}
 use Rattle.byz_world.proofs.Stepping.{recorded_after, idle_answer, idle_after, refused_answer}
 use Rattle.byz_world.proofs.Arriving.{recorded_told}
-use Rattle.byz_world.proofs.world.World.happen.Goals as goal
+use Rattle.byz_world.proofs.world.World.answer_event.Goals as goal
 
 pub returns-in_ok-record-in-Counted-clause-due : goal.returns-in_ok-record-in-Counted-clause-due
 returns-in_ok-record-in-Counted-clause-due c step at =

@@ -10,9 +10,11 @@ use Rattle.role_commands.specs.Same.{same_command}
 use Rattle.role_commands.specs.declared.command.Command.{Command}
 use Rattle.bracha_instance.specs.Broadcast.{Names}
 use Rattle.bracha_instance.specs.States.{Votes}
-use Rattle.bracha_instance.specs.Kept.{command_code, names_code, votes_code}
-use Rattle.bracha_instance.specs.Next.{supporters_in}
+use Rattle.bracha_instance.specs.inside.Kept.{command_code, names_code, votes_code}
+use Rattle.bracha_instance.specs.inside.Next.{supporters_in}
 use Rattle.bracha_instance.specs.declared.tallies.Support.{Support}
+use Rattle.bracha_instance.specs.declared.tallies.Vote.{Vote}
+use Rattle.bracha_instance.specs.declared.tallies.Vote.TheVariants.{Echo, Ready}
 
 -- a command, with the names of its votes of both kinds
 pub record TallyValue : Type 0 where
@@ -33,12 +35,16 @@ no_votes = record { echoes = maps.empty; readies = maps.empty; commands = [] }
 unfoldable pub with_command : Command → List Command → List Command
 with_command c commands = if list_any (same_command c) commands then commands else commands ++ c ∷ []
 
-abbrev pub with_echo : Tallied → ℕ → Command → Tallied
-with_echo v name c =
-    record { echoes = maps.insert v.echoes name c; readies = v.readies; commands = with_command c v.commands }
+-- the votes of this kind
+abbrev pub votes_of : Vote → Tallied → Votes
+votes_of Echo v = v.echoes
+votes_of Ready v = v.readies
 
-abbrev pub with_ready : Tallied → ℕ → Command → Tallied
-with_ready v name c =
+-- a vote more
+abbrev pub with_vote : Vote → Tallied → ℕ → Command → Tallied
+with_vote Echo v name c =
+    record { echoes = maps.insert v.echoes name c; readies = v.readies; commands = with_command c v.commands }
+with_vote Ready v name c =
     record { echoes = v.echoes; readies = maps.insert v.readies name c; commands = with_command c v.commands }
 
 -- how many nodes support c
@@ -107,11 +113,10 @@ with_tally change c [] = change (no_names c) ∷ []
 with_tally change c (t ∷ tallies) =
     if is_tally_of c t then change t ∷ tallies else t ∷ with_tally change c tallies
 
-abbrev pub echoed_by : ℕ → TallyValue → TallyValue
-echoed_by name t = record t { echoes = sets.insert t.echoes name }
-
-abbrev pub ready_by : ℕ → TallyValue → TallyValue
-ready_by name t = record t { readies = sets.insert t.readies name }
+-- the tally with a vote more
+abbrev pub voted_by : Vote → ℕ → TallyValue → TallyValue
+voted_by Echo name t = record t { echoes = sets.insert t.echoes name }
+voted_by Ready name t = record t { readies = sets.insert t.readies name }
 
 -- how many names the tally of c has
 abbrev pub support_in : Command → List TallyValue → Support

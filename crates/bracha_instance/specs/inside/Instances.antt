@@ -5,8 +5,8 @@ use Rattle.std.specs.FinMap as maps
 use Rattle.std.specs.FinSet as sets
 use Rattle.quorum_sizes.specs.Sizes.{most_nodes}
 use Rattle.bracha_instance.specs.States.{State}
-use Rattle.bracha_instance.specs.Kept.{names_of}
-use Rattle.bracha_instance.specs.Tallies.{no_votes}
+use Rattle.bracha_instance.specs.inside.Kept.{names_of}
+use Rattle.bracha_instance.specs.inside.Tallies.{no_votes}
 use Rattle.bracha_instance.specs.declared.instance.Instance.TheInside as instance
 use Rattle.bracha_instance.specs.declared.record.Record.TheInside as record_of
 

@@ -13,7 +13,7 @@ use Rattle.owner_streams.specs.declared.steps.StreamFault.{StreamFault}
 use Rattle.owner_streams.specs.declared.steps.StreamFault.TheVariants.{Beyond}
 use Rattle.owner_streams.specs.Places.{place_count, window, takes_at}
 use Rattle.owner_streams.specs.Values.{Instances, StreamsValue}
-use Rattle.owner_streams.specs.Slots.{slot_at, state_in, delivered_in, voted_in, instances_from}
+use Rattle.owner_streams.specs.inside.Slots.{slot_at, state_in, delivered_in, voted_in, instances_from}
 use Rattle.owner_streams.specs.declared.owner_stream.OwnerStream.{OwnerStream}
 use Rattle.owner_streams.specs.declared.streams.Streams.TheInside.{Inside}
 

@@ -1,0 +1,5 @@
+-- What serves the code and no public contract.
+pub mod Instances
+pub mod Kept
+pub mod Next
+pub mod Tallies
