@@ -1,6 +1,7 @@
 //! What is written for a line of a cluster, its end left out.
 
-ghost use Rattle.std.specs.Prelude.{◌≡◌, ◌++◌, codes, IfOk, string_bytes};
+ghost use Rattle.std.specs.Prelude.{◌≡◌, ◌++◌, ℕ, List, Some, codes, IfOk, string_bytes};
+ghost use Rattle.std.specs.List.{flat_map};
 ghost use Rattle.role_lab.specs.OrderTexts as texts;
 
 use crate::texts::kind_word;
@@ -9,7 +10,7 @@ use link_frames::Message;
 use role_commands::{Command, TableFault};
 use role_node::{Answer, Reply, Verdict};
 use std::alloc::{AllocError, Global};
-use std::fmt::Write;
+use std::fmt::{Display, Write};
 
 /// What is written for a role: `ok`, or its fault.
 ///
@@ -163,15 +164,16 @@ pub fn rest_text(alloc: Global, at_rest: bool) -> Result<String, AllocError>
 }
 
 /// What is written for an answer.
+#[tactic(auto, unfolding(crate::specs::OrderTexts::numbers_text))]
 pub fn answer_text(alloc: Global, answer: &Answer) -> Result<String, AllocError>
     ensures { IfOk result (λ text. string_bytes text ≡ texts.answer_text answer.now) }
 {
     match answer {
         Answer::Verdict(verdict) => verdict_text(alloc, verdict),
-        Answer::Users(users) => wide_numbers_text(alloc, users.as_slice()),
-        Answer::Roles(roles) => narrow_numbers_text(alloc, roles.as_slice()),
+        Answer::Users(users) => numbers_text(alloc, users.as_slice()),
+        Answer::Roles(roles) => numbers_text(alloc, roles.as_slice()),
         Answer::Permissions(permissions) => permissions_text(alloc, permissions.as_slice()),
-        Answer::Operations(operations) => narrow_numbers_text(alloc, operations.as_slice()),
+        Answer::Operations(operations) => numbers_text(alloc, operations.as_slice()),
     }
 }
 
@@ -184,18 +186,11 @@ fn verdict_text(alloc: Global, verdict: &Verdict) -> Result<String, AllocError>
     }
 }
 
-fn wide_numbers_text(alloc: Global, numbers: &[u32]) -> Result<String, AllocError>
-    ensures { IfOk result (λ text. string_bytes text ≡ texts.numbers_text numbers.now) }
-{
-    let mut text = String::from_str(alloc, "list")?;
-    for number in numbers {
-        write!(text, " {number}")?;
-    }
-    Ok(text)
-}
-
-fn narrow_numbers_text(alloc: Global, numbers: &[u16]) -> Result<String, AllocError>
-    ensures { IfOk result (λ text. string_bytes text ≡ texts.numbers_text numbers.now) }
+fn numbers_text<T: Display>(alloc: Global, numbers: &[T]) -> Result<String, AllocError>
+    ghost written: { T → List ℕ }
+    requires { (number : T) → T.output number ≡ Some (written number) }
+    ensures { IfOk result (λ text.
+        string_bytes text ≡ codes "list" ++ flat_map (λ n. codes " " ++ written n) numbers.now) }
 {
     let mut text = String::from_str(alloc, "list")?;
     for number in numbers {
