@@ -1,6 +1,7 @@
 //! What a node answers to a client's line, and how an answer is written.
 
-ghost use Rattle.std.specs.Prelude.{◌≡◌, IfOk, string_bytes};
+ghost use Rattle.std.specs.Prelude.{◌≡◌, ℕ, List, Some, IfOk, codes, string_bytes};
+ghost use Rattle.std.specs.List.{join_by};
 ghost use Rattle.client_lines.specs.AnswerTexts as texts;
 ghost use Rattle.client_lines.specs.AnswerTexts.{IsWritten};
 
@@ -9,7 +10,7 @@ use link_frames::Place;
 use role_commands::Items;
 use role_node::{NodeFault, Verdict};
 use std::alloc::{AllocError, Global};
-use std::fmt::Write;
+use std::fmt::{Display, Write};
 
 /// What a node answers to a client line. `at` is how many events the node had recorded then.
 #[derive(Drop, Debug)]
@@ -75,11 +76,11 @@ pub fn answer_text(alloc: Global, answer: &ClientAnswer) -> Result<String, Alloc
         ClientAnswer::Done => String::from_str(alloc, "{\"done\":true}"),
         ClientAnswer::Verdict { at, verdict } => verdict_text(alloc, *at, verdict),
         ClientAnswer::Users { at, users } => {
-            let items = wide_numbers_text(alloc, users.as_slice())?;
+            let items = numbers_text(alloc, users.as_slice())?;
             list_text(alloc, *at, "users", &items)
         }
         ClientAnswer::Roles { at, roles } => {
-            let items = narrow_numbers_text(alloc, roles.as_slice())?;
+            let items = numbers_text(alloc, roles.as_slice())?;
             list_text(alloc, *at, "roles", &items)
         }
         ClientAnswer::Permissions { at, permissions } => {
@@ -87,7 +88,7 @@ pub fn answer_text(alloc: Global, answer: &ClientAnswer) -> Result<String, Alloc
             list_text(alloc, *at, "permissions", &items)
         }
         ClientAnswer::Operations { at, operations } => {
-            let items = narrow_numbers_text(alloc, operations.as_slice())?;
+            let items = numbers_text(alloc, operations.as_slice())?;
             list_text(alloc, *at, "operations", &items)
         }
         ClientAnswer::Reach(reach) => number_text(alloc, "reach", u64::from(*reach)),
@@ -137,21 +138,10 @@ fn list_text(alloc: Global, at: u32, name: &str, items: &str) -> Result<String, 
     format!(in alloc; "{{\"at\":{at},\"{name}\":[{items}]}}")
 }
 
-fn wide_numbers_text(alloc: Global, numbers: &[u32]) -> Result<String, AllocError>
-    ensures { IfOk result (λ text. string_bytes text ≡ texts.numbers_text numbers.now) }
-{
-    let Some((first, others)) = numbers.split_first() else {
-        return Ok(String::new(alloc));
-    };
-    let mut text = format!(in alloc; "{first}")?;
-    for number in others {
-        write!(text, ",{number}")?;
-    }
-    Ok(text)
-}
-
-fn narrow_numbers_text(alloc: Global, numbers: &[u16]) -> Result<String, AllocError>
-    ensures { IfOk result (λ text. string_bytes text ≡ texts.numbers_text numbers.now) }
+fn numbers_text<T: Display>(alloc: Global, numbers: &[T]) -> Result<String, AllocError>
+    ghost written: { T → List ℕ }
+    requires { (number : T) → T.output number ≡ Some (written number) }
+    ensures { IfOk result (λ text. string_bytes text ≡ join_by written (codes ",") numbers.now) }
 {
     let Some((first, others)) = numbers.split_first() else {
         return Ok(String::new(alloc));
