@@ -25,7 +25,8 @@ use Rattle.role_daemon.specs.Results.{IsDueOrMemory}
 use Rattle.role_daemon.specs.Runs.{PipeRan, IsEndless}
 use Rattle.link_frames.specs.Watching.{Tally}
 use Rattle.link_frames.proofs.Exported.{ReaderFailed-later}
-use Rattle.role_daemon.specs.Steps.{of_ahead_fault, IsNodeOf, RefusesNode, Opened, client_text, LinesRan, LinesEndless}
+use Rattle.role_daemon.specs.inside.Steps.{of_ahead_fault, IsNodeOf, RefusesNode, Opened, client_text, LinesRan}
+use Rattle.role_daemon.specs.inside.Steps.{LinesEndless}
 use Rattle.role_daemon.specs.declared.cluster.Mode.TheVariants.{Pipe}
 use Rattle.role_daemon.specs.declared.cluster.Setup.{Setup}
 use Rattle.role_daemon.specs.declared.fault.ClusterFault.TheVariants.{NotJson}

@@ -19,7 +19,7 @@ use Rattle.client_lines.specs.declared.request.Request.TheVariants as request
 use Rattle.role_daemon.specs.Answers.{answer_to}
 use Rattle.role_daemon.specs.Pipes.{request_in, answer_said, after_said, asks_to_stop, stops, line_text}
 use Rattle.role_daemon.specs.Pipes.{after_line, going_on, one_stops, stop_text, answers_text}
-use Rattle.role_daemon.specs.Steps.{client_text}
+use Rattle.role_daemon.specs.inside.Steps.{client_text}
 
 -- a line that does not stop the node
 pub goes_on : (node : NodeValue) (line : List ℕ) → stops node line ≡ false

@@ -21,7 +21,7 @@ use Rattle.client_lines.specs.Requests.{most_line_bytes}
 use Rattle.client_lines.specs.declared.answer.ClientAnswer.TheVariants.{BadLine}
 use Rattle.client_lines.specs.declared.fault.LineFault.TheVariants.{NotJson}
 use Rattle.role_daemon.specs.Pipes.{stops, line_text, after_line, going_on, one_stops, stop_text, answers_text}
-use Rattle.role_daemon.specs.Steps.{client_text, Answering, Answered, LinesRan, LinesEndless, Finished}
+use Rattle.role_daemon.specs.inside.Steps.{client_text, Answering, Answered, LinesRan, LinesEndless, Finished}
 use Rattle.role_daemon.specs.declared.fault.PipeFault.{PipeFault}
 use Rattle.role_daemon.specs.declared.fault.PipeFault.TheVariants.{Device, Memory}
 use Rattle.link_frames.proofs.Exported.{nothing_left}

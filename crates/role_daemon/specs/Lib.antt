@@ -7,6 +7,6 @@ pub mod Answers
 pub mod Laws
 pub mod Pipes
 pub mod Runs
-pub mod Steps
 pub mod Served
 pub mod Linked
+pub mod inside

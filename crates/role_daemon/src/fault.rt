@@ -192,7 +192,7 @@ impl From<AllocError> for PipeFault {
 }
 
 impl From<AheadFault> for PipeFault {
-    ghost use Rattle.role_daemon.specs.Steps.{of_ahead_fault};
+    ghost use Rattle.role_daemon.specs.inside.Steps.{of_ahead_fault};
 
     ghost from_gives = { λ fault e. e ≡ of_ahead_fault fault };
 

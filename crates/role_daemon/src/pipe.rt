@@ -10,7 +10,8 @@ ghost use Rattle.link_frames.specs.Aheads.{front_of};
 ghost use Rattle.client_lines.specs.Requests.{most_line_bytes};
 ghost use Rattle.role_daemon.specs.Pipes.{stops, line_text, after_line};
 ghost use Rattle.role_daemon.specs.Runs.{PipeRan, IsEndless};
-ghost use Rattle.role_daemon.specs.Steps.{IsNodeOf, RefusesNode, Opened, Answered, LinesRan, LinesEndless, Finished};
+ghost use Rattle.role_daemon.specs.inside.Steps.{IsNodeOf, RefusesNode, Opened, Answered, LinesRan};
+ghost use Rattle.role_daemon.specs.inside.Steps.{LinesEndless, Finished};
 
 pub mod laws;
 mod requests;

@@ -1,0 +1,2 @@
+-- What serves the code and no public contract.
+pub mod Steps
