@@ -1,9 +1,9 @@
 //! The members of a cluster text, before they are held against each other. Nothing here takes memory.
 
-ghost use Rattle.std.specs.Prelude.{◌≡◌, ◌≤◌, ◌^◌, ◌-◌, map, option_map, is_some, IfSome, IfOk, IfErr, Ok, Err};
-ghost use Rattle.std.specs.List.{list_all, filter_map};
+ghost use Rattle.std.specs.Prelude.{◌≡◌, ◌≤◌, ◌^◌, ◌-◌, map, Option, option_map, IfSome, IfOk, IfErr, Ok, Err};
+ghost use Rattle.std.specs.List.{filter_map};
 ghost use Rattle.serde_json.specs.View.{view};
-ghost use Rattle.client_lines.specs.declared.member.Member.TheVariants.{Roles, Keys, Nodes};
+ghost use Rattle.serde_json.specs.Data.{Data};
 ghost use Rattle.role_daemon.specs.Shapes as shapes;
 ghost use Rattle.role_daemon.specs.Shapes.{list_member};
 
@@ -46,7 +46,7 @@ pub fn shape_of(mode: Mode, text: &Value) -> Result<Shape<'_>, ClusterFault>
     let n = number(text, Member::N, u64::from(u8::MAX))?;
     let f = number(text, Member::F, u64::from(u8::MAX))?;
     let me = number(text, Member::Me, u64::from(u8::MAX))?;
-    let roles = role_items(text)?;
+    let roles = items_of(text, Member::Roles, pair_of)?;
     let links = links_of(mode, text)?;
     Ok(Shape {
         cluster: cluster as u32,
@@ -70,8 +70,8 @@ fn links_of(mode: Mode, text: &Value) -> Result<LinkMembers<'_>, ClusterFault>
             client: 0,
         }),
         Mode::Serve => {
-            let keys = key_items(text)?;
-            let nodes = port_items(text)?;
+            let keys = items_of(text, Member::Keys, key_of)?;
+            let nodes = items_of(text, Member::Nodes, port_of)?;
             let client = port_member(text, Member::Client)?;
             Ok(LinkMembers {
                 keys,
@@ -122,64 +122,27 @@ fn list_items(text: &Value, member: Member) -> Result<&[Value], ClusterFault>
     }
 }
 
+/// The items of a member's list, where `read` takes each of them.
 #[tactic(auto, unfolding(crate::specs::Shapes::list_member))]
-fn role_items(text: &Value) -> Result<&[Value], ClusterFault>
-    ensures ok { IfOk result (λ items. list_member Roles shapes.pair_of (view text.entry.now)
-        ≡ Ok (filter_map (λ v. shapes.pair_of (view v)) items.now)) }
-    ensures err { IfErr result (λ e. list_member Roles shapes.pair_of (view text.entry.now) ≡ Err e) }
+fn items_of<'a, T: Drop, F: Fn(&Value) -> Option<T>>(
+    text: &'a Value,
+    member: Member,
+    read: F,
+) -> Result<&'a [Value], ClusterFault>
+    ghost shape: { Data → Option T }
+    requires callable { F.IsAlwaysCallable read }
+    requires reads { (value : _) (r : _) → F.post read value r → r ≡ shape (view value.now) }
+    ensures ok { IfOk result (λ items. list_member member shape (view text.entry.now)
+        ≡ Ok (filter_map (λ v. shape (view v)) items.now)) }
+    ensures err { IfErr result (λ e. list_member member shape (view text.entry.now) ≡ Err e) }
 {
-    let items = list_items(text, Member::Roles)?;
-    if are_pairs(items) {
-        Ok(items)
-    } else {
-        Err(ClusterFault::OutOfRange(Member::Roles))
+    let items = list_items(text, member)?;
+    for item in items {
+        if read(item).is_none() {
+            return Err(ClusterFault::OutOfRange(member));
+        }
     }
-}
-
-#[tactic(auto, unfolding(crate::specs::Shapes::list_member))]
-fn key_items(text: &Value) -> Result<&[Value], ClusterFault>
-    ensures ok { IfOk result (λ items. list_member Keys shapes.key_of (view text.entry.now)
-        ≡ Ok (filter_map (λ v. shapes.key_of (view v)) items.now)) }
-    ensures err { IfErr result (λ e. list_member Keys shapes.key_of (view text.entry.now) ≡ Err e) }
-{
-    let items = list_items(text, Member::Keys)?;
-    if are_keys(items) {
-        Ok(items)
-    } else {
-        Err(ClusterFault::OutOfRange(Member::Keys))
-    }
-}
-
-#[tactic(auto, unfolding(crate::specs::Shapes::list_member))]
-fn port_items(text: &Value) -> Result<&[Value], ClusterFault>
-    ensures ok { IfOk result (λ items. list_member Nodes shapes.port_of (view text.entry.now)
-        ≡ Ok (filter_map (λ v. shapes.port_of (view v)) items.now)) }
-    ensures err { IfErr result (λ e. list_member Nodes shapes.port_of (view text.entry.now) ≡ Err e) }
-{
-    let items = list_items(text, Member::Nodes)?;
-    if are_ports(items) {
-        Ok(items)
-    } else {
-        Err(ClusterFault::OutOfRange(Member::Nodes))
-    }
-}
-
-fn are_pairs(items: &[Value]) -> bool
-    ensures { result ≡ list_all (λ v. is_some (shapes.pair_of (view v))) items.now }
-{
-    items.iter().all(|item| pair_of(item).is_some())
-}
-
-fn are_keys(items: &[Value]) -> bool
-    ensures { result ≡ list_all (λ v. is_some (shapes.key_of (view v))) items.now }
-{
-    items.iter().all(|item| key_of(item).is_some())
-}
-
-fn are_ports(items: &[Value]) -> bool
-    ensures { result ≡ list_all (λ v. is_some (shapes.port_of (view v))) items.now }
-{
-    items.iter().all(|item| port_of(item).is_some())
+    Ok(items)
 }
 
 /// A role and its owner.
