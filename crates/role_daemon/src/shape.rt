@@ -124,11 +124,11 @@ fn list_items(text: &Value, member: Member) -> Result<&[Value], ClusterFault>
 
 /// The items of a member's list, where `read` takes each of them.
 #[tactic(auto, unfolding(crate::specs::Shapes::list_member))]
-fn items_of<'a, T: Drop, F: Fn(&Value) -> Option<T>>(
-    text: &'a Value,
+fn items_of<T: Drop, F: Fn(&Value) -> Option<T>>(
+    text: &Value,
     member: Member,
     read: F,
-) -> Result<&'a [Value], ClusterFault>
+) -> Result<&[Value], ClusterFault>
     ghost shape: { Data → Option T }
     requires callable { F.IsAlwaysCallable read }
     requires reads { (value : _) (r : _) → F.post read value r → r ≡ shape (view value.now) }
