@@ -1,7 +1,8 @@
 use Rattle.std.proofs.Common.{sym, ap, ◌∙◌, arith}
 use Rattle.std.specs.Prelude.{slice_set}
 use Rattle.bracha_instance.specs.inside.Tallies.{TallyValue, with_tally, voted_by}
-use Rattle.bracha_instance.proofs.TallyLemmas.{within, set-with_tally, with_tally-again, support_in-set, command-voted_by}
+use Rattle.bracha_instance.proofs.TallyLemmas.{within, set-with_tally, with_tally-again, support_in-set}
+use Rattle.bracha_instance.proofs.TallyLemmas.{command-voted_by}
 use Rattle.bracha_instance.proofs.tallies.add.Goals as goal
 
 pub index_mut-requires : goal.index_mut-requires

@@ -9,10 +9,11 @@ use Rattle.bracha_instance.proofs.tallies.Tallies.count.Goals as goal
 
 changed : (c : goal.In-Some)
     → all_of c.add_to_first.new.first c.self.inside.others.items
-    ≡ with_tally (voted_by c.args.vote c.args.name) c.args.command (all_of c.self.inside.first c.self.inside.others.items)
+    ≡ with_tally (voted_by c.args.vote c.args.name) c.args.command
+    (all_of c.self.inside.first c.self.inside.others.items)
 changed c =
-    all_of-changed (voted_by c.args.vote c.args.name) c.args.command c.self.inside.first c.add_to_first.new.first c.in-Some.support
-    c.self.inside.others.items c.in-Some.ensures.some c.self.invariant.none
+    all_of-changed (voted_by c.args.vote c.args.name) c.args.command c.self.inside.first c.add_to_first.new.first
+    c.in-Some.support c.self.inside.others.items c.in-Some.ensures.some c.self.invariant.none
 
 pub invariant_of-self : goal.invariant_of-self
 invariant_of-self c = record {
@@ -31,8 +32,8 @@ returns-in-Some-clause-ok c =
 
 pub returns-in-Some-clause-support : goal.returns-in-Some-clause-support
 returns-in-Some-clause-support c =
-    support-changed (voted_by c.args.vote c.args.name) c.args.command c.self.inside.first c.add_to_first.new.first c.in-Some.support
-    c.self.inside.others.items (command-voted_by c.args.vote c.args.name) c.in-Some.ensures.some
+    support-changed (voted_by c.args.vote c.args.name) c.args.command c.self.inside.first c.add_to_first.new.first
+    c.in-Some.support c.self.inside.others.items (command-voted_by c.args.vote c.args.name) c.in-Some.ensures.some
     ∙ support_of-tallied c.args.command (all_of c.add_to_first.new.first c.self.inside.others.items)
     (invariant_of-self c).tallies
 
@@ -43,11 +44,14 @@ other c = subst (IsOther c.args.command) (sym c.in_default.ensures.none.1) c.in_
 
 others_changed : (c : goal.In_ok-support)
     → all_of c.add_to_first.new.first c.add.new.tallies.items
-    ≡ with_tally (voted_by c.args.vote c.args.name) c.args.command (all_of c.self.inside.first c.self.inside.others.items)
+    ≡ with_tally (voted_by c.args.vote c.args.name) c.args.command
+    (all_of c.self.inside.first c.self.inside.others.items)
 others_changed c =
     ap (all_of c.add_to_first.new.first) c.in_ok-support.ensures.tallies
-    ∙ all_of-other (voted_by c.args.vote c.args.name) c.args.command c.add_to_first.new.first c.self.inside.others.items (other c)
-    ∙ ap (λ first. with_tally (voted_by c.args.vote c.args.name) c.args.command (all_of first c.self.inside.others.items))
+    ∙ all_of-other (voted_by c.args.vote c.args.name) c.args.command c.add_to_first.new.first
+    c.self.inside.others.items (other c)
+    ∙ ap (λ first. with_tally (voted_by c.args.vote c.args.name) c.args.command
+    (all_of first c.self.inside.others.items))
     c.in_default.ensures.none.1
 
 pub invariant_of-self-2 : goal.invariant_of-self-2
