@@ -112,7 +112,7 @@ fn step_of(alloc: Global, act: Act) -> Result<Step, Fail> {
 }
 
 fn is_due(came: Result<StepReply, WorldFault>, due: Due) -> bool {
-    let (first, count, reply) = match outcome {
+    let (first, count, reply) = match came {
         Ok(
             StepReply::Node {
                 reply,
@@ -138,7 +138,7 @@ fn is_due(came: Result<StepReply, WorldFault>, due: Due) -> bool {
 fn done(alloc: Global, world: &mut World, act: Act) -> Result<Result<StepReply, WorldFault>, Fail> {
     let step = step_of(alloc, act)?;
     let before = seen(world)?;
-    let outcome = world.step(step);
+    let came = world.step(step);
     if !matches!(&came, Err(WorldFault::Memory)) {
         return Ok(came);
     }
@@ -175,7 +175,7 @@ fn walk(
     acts: &[(Act, Due)],
 ) -> Result<(), Fail> {
     for (row, (act, due)) in acts.iter().enumerate() {
-        let outcome = done(alloc, world, *act)?;
+        let came = done(alloc, world, *act)?;
         assert!(rt; is_due(came, *due), "row {row}: due {due:?}, came {came:?}");
     }
     Ok(())
@@ -331,11 +331,11 @@ fn many_packets_at_once(rt: HostRuntime) -> Result<(), Fail> {
         pass(&mut world, &issue)?;
     }
     for first in 0..16 {
-        let outcome = some_given(&mut world, first, 99)?;
+        let came = some_given(&mut world, first, 99)?;
         assert!(rt; came == 1, "packet {first}: came {came}");
     }
     for (first, most, due) in GIVEN.iter() {
-        let outcome = some_given(&mut world, *first, *most)?;
+        let came = some_given(&mut world, *first, *most)?;
         assert!(rt; came == *due, "packet {first}: due {due}, came {came}");
     }
     let reach = world.agree(name(1)?, name(3)?, name(0)?);
