@@ -9,11 +9,12 @@ use crate::serve::connection::{Connection, LineAnswers};
 use crate::serve::job_queue::JobQueue;
 use crate::serve::last_writes::LastWrites;
 use crate::serve::shared::{Room, Shared, put_own};
+use crate::serve::workers::answer_of;
 use client_lines::{ClientAnswer, LineFault, MOST_LINE_BYTES, Request, RequestReader};
 use link_frames::{Ahead, Held, Kind, Message, Next, Place, Watched};
 use node_lock::{Call, Job, View};
 use quorum_sizes::NodeName;
-use role_node::{Event, NodeAgain};
+use role_node::{Event, NodeAgain, Question};
 use std::alloc::{AllocError, Global};
 use std::net::{Shutdown, TcpStream};
 use std::sync::Wait;
@@ -47,6 +48,8 @@ struct Client<'a, 'b, L: Ledger> {
     put: u64,
     /// How many of them the answers of which are still to come.
     in_flight: u32,
+    /// How many questions were asked at once since it was last seen whether much is held.
+    at_once: u32,
     answers: Vec<LineAnswers>,
     requests: RequestReader,
     held: Held,
@@ -75,6 +78,7 @@ pub fn answer_client<L: Ledger, R: Wait + Clock>(
         slot,
         put: 0,
         in_flight: 0,
+        at_once: 0,
         answers: Vec::new(alloc),
         requests: RequestReader::new(alloc),
         held: Held::new(alloc),
@@ -156,6 +160,11 @@ impl<L: Ledger> Client<'_, '_, L> {
         matches!(self.requests.read(&sizes, line), Ok(Request::Stop))
     }
 
+    /// Whether another line is answered before it is seen whether much is held.
+    fn may_answer_more(&self) -> bool {
+        self.in_flight.saturating_add(self.at_once) < MOST_LINES
+    }
+
     /// Answers what comes next. All that is due is written before the program waits for it.
     fn answer_next<R: Wait + Clock>(
         &mut self,
@@ -164,8 +173,9 @@ impl<L: Ledger> Client<'_, '_, L> {
         reader: &mut Watched<&TcpStream>,
     ) -> Result<AfterLine, PipeFault> {
         let next = match ahead.begins(MOST_LINE_BYTES) {
-            Some(Next::Line(count)) if self.in_flight < MOST_LINES => Next::Line(count),
+            Some(Next::Line(count)) if self.may_answer_more() => Next::Line(count),
             _ => {
+                self.at_once = 0;
                 self.settle(rt)?;
                 self.held
                     .write_when_due(ahead, MOST_LINE_BYTES, &mut self.writer)?;
@@ -217,7 +227,7 @@ impl<L: Ledger> Client<'_, '_, L> {
         match request {
             Request::Issue(command) => self.call(rt, &Call::Step(Event::Issue(command))),
             Request::Client(act) => self.call(rt, &Call::Step(Event::Client(act))),
-            Request::Ask(question) => self.call(rt, &Call::Ask(question)),
+            Request::Ask(question) => self.ask(rt, question),
             Request::Reach(owner) => {
                 let view = self.view(rt, owner, 0)?;
                 self.say(rt, &ClientAnswer::Reach(view.reach))
@@ -248,6 +258,19 @@ impl<L: Ledger> Client<'_, '_, L> {
         self.settle(rt)?;
         hold_answer(self.alloc, &mut self.held, answer)?;
         Ok(AfterLine::Continue)
+    }
+
+    /// Answers a question: at once where nothing comes before it, else by a job.
+    fn ask<R: Wait + Clock>(&mut self, rt: &R, question: Question) -> Result<AfterLine, PipeFault> {
+        if self.in_flight == 0 {
+            if let Some((outcome, view)) = self.shared.ask_at_once(rt, question) {
+                if let Some(answer) = answer_of(&view, outcome) {
+                    self.at_once = self.at_once.saturating_add(1);
+                    return self.say(rt, &answer);
+                }
+            }
+        }
+        self.call(rt, &Call::Ask(question))
     }
 
     /// Puts a job for a line, again until the inbox takes it. No answer is held back meanwhile.

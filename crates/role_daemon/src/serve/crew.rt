@@ -2,7 +2,9 @@
 
 use crate::serve::shared::Shared;
 use crate::serve::waiting::Awaited;
-use crate::serve::workers::Worker;
+use crate::serve::workers::{Worker, call};
+use node_lock::{Call, Outcome, View};
+use role_node::Question;
 use std::sync::Wait;
 use std::sync::ledger::Ledger;
 use std::time::Clock;
@@ -36,6 +38,11 @@ impl<'a, L: Ledger> Crew<'a, L> {
         }
     }
 
+    /// Whether no job is left that has not been done.
+    fn is_at_rest(&self) -> bool {
+        !self.taking && !self.jobs
+    }
+
     /// An idle worker takes jobs from now on, if none does.
     fn begin(&mut self) -> Option<Worker<'a, L>> {
         if self.taking {
@@ -60,6 +67,18 @@ impl<'a, L: Ledger> Shared<'a, L> {
         if let Some(worker) = worker {
             self.work(rt, worker);
         }
+    }
+
+    /// Asks at once, where no job is left that would come before it. Nothing is said where there is one, for want of
+    /// memory, and where the seat does not fit the node.
+    pub fn ask_at_once<R: Wait>(&self, rt: &R, question: Question) -> Option<(Outcome, View)> {
+        if !self.crew.lock(rt).value.is_at_rest() {
+            return None;
+        }
+        let mut seat = self.view_seat.lock(rt);
+        let mut locked = self.node.node.lock(rt);
+        let me = self.links.me();
+        call(&mut locked, &mut seat, Call::Ask(question), me)
     }
 
     /// Does jobs that are left to others, until the end.

@@ -135,7 +135,7 @@ impl<'a, L: Ledger> Worker<'a, L> {
 }
 
 /// Makes the call by one hold, and reads how far the node's own stream reaches.
-fn call<L: Ledger>(
+pub fn call<L: Ledger>(
     locked: &mut Locked<L>,
     seat: &mut Seat<L>,
     call: Call,
