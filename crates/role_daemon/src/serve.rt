@@ -3,7 +3,7 @@
 //! One thread takes the frames of all peers. Each client is served by a thread of its own, which is started when its
 //! connection comes. All put jobs into one inbox; four workers make their calls under the node's lock. A worker has no
 //! thread: whoever put jobs does them with an idle worker, and what is left is done by threads that wait for it. A
-//! thread that waits sleeps.
+//! thread that waits sleeps; a client's that has answered question after question looks for the next one first.
 
 ghost use Rattle.std.specs.Prelude.{◌≡◌, length, IfOk};
 ghost use Rattle.role_daemon.specs.Linked.{ring_of};
@@ -21,6 +21,9 @@ mod frame_jobs;
 mod idle_tests;
 mod job_queue;
 mod last_writes;
+mod line_reader;
+#[cfg(test)]
+mod line_reader_tests;
 mod links;
 mod outbox;
 mod peer;

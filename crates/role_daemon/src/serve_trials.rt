@@ -88,18 +88,25 @@ where
     Ok(answer.as_str() == "{\"session\":1}\n")
 }
 
-/// Whether a hundred lines that come at once are answered in their order.
+/// Whether two hundred lines that come at once are answered in their order: a check that nothing comes before, then one
+/// behind each session that is opened.
 fn many_lines<R>(rt: &R, alloc: Global, place: &Place) -> Result<bool, Fail>
 where
     R: Net<Listener = TcpListener, Stream = TcpStream> + Clock,
 {
     let mut lines = String::new(alloc);
     let mut due = String::new(alloc);
+    due.push_str("{\"allow\":false,\"at\":0,\"rule\":\"N1\"}\n")?;
     for user in 1..=100u32 {
         lines.push_str(&format!(in alloc; "{{\"op\":\"open\",\"user\":{user}}}\n")?)?;
         due.push_str(&format!(in alloc; "{{\"session\":{user}}}\n")?)?;
+        lines.push_str(&format!(in alloc;
+            "{{\"op\":\"check\",\"session\":{user},\"user\":{user},\"operation\":5,\"object\":9}}\n"
+        )?)?;
+        due.push_str(&format!(in alloc; "{{\"allow\":false,\"at\":{user},\"rule\":\"N3\"}}\n")?)?;
     }
     let mut stream = connected(rt, place.client)?;
+    stream.write_all(CHECK)?;
     stream.write_all(lines.as_bytes())?;
     stream.shutdown(Shutdown::Write)?;
     let mut answers = String::new(alloc);

@@ -1,6 +1,9 @@
 //! Connections of clients: lines in, answers out.
 
+ghost use Rattle.std.specs.Prelude.{IfOk};
 ghost use Rattle.client_lines.specs.AnswerTexts.{IsWritten};
+ghost use Rattle.link_frames.specs.Aheads.{front_of};
+ghost use Rattle.link_frames.specs.Nexts.{Begins};
 
 use crate::answers::{hold_answer, sent_count};
 use crate::fault::PipeFault;
@@ -8,6 +11,7 @@ use crate::serve::caller::{Caller, MOST_LINES};
 use crate::serve::connection::{Connection, LineAnswers};
 use crate::serve::job_queue::JobQueue;
 use crate::serve::last_writes::LastWrites;
+use crate::serve::line_reader::LineReader;
 use crate::serve::shared::{Room, Shared, put_own};
 use crate::serve::workers::answer_of;
 use client_lines::{ClientAnswer, LineFault, MOST_LINE_BYTES, Request, RequestReader};
@@ -19,7 +23,7 @@ use std::alloc::{AllocError, Global};
 use std::net::{Shutdown, TcpStream};
 use std::sync::Wait;
 use std::sync::ledger::Ledger;
-use std::time::{Clock, Duration};
+use std::time::{Clock, Duration, Instant};
 use std::{mem, thread};
 
 /// How many milliseconds are waited for another byte of a client that is answered no more.
@@ -27,6 +31,9 @@ const LAST_LOOK: u64 = 2_000;
 
 /// The milliseconds before a job is put again that the inbox did not take.
 const NEXT_PUT: u64 = 1;
+
+/// A line was waited for shortly if it came within so many microseconds.
+const SHORT_WAIT: u64 = 50;
 
 /// What is to be done after a client's line.
 #[derive(Clone, Copy, Debug, PartialEq, Eq)]
@@ -42,6 +49,7 @@ struct Client<'a, 'b, L: Ledger> {
     alloc: Global,
     shared: &'b Shared<'a, L>,
     connection: &'b Connection<'a>,
+    stream: &'b TcpStream,
     queue: JobQueue<'a>,
     slot: u32,
     /// How many jobs were put.
@@ -50,6 +58,10 @@ struct Client<'a, 'b, L: Ledger> {
     in_flight: u32,
     /// How many questions were asked at once since it was last seen whether much is held.
     at_once: u32,
+    /// Whether the last line was such a question.
+    asked: bool,
+    /// Whether the last wait for a line was short.
+    was_short: bool,
     answers: Vec<LineAnswers>,
     requests: RequestReader,
     held: Held,
@@ -74,17 +86,20 @@ pub fn answer_client<L: Ledger, R: Wait + Clock>(
         alloc,
         shared,
         connection,
+        stream,
         queue,
         slot,
         put: 0,
         in_flight: 0,
         at_once: 0,
+        asked: false,
+        was_short: false,
         answers: Vec::new(alloc),
         requests: RequestReader::new(alloc),
         held: Held::new(alloc),
         writer: Watched::new(stream),
     };
-    if client.answer_lines(rt, stream) {
+    if client.answer_lines(rt) {
         shared.end(rt);
     }
     client.close(rt);
@@ -92,14 +107,13 @@ pub fn answer_client<L: Ledger, R: Wait + Clock>(
 
 impl<L: Ledger> Client<'_, '_, L> {
     /// Answers the lines of a connection, up to its end. Whether one of them stops the node.
-    fn answer_lines<R: Wait + Clock>(&mut self, rt: &R, stream: &TcpStream) -> bool {
-        let mut reader = Watched::new(stream);
+    fn answer_lines<R: Wait + Clock>(&mut self, rt: &R) -> bool {
         let mut ahead = Ahead::new(self.alloc);
         for _ in rt.forever() {
-            match self.answer_next(rt, &mut ahead, &mut reader) {
+            match self.answer_next(rt, &mut ahead) {
                 Ok(AfterLine::Continue) => {}
                 Ok(AfterLine::StopNode) => {
-                    let _ = self.held.write_all(&mut LastWrites::new(rt, stream));
+                    let _ = self.held.write_all(&mut LastWrites::new(rt, self.stream));
                     return true;
                 }
                 Ok(AfterLine::Close) => {
@@ -110,7 +124,7 @@ impl<L: Ledger> Client<'_, '_, L> {
                     if !matches!(fault, PipeFault::Device) {
                         self.write_rest(rt);
                     }
-                    return self.leaves_a_stop(rt, stream, &mut ahead, &mut reader);
+                    return self.leaves_a_stop(rt, &mut ahead);
                 }
             }
         }
@@ -125,27 +139,22 @@ impl<L: Ledger> Client<'_, '_, L> {
 
     /// Whether one of the lines that come and are answered no more stops the node. It is looked for until nothing has
     /// come for a while.
-    fn leaves_a_stop<R: Wait>(
-        &mut self,
-        rt: &R,
-        stream: &TcpStream,
-        ahead: &mut Ahead,
-        reader: &mut Watched<&TcpStream>,
-    ) -> bool {
-        let _ = stream.shutdown(Shutdown::Write);
+    fn leaves_a_stop<R: Wait>(&mut self, rt: &R, ahead: &mut Ahead) -> bool {
+        let _ = self.stream.shutdown(Shutdown::Write);
         let patience = Duration::from_millis(LAST_LOOK);
-        if stream.set_read_timeout(Some(patience)).is_err() {
+        if self.stream.set_read_timeout(Some(patience)).is_err() {
             return false;
         }
+        let mut reader = Watched::new(self.stream);
         for _ in rt.forever() {
-            let (stops, goes_on) = match ahead.peek(reader, MOST_LINE_BYTES) {
+            let (stops, goes_on) = match ahead.peek(&mut reader, MOST_LINE_BYTES) {
                 Ok(Next::Line(count)) => {
                     let stops = self.is_stop(&ahead.front()[..count]);
                     ahead.take(count + 1);
                     (stops, true)
                 }
                 Ok(Next::Last(_)) => (self.is_stop(ahead.front()), false),
-                Ok(Next::TooLong) => (false, matches!(ahead.pass_line(reader), Ok(true))),
+                Ok(Next::TooLong) => (false, matches!(ahead.pass_line(&mut reader), Ok(true))),
                 Ok(Next::End) | Err(_) => (false, false),
             };
             if stops || !goes_on {
@@ -165,22 +174,39 @@ impl<L: Ledger> Client<'_, '_, L> {
         self.in_flight.saturating_add(self.at_once) < MOST_LINES
     }
 
-    /// Answers what comes next. All that is due is written before the program waits for it.
+    /// Waits for what comes next. All that is due is written first. Where the client asks one question after another,
+    /// it is looked for the next before it is waited for.
+    fn wait_for_next<R: Wait + Clock>(
+        &mut self,
+        rt: &R,
+        ahead: &mut Ahead,
+    ) -> Result<Next, PipeFault>
+        ensures { IfOk result (Begins MOST_LINE_BYTES (front_of ahead.new)) }
+    {
+        self.at_once = 0;
+        self.settle(rt)?;
+        self.held
+            .write_when_due(ahead, MOST_LINE_BYTES, &mut self.writer)?;
+        let begin = Instant::now(rt);
+        let looks_first = self.asked && self.was_short;
+        let mut reader = Watched::new(LineReader::new(self.stream, looks_first));
+        let next = self.held.peek(ahead, MOST_LINE_BYTES, &mut reader)?;
+        self.was_short = match begin {
+            Ok(begin) => is_short(rt, &begin),
+            Err(_) => false,
+        };
+        Ok(next)
+    }
+
+    /// Answers what comes next.
     fn answer_next<R: Wait + Clock>(
         &mut self,
         rt: &R,
         ahead: &mut Ahead,
-        reader: &mut Watched<&TcpStream>,
     ) -> Result<AfterLine, PipeFault> {
         let next = match ahead.begins(MOST_LINE_BYTES) {
             Some(Next::Line(count)) if self.may_answer_more() => Next::Line(count),
-            _ => {
-                self.at_once = 0;
-                self.settle(rt)?;
-                self.held
-                    .write_when_due(ahead, MOST_LINE_BYTES, &mut self.writer)?;
-                self.held.peek(ahead, MOST_LINE_BYTES, reader)?
-            }
+            _ => self.wait_for_next(rt, ahead)?,
         };
         match next {
             Next::End => Ok(AfterLine::Close),
@@ -194,7 +220,7 @@ impl<L: Ledger> Client<'_, '_, L> {
                 last => Ok(last),
             },
             Next::TooLong => {
-                let had_end = ahead.pass_line(reader)?;
+                let had_end = ahead.pass_line(&mut Watched::new(self.stream))?;
                 self.say(rt, &ClientAnswer::BadLine(LineFault::NotJson))?;
                 if had_end {
                     Ok(AfterLine::Continue)
@@ -211,6 +237,7 @@ impl<L: Ledger> Client<'_, '_, L> {
         rt: &R,
         line: &[u8],
     ) -> Result<AfterLine, PipeFault> {
+        self.asked = false;
         let sizes = self.shared.links.sizes();
         match self.requests.read(&sizes, line) {
             Ok(request) => self.answer(rt, request),
@@ -266,6 +293,7 @@ impl<L: Ledger> Client<'_, '_, L> {
             if let Some((outcome, view)) = self.shared.ask_at_once(rt, question) {
                 if let Some(answer) = answer_of(&view, outcome) {
                     self.at_once = self.at_once.saturating_add(1);
+                    self.asked = true;
                     return self.say(rt, &answer);
                 }
             }
@@ -395,5 +423,13 @@ impl<L: Ledger> Client<'_, '_, L> {
     fn close<R: Wait + Clock>(mut self, rt: &R) {
         self.shared.ring(rt);
         self.connection.free(rt, self.queue, self.put);
+    }
+}
+
+/// Whether a wait that began then was short.
+fn is_short<R: Clock>(rt: &R, begin: &Instant) -> bool {
+    match begin.elapsed(rt) {
+        Ok(past) => past < Duration::from_micros(SHORT_WAIT),
+        Err(_) => false,
     }
 }

@@ -38,7 +38,7 @@ impl<'a, L: Ledger> Crew<'a, L> {
         }
     }
 
-    /// Whether no job is left that has not been done.
+    /// Whether all jobs that the workers were told of are done.
     fn is_at_rest(&self) -> bool {
         !self.taking && !self.jobs
     }
