@@ -11,6 +11,3 @@ mod tallies;
 
 pub use instance::{Caused, Effect, Instance, Taken};
 pub use record::Record;
-
-#[cfg(test)]
-mod tests;

@@ -24,6 +24,3 @@ pub use laws::{
 };
 pub use step::{Step, StepReply};
 pub use world::World;
-
-#[cfg(test)]
-mod tests;

@@ -20,10 +20,3 @@ pub use fault::LineFault;
 pub use json_value::read_json;
 pub use member::{Member, MemberFault, member_number};
 pub use request::{MOST_LINE_BYTES, Request, RequestReader, read_request};
-
-#[cfg(test)]
-mod json_tests;
-#[cfg(test)]
-mod op_tests;
-#[cfg(test)]
-mod tests;

@@ -8,7 +8,7 @@ use serde_json::Value;
 use std::fmt;
 
 /// A member of a client line or of a cluster text. Written as its name.
-#[derive(Clone, Copy, Debug, PartialEq, Eq, Hash)]
+#[derive(Clone, Copy, Debug, PartialEq, Eq)]
 pub enum Member {
     /// The operation of a client line.
     Op,

@@ -27,7 +27,7 @@ use std::alloc::Global;
 pub const MOST_LINE_BYTES: usize = 4096;
 
 /// What a client line asks of a node.
-#[derive(Clone, Copy, Debug, PartialEq, Eq, Hash)]
+#[derive(Clone, Copy, Debug, PartialEq, Eq)]
 pub enum Request {
     /// To publish a command.
     Issue(Command),

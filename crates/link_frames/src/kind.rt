@@ -1,7 +1,7 @@
 //! The three kinds of message.
 
 /// The kinds of message of authenticated double-echo broadcast.
-#[derive(Clone, Copy, Debug, PartialEq, Eq, Hash)]
+#[derive(Clone, Copy, Debug, PartialEq, Eq)]
 pub enum Kind {
     /// The owner's own message, which starts a broadcast.
     Send,

@@ -37,8 +37,3 @@ pub use packet::{Message, PLACES, Packet, Place};
 pub use reading::{ReadFault, read_frame};
 pub use sealing::seal;
 pub use watched::Watched;
-
-#[cfg(test)]
-mod device_tests;
-#[cfg(test)]
-mod tests;

@@ -15,7 +15,7 @@ pub type Place = u32;
 pub const PLACES: u32 = 1_048_576;
 
 /// A message of the broadcast: a command at a place of its owner's stream.
-#[derive(Clone, Copy, Debug, PartialEq, Eq, Hash)]
+#[derive(Clone, Copy, Debug, PartialEq, Eq)]
 pub struct Message {
     /// What is said of the command.
     pub kind: Kind,
@@ -28,7 +28,7 @@ pub struct Message {
 }
 
 /// A message from one node to another. A SEND comes from its owner, and the place is below [`PLACES`].
-#[derive(Clone, Copy, Debug, PartialEq, Eq, Hash)]
+#[derive(Clone, Copy, Debug, PartialEq, Eq)]
 pub struct Packet {
     from: NodeName,
     to: NodeName,

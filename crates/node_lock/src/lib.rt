@@ -31,6 +31,3 @@ pub use report::{Cause, PoolFault, PoolReport};
 pub use seat::{MOST_SEATS, Seat};
 pub use shared::{CloseFault, SharedNode, close};
 pub use view::View;
-
-#[cfg(test)]
-mod tests;

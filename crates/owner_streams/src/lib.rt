@@ -13,6 +13,3 @@ pub use link_frames::PLACES;
 pub use owner_stream::WINDOW;
 pub use steps::{Again, StreamFault, StreamStep};
 pub use streams::Streams;
-
-#[cfg(test)]
-mod tests;

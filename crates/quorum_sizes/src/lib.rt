@@ -11,6 +11,3 @@ mod sizes;
 pub use name::NodeName;
 pub use node_set::{NodeSet, quorums_meet};
 pub use sizes::{MOST_NODES, SizeFault, Sizes};
-
-#[cfg(test)]
-mod tests;

@@ -41,7 +41,7 @@ impl fmt::Display for SizeFault {
 impl Error for SizeFault {}
 
 /// How many nodes a cluster has and how many of them may lie, fewer than a third.
-#[derive(Clone, Copy, Debug, PartialEq, Eq, Hash)]
+#[derive(Clone, Copy, Debug, PartialEq, Eq)]
 pub struct Sizes {
     nodes: u8,
     liars: u8,

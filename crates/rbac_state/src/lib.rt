@@ -12,6 +12,3 @@ mod sorted;
 
 pub use laws::law_one_more;
 pub use policy::{Permission, Policy};
-
-#[cfg(test)]
-mod tests;

@@ -14,6 +14,3 @@ pub use command::Command;
 pub use items::Items;
 pub use table::{RoleTable, TableFault};
 pub use words::{parse_command, print_command};
-
-#[cfg(test)]
-mod tests;

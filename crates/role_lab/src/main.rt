@@ -40,4 +40,6 @@ fn main(rt: HostRuntime) -> ExitCode {
 #[cfg(test)]
 mod device_tests;
 #[cfg(test)]
+mod layers;
+#[cfg(test)]
 mod tests;

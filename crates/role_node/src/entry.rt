@@ -21,7 +21,7 @@ use std::marker::Model;
 
 /// What is kept of a counted packet and of its reply beside the places and the command. What was sent and delivered is
 /// the packet's command.
-#[derive(Clone, Copy, Debug)]
+#[derive(Clone, Copy)]
 struct Head {
     from: NodeName,
     to: NodeName,
@@ -33,7 +33,7 @@ struct Head {
 }
 
 /// The kind of what was sent, if anything: an `Option<Kind>` in one byte.
-#[derive(Clone, Copy, Debug)]
+#[derive(Clone, Copy)]
 enum Said {
     Nothing,
     Send,
@@ -44,7 +44,7 @@ enum Said {
 /// What is kept of an event and its reply: of the reply only what the event doesn't tell.
 ///
 /// A packet's command stands in it by its parts, so that an entry has 24 bytes and not 32.
-#[derive(Clone, Copy, Debug)]
+#[derive(Clone, Copy)]
 enum Kept {
     /// A packet of this command, and what it caused.
     Assign {
@@ -110,7 +110,7 @@ enum Kept {
 /// An event that a node recorded, and its reply.
 ///
 /// Contracts see both. A history has millions of these, so each keeps of the reply only what the event doesn't tell.
-#[derive(Clone, Copy, Debug)]
+#[derive(Clone, Copy)]
 pub struct Entry {
     kept: Kept,
 }

@@ -8,7 +8,7 @@ use role_commands::Command;
 use role_sessions::ClientEvent;
 
 /// What happens at a node.
-#[derive(Clone, Copy, Debug, PartialEq, Eq, Hash)]
+#[derive(Clone, Copy, Debug, PartialEq, Eq)]
 pub enum Event {
     /// The node publishes a command in its own stream.
     Issue(Command),

@@ -21,6 +21,3 @@ pub use faults::{AskFault, NodeFault};
 pub use node::Node;
 pub use question::{Answer, Question};
 pub use role_sessions::{ClientEvent, Rule, Verdict};
-
-#[cfg(test)]
-mod tests;

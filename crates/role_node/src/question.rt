@@ -7,7 +7,7 @@ use role_commands::Items;
 use role_sessions::Verdict;
 
 /// What can be asked of a node: a decision on an access, or a review of its relations and sessions.
-#[derive(Clone, Copy, Debug, PartialEq, Eq, Hash)]
+#[derive(Clone, Copy, Debug, PartialEq, Eq)]
 pub enum Question {
     /// Whether the user may do the operation on the object in the session.
     Check {

@@ -1,7 +1,7 @@
 //! What clients do.
 
 /// What a client did.
-#[derive(Clone, Copy, Debug, PartialEq, Eq, Hash)]
+#[derive(Clone, Copy, Debug, PartialEq, Eq)]
 pub enum ClientEvent {
     /// A session of this user opened.
     Open { user: u32 },

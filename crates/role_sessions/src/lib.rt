@@ -20,6 +20,3 @@ pub use event::ClientEvent;
 pub use faults::{EndFault, SessionFault};
 pub use sessions::Sessions;
 pub use verdict::{Rule, Verdict};
-
-#[cfg(test)]
-mod tests;

@@ -6,7 +6,7 @@ ghost use Rattle.role_sessions.specs.Decisions.{rule_code};
 use std::fmt;
 
 /// The decision on an access.
-#[derive(Clone, Copy, Debug, PartialEq, Eq, Hash)]
+#[derive(Clone, Copy, Debug, PartialEq, Eq)]
 pub enum Verdict {
     /// The access is allowed in this role, the first in the order of activation that counts and has
     /// the permission.
@@ -16,7 +16,7 @@ pub enum Verdict {
 }
 
 /// Why an access is denied. Written as its code.
-#[derive(Clone, Copy, Debug, PartialEq, Eq, Hash)]
+#[derive(Clone, Copy, Debug, PartialEq, Eq)]
 pub enum Rule {
     /// No session with this id is open.
     NoSession,

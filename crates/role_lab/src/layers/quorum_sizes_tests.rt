@@ -1,6 +1,6 @@
 //! The quorums, sizes that are refused, and sets of nodes.
 
-use super::*;
+use quorum_sizes::*;
 use std::test::Fail;
 
 #[test]

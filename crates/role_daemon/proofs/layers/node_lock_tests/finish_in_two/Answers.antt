@@ -4,7 +4,7 @@ use Rattle.std.proofs.lemmas.List.Elements.{All-nil, All-push}
 use Rattle.atomic_table.specs.Seated.{TableId}
 use Rattle.node_lock.specs.Inboxes.{Passing, IsPassTo}
 use Rattle.node_lock.specs.InboxFaults.{inbox_in, passes_in}
-use Rattle.node_lock.proofs.tests.finish_in_two.Goals as goal
+use Rattle.role_daemon.proofs.layers.node_lock_tests.finish_in_two.Goals as goal
 
 pub finish_at_last-requires : goal.finish_at_last-requires
 finish_at_last-requires g c =

@@ -2,10 +2,10 @@
 
 ghost use Rattle.std.specs.Prelude.{◌≡◌, ◌<◌, IfOk};
 
-use super::*;
 use link_frames::{Kind, Message, Packet, Place};
 use quorum_sizes::{NodeName, Sizes};
 use role_commands::{Command, RoleTable, TableFault};
+use role_node::*;
 use role_sessions::SessionFault;
 use std::alloc::Global;
 use std::process::Abort;

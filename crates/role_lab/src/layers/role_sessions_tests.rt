@@ -1,9 +1,9 @@
 //! Sessions from their opening on, denials in order, and the most of everything.
 
-use super::*;
 use quorum_sizes::{NodeName, Sizes};
 use rbac_state::Policy;
 use role_commands::{Command, RoleTable};
+use role_sessions::*;
 use std::alloc::Global;
 use std::fmt;
 use std::marker::Model;

@@ -1,6 +1,6 @@
 //! Worlds step by step: lies, forgeries, refusals, and memory that is refused.
 
-use super::*;
+use byz_world::*;
 use link_frames::{Kind, LinkFault, Message, Packet};
 use quorum_sizes::{NodeName, NodeSet, Sizes};
 use role_commands::{Command, Items, RoleTable, TableFault};

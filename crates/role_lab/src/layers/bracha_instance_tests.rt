@@ -1,6 +1,6 @@
 //! An instance message by message, and memory that is refused.
 
-use super::*;
+use bracha_instance::*;
 use link_frames::Kind;
 use quorum_sizes::{NodeName, Sizes};
 use role_commands::Command;

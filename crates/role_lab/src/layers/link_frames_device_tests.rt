@@ -1,6 +1,6 @@
 //! Tests of readers and writers that go wrong.
 
-use super::*;
+use link_frames::*;
 use std::alloc::Global;
 use std::io;
 use std::io::{ErrorKind, Read, Write};

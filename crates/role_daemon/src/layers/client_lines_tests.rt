@@ -1,9 +1,8 @@
 //! Lines that a client may send, and answers that it may hear.
 
-use crate::answer::{ClientAnswer, answer_text};
-use crate::fault::LineFault;
-use crate::member::Member;
-use crate::request::{Request, RequestReader, read_request};
+use client_lines::{
+    ClientAnswer, LineFault, Member, Request, RequestReader, answer_text, read_request,
+};
 use quorum_sizes::Sizes;
 use role_commands::{Command, Items};
 use role_node::{ClientEvent, Question, Rule, Verdict};

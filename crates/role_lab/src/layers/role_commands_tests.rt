@@ -1,7 +1,7 @@
 //! Commands in words and in bytes, numbers of words, and tables of roles.
 
-use super::*;
 use quorum_sizes::Sizes;
+use role_commands::*;
 use std::test::Fail;
 
 #[test]

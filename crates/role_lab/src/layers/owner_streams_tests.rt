@@ -2,9 +2,9 @@
 
 ghost use Rattle.std.specs.Prelude.{◌≡◌, ◌<◌, IfOk};
 
-use super::*;
 use bracha_instance::Effect;
 use link_frames::{Kind, Message, Packet, Place};
+use owner_streams::*;
 use quorum_sizes::{NodeName, Sizes};
 use role_commands::Command;
 use std::alloc::Global;

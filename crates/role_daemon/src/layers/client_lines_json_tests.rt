@@ -1,7 +1,7 @@
 //! Client lines at the edge of JSON (RFC 8259), each with the answer that is due.
 
-use super::*;
-use crate::json_tests::Asked::{Open, Stop};
+use crate::layers::client_lines_json_tests::Asked::{Open, Stop};
+use client_lines::*;
 use quorum_sizes::Sizes;
 use role_node::ClientEvent;
 use std::alloc::Global;

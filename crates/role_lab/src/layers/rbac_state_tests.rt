@@ -1,7 +1,7 @@
 //! Commands of owners, and what a policy lists after them.
 
-use super::*;
 use quorum_sizes::Sizes;
+use rbac_state::*;
 use role_commands::{Command, RoleTable};
 use std::alloc::{AllocError, Global};
 use std::fmt;

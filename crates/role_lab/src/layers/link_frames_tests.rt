@@ -2,7 +2,7 @@
 
 ghost use Rattle.std.specs.Prelude.{◌≡◌, ◌<◌, ◌≤◌, IfOk};
 
-use super::*;
+use link_frames::*;
 use quorum_sizes::{NodeName, Sizes};
 use role_commands::Command;
 use std::alloc::Global;

@@ -3,7 +3,7 @@
 ghost use Rattle.std.specs.Prelude.{◌≡◌, ◌<◌, [], All, IfOk, vec_len};
 ghost use Rattle.node_lock.specs.Inboxes.{IsPassTo, IsNewPassTo};
 
-use super::*;
+use node_lock::*;
 use quorum_sizes::{NodeName, Sizes};
 use role_commands::{Command, RoleTable, TableFault};
 use role_node::{Answer, ClientEvent, Config, Event, Node, Question, Reply, Rule, Verdict};

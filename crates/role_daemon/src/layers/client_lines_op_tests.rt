@@ -1,7 +1,7 @@
 //! The operations of client lines: each read, and each of its members absent or out of range.
 
-use super::*;
-use crate::member::Member::{Object, Operation, Owner, Place, Role, Session, User};
+use client_lines::Member::{Object, Operation, Owner, Place, Role, Session, User};
+use client_lines::*;
 use quorum_sizes::Sizes;
 use role_commands::Command;
 use role_node::{ClientEvent, Question};
