@@ -1,0 +1,62 @@
+//! Audits of histories of one node: with the receipts of one seat after another's, with all receipts from the last to
+//! the first, with all in no order, and with one that is not true.
+
+use crate::digest::Digest;
+use crate::history::History;
+use crate::sample::{Sample, part};
+use anyhow::Result;
+use node_lock::{AuditFault, Outcome, Receipt, audit};
+use role_node::{Node, Reply};
+use std::alloc::Global;
+
+/// So many commands, of some nine events each.
+const COMMANDS: u32 = 40_000;
+
+/// Does the job on the input of a seed.
+pub fn run(alloc: Global, seed: u32, share: u32) -> Result<Digest> {
+    let mut sample = Sample::new(seed, 5);
+    let mut digest = Digest::new();
+    for order in 0..6 {
+        let mut history = History::new(alloc, &mut sample, part(COMMANDS, share))?;
+        let mut receipts = history.receipts(alloc)?;
+        match order {
+            3 => receipts.reverse(),
+            4 => shuffle(&mut receipts, &mut sample),
+            5 => forge(&mut receipts),
+            _ => {}
+        }
+        digest.number(u64::from(history.node.events()));
+        digest.number(judged(alloc, &history.node, &receipts)?);
+    }
+    Ok(digest)
+}
+
+/// Puts the receipts into no order.
+fn shuffle(receipts: &mut [Receipt], sample: &mut Sample) {
+    let Ok(count) = u32::try_from(receipts.len()) else {
+        return;
+    };
+    for index in 0..count {
+        let other = sample.below(count);
+        receipts.swap(index as usize, other as usize);
+    }
+}
+
+/// Has a late receipt say something else.
+fn forge(receipts: &mut [Receipt]) {
+    let late = receipts.len() / 8;
+    if let Some(receipt) = receipts.get_mut(late) {
+        receipt.outcome = Outcome::Reply(Reply::Session(1));
+    }
+}
+
+/// What the audit says, as a number.
+fn judged(alloc: Global, node: &Node, receipts: &[Receipt]) -> Result<u64> {
+    match audit(alloc, node, receipts) {
+        Ok(()) => Ok(0),
+        Err(AuditFault::Missing(place)) => Ok(1 << 32 | u64::from(place)),
+        Err(AuditFault::Doubled(place)) => Ok(2 << 32 | u64::from(place)),
+        Err(AuditFault::Differs(place)) => Ok(3 << 32 | u64::from(place)),
+        Err(AuditFault::Memory) => anyhow::bail!("out of memory"),
+    }
+}

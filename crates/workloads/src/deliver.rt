@@ -1,0 +1,237 @@
+//! Commands of four owners on their way to seven nodes as sealed frames, among which come repeats, old frames and forged
+//! tags.
+
+ghost use Rattle.std.specs.Prelude.{◌≡◌, ◌<◌};
+
+use crate::digest::Digest;
+use crate::registry::{config, node};
+use crate::sample::{Sample, part};
+use anyhow::{Context, Result, bail};
+use link_frames::{FRAME_LEN, Frame, Message, Packet, PairKeys, open_frame, seal};
+use quorum_sizes::{NodeName, Sizes};
+use role_commands::Command;
+use role_node::{Event, Node, NodeFault};
+use std::alloc::Global;
+use std::collections::VecDeque;
+
+const NODES: u8 = 7;
+
+const LIARS: u8 = 2;
+
+const OWNERS: u8 = 4;
+
+const ROLES: u16 = 40;
+
+const CLUSTER: u32 = 1;
+
+/// So many commands of each owner.
+const COMMANDS: u32 = 3_000;
+
+/// So many of an owner are on their way at once.
+const FLIGHT: u32 = 8;
+
+/// The byte of a frame that names its receiver.
+const TO_AT: usize = 6;
+
+/// A node with its keys.
+#[derive(Drop)]
+struct Member {
+    node: Node,
+    keys: PairKeys,
+    sizes: Sizes,
+    me: NodeName,
+    ghost sized: { keys.sizes ≡ sizes },
+    ghost own: { keys.me ≡ me },
+}
+
+impl Member {
+    fn new(alloc: Global, index: u8, secret: u32) -> Result<Member> {
+        let sizes = Sizes::new(NODES, LIARS)?;
+        let me = sizes.name(index).context("no node")?;
+        if !sizes.has(me) {
+            bail!("no node");
+        }
+        let mut keys = Vec::new(alloc);
+        for other in 0..NODES {
+            keys.push(key(index, other, secret))?;
+        }
+        Ok(Member {
+            node: node(alloc, config(alloc, NODES, LIARS, OWNERS, ROLES)?, index)?,
+            keys: PairKeys::new(alloc, &sizes, me, &keys)?,
+            sizes,
+            me,
+        })
+    }
+
+    /// Takes a frame. What the node sends then to all.
+    fn take(&mut self, frame: &Frame, digest: &mut Digest) -> Result<Option<Message>> {
+        let Ok(packet) = open_frame(&self.keys, &self.sizes, CLUSTER, frame) else {
+            digest.number(1);
+            return Ok(None);
+        };
+        match self.node.apply(Event::Take(packet)) {
+            Ok(reply) => Ok(reply.message()),
+            Err(NodeFault::Memory) => bail!("out of memory"),
+            Err(_) => {
+                digest.number(2);
+                Ok(None)
+            }
+        }
+    }
+
+    /// The frame of a message to a node.
+    fn frame(&self, to: u8, message: Message) -> Result<Frame> {
+        let to = self.sizes.name(to).context("no node")?;
+        let packet = Packet::new(self.me, to, message).context("no packet")?;
+        if !self.sizes.has(to) {
+            bail!("no node");
+        }
+        Ok(seal(&self.keys, CLUSTER, &packet))
+    }
+}
+
+/// The key that two nodes share.
+fn key(one: u8, other: u8, secret: u32) -> [u8; 32] {
+    let mut key = [0; 32];
+    let [a, b, c, d] = secret.to_be_bytes();
+    key[0] = one.min(other);
+    key[1] = one.max(other);
+    key[2] = a;
+    key[3] = b;
+    key[4] = c;
+    key[5] = d;
+    key
+}
+
+/// The nodes, and the frames on their way.
+#[derive(Drop)]
+struct Net {
+    members: Vec<Member>,
+    frames: VecDeque<Frame>,
+    /// A frame that came some time ago.
+    old: Frame,
+    taken: u32,
+}
+
+impl Net {
+    fn new(alloc: Global, secret: u32) -> Result<Net> {
+        let mut members = Vec::new(alloc);
+        for index in 0..NODES {
+            members.push(Member::new(alloc, index, secret)?)?;
+        }
+        Ok(Net {
+            members,
+            frames: VecDeque::new(alloc),
+            old: [0; FRAME_LEN],
+            taken: 0,
+        })
+    }
+
+    /// Puts the frames of a message of this node on their way.
+    fn send(&mut self, from: usize, message: Message) -> Result<()> {
+        let member = self.members.get(from).context("no node")?;
+        for to in 0..NODES {
+            self.frames.push_back(member.frame(to, message)?)?;
+        }
+        Ok(())
+    }
+
+    /// Gives a frame to its receiver.
+    fn give(&mut self, frame: &Frame, digest: &mut Digest) -> Result<()> {
+        let to = usize::from(frame[TO_AT]);
+        let member = self.members.get_mut(to).context("no node")?;
+        match member.take(frame, digest)? {
+            Some(message) => self.send(to, message),
+            None => Ok(()),
+        }
+    }
+
+    /// Gives all frames that are on their way, and each twentieth once more, an old one, or one with another tag.
+    fn give_all(&mut self, digest: &mut Digest) -> Result<()> {
+        for _ in 0..u64::MAX {
+            let Some(frame) = self.frames.pop_front() else {
+                break;
+            };
+            self.give(&frame, digest)?;
+            self.taken = self.taken.wrapping_add(1);
+            match self.taken % 60 {
+                19 => self.give(&frame, digest)?,
+                39 => {
+                    let mut forged = frame;
+                    forged[FRAME_LEN - 1] ^= 1;
+                    self.give(&forged, digest)?;
+                }
+                59 => {
+                    let old = self.old;
+                    if old[0] != 0 {
+                        self.give(&old, digest)?;
+                    }
+                }
+                _ => {}
+            }
+            if self.taken % 1_021 == 0 {
+                self.old = frame;
+            }
+        }
+        Ok(())
+    }
+
+    /// Has an owner publish a command.
+    fn issue(&mut self, owner: u8, sample: &mut Sample) -> Result<()> {
+        let index = usize::from(owner);
+        let member = self.members.get_mut(index).context("no node")?;
+        let reply = member.node.apply(Event::Issue(command_of(owner, sample)))?;
+        let message = reply.message().context("no message")?;
+        self.send(index, message)
+    }
+}
+
+/// A command about a role of this owner.
+fn command_of(owner: u8, sample: &mut Sample) -> Command {
+    let role = sample
+        .role(ROLES / 4)
+        .wrapping_mul(4)
+        .wrapping_add(u16::from(owner));
+    if sample.below(8) == 0 {
+        return Command::Grant {
+            role,
+            operation: sample.role(16),
+            object: sample.below(100_000),
+        };
+    }
+    Command::Assign {
+        user: sample.below(1_000_000),
+        role,
+    }
+}
+
+/// Does the job on the input of a seed.
+pub fn run(alloc: Global, seed: u32, share: u32) -> Result<Digest> {
+    let mut sample = Sample::new(seed, 2);
+    let mut net = Net::new(alloc, sample.below(u32::MAX))?;
+    let mut digest = Digest::new();
+    for _ in 0..part(COMMANDS / FLIGHT, share) {
+        for _ in 0..FLIGHT {
+            for owner in 0..OWNERS {
+                net.issue(owner, &mut sample)?;
+            }
+        }
+        net.give_all(&mut digest)?;
+    }
+    for member in net.members.iter() {
+        digest.number(u64::from(member.node.events()));
+        for owner in 0..OWNERS {
+            let name = member.sizes.name(owner).context("no node")?;
+            digest.number(u64::from(reach_of(&member.node, name)));
+        }
+    }
+    Ok(digest)
+}
+
+fn reach_of(node: &Node, owner: NodeName) -> u32 {
+    if node.config().roles().sizes().has(owner) {
+        node.reach(owner)
+    } else {
+        0
+    }
+}

@@ -1,0 +1,130 @@
+//! A node of four with a long history, and the receipts of four seats for it.
+
+use crate::registry::{activate, config, node, open};
+use crate::sample::Sample;
+use anyhow::{Context, Result};
+use link_frames::{Kind, Message, Packet};
+use node_lock::{Call, Outcome, Receipt};
+use quorum_sizes::NodeName;
+use role_node::{Event, Node, Question, Reply};
+use std::alloc::Global;
+
+const NODES: u8 = 4;
+
+const ROLES: u16 = 50;
+
+const USERS: u32 = 100_000;
+
+const SEATS: u8 = 4;
+
+/// A node, and for each seat its receipts in the order in which it got them.
+#[derive(Drop)]
+pub struct History {
+    pub node: Node,
+    seats: Vec<Vec<Receipt>>,
+}
+
+impl History {
+    /// The history in which node 0 publishes so many commands, and a client asks now and then.
+    pub fn new(alloc: Global, sample: &mut Sample, commands: u32) -> Result<History> {
+        let mut seats = Vec::new(alloc);
+        for _ in 0..SEATS {
+            seats.push(Vec::new(alloc))?;
+        }
+        let mut history = History {
+            node: node(alloc, config(alloc, NODES, 1, 1, ROLES)?, 1)?,
+            seats,
+        };
+        for place in 0..commands {
+            history.deliver(sample, place)?;
+        }
+        Ok(history)
+    }
+
+    /// The packets of one command at their receiver, of which one repeats another.
+    fn deliver(&mut self, sample: &mut Sample, place: u32) -> Result<()> {
+        let sizes = self.node.config().roles().sizes();
+        let owner = sizes.name(0).context("no node")?;
+        let command = sample.assign(USERS, ROLES);
+        let message = |kind| Message {
+            kind,
+            owner,
+            place,
+            command,
+        };
+        self.take(sample, owner, message(Kind::Send))?;
+        for kind in [Kind::Echo, Kind::Ready] {
+            for index in 0..NODES {
+                let from = sizes.name(index).context("no node")?;
+                self.take(sample, from, message(kind))?;
+            }
+        }
+        if place % 3 == 0 {
+            self.take(sample, owner, message(Kind::Send))?;
+        }
+        if place % 16 == 5 {
+            let user = sample.below(USERS);
+            self.ask(sample, Question::AssignedRoles(user))?;
+        }
+        Ok(())
+    }
+
+    fn take(&mut self, sample: &mut Sample, from: NodeName, message: Message) -> Result<()> {
+        let packet = Packet::new(from, self.node.me(), message).context("no packet")?;
+        self.step(sample, Event::Take(packet))
+    }
+
+    /// A seat applies an event, and keeps its receipt.
+    fn step(&mut self, sample: &mut Sample, event: Event) -> Result<()> {
+        let place = self.node.events();
+        let call = call_of(&event);
+        let outcome = match self.node.apply(event) {
+            Ok(reply) => Outcome::Reply(reply),
+            Err(fault) => Outcome::Refused(fault),
+        };
+        self.keep(sample, place, call, outcome)
+    }
+
+    /// A seat asks, and keeps its receipt.
+    fn ask(&mut self, sample: &mut Sample, question: Question) -> Result<()> {
+        let place = self.node.events();
+        let outcome = Outcome::Answer(self.node.ask(question)?);
+        self.keep(sample, place, Call::Ask(question), outcome)
+    }
+
+    fn keep(
+        &mut self,
+        sample: &mut Sample,
+        place: u32,
+        call: Call,
+        outcome: Outcome,
+    ) -> Result<()> {
+        let number = sample.below(u32::from(SEATS)) as u8;
+        let seat = self.seats.get_mut(usize::from(number)).context("no seat")?;
+        seat.push(Receipt {
+            seat: number,
+            place,
+            call,
+            outcome,
+        })?;
+        Ok(())
+    }
+
+    /// The receipts of one seat after another's.
+    pub fn receipts(&mut self, alloc: Global) -> Result<Vec<Receipt>> {
+        let mut all = Vec::new(alloc);
+        for _ in 0..SEATS {
+            let Some(seat) = self.seats.pop() else {
+                break;
+            };
+            for receipt in seat {
+                all.push(receipt)?;
+            }
+        }
+        Ok(all)
+    }
+}
+
+fn call_of(event: &Event) -> Call {
+    Call::Step(*event)
+}

@@ -1,0 +1,80 @@
+//! The words after the program's name.
+
+use anyhow::{Context, Result, bail};
+
+/// A job that users wait for.
+#[derive(Clone, Copy, Debug, PartialEq, Eq)]
+pub enum Job {
+    /// Checks of accesses, as lines of clients, between commands that arrive.
+    Decide,
+    /// Commands from their owners to all nodes, as frames.
+    Deliver,
+    /// Commands at a policy that is large already.
+    Change,
+    /// Listings of users, roles, permissions and operations, as lines of clients.
+    List,
+    /// Receipts of several seats against the history of their node.
+    Audit,
+    /// Clusters with liars in a laboratory.
+    Simulate,
+}
+
+impl Job {
+    /// All jobs.
+    pub const ALL: [Job; 6] = [
+        Job::Decide,
+        Job::Deliver,
+        Job::Change,
+        Job::List,
+        Job::Audit,
+        Job::Simulate,
+    ];
+
+    /// The word that asks for the job.
+    pub fn name(self) -> &'static str {
+        match self {
+            Job::Decide => "decide",
+            Job::Deliver => "deliver",
+            Job::Change => "change",
+            Job::List => "list",
+            Job::Audit => "audit",
+            Job::Simulate => "simulate",
+        }
+    }
+}
+
+/// What the program is to do.
+#[derive(Drop)]
+pub struct Words {
+    job: String,
+    /// What the input is made from.
+    pub seed: u32,
+    /// The input is of a size that is divided by this.
+    pub share: u32,
+}
+
+impl Words {
+    /// A job or `all`, a seed, and a share, which is 1 where it is left out.
+    ///
+    /// # Errors
+    ///
+    /// There are other words.
+    pub fn read(words: Vec<String>) -> Result<Words> {
+        let mut words = words.into_iter();
+        let job = words.next().context("no job")?;
+        let seed = words.next().context("no seed")?.as_str().parse::<u32>()?;
+        let share = match words.next() {
+            Some(share) => share.as_str().parse::<u32>()?,
+            None => 1,
+        };
+        if share == 0 || words.next().is_some() {
+            bail!("JOB SEED [SHARE]");
+        }
+        Ok(Words { job, seed, share })
+    }
+
+    /// Whether the words ask for this job.
+    pub fn asks_for(&self, job: Job) -> bool {
+        self.job.as_str() == job.name() || self.job.as_str() == "all"
+    }
+}
