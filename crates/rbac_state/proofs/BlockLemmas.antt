@@ -22,7 +22,7 @@ none_begins p (x ∷ xs) none = none.0
 pub drop_later : {X : Type 0} (xs : List X) (i : ℕ) → drop (i + 1) xs ≡ drop i (drop 1 xs)
 drop_later xs i = let e : i + 1 ≡ 1 + i = omega arith in ap (λ k. drop k xs) e ∙ sym (drop-drop i 1 xs)
 
-same_at : {X : Type 0} (xs : List X) (i : ℕ) (c d : X) → i < length xs → get_or (drop i xs) 0 c ≡ get_or xs i d
+pub same_at : {X : Type 0} (xs : List X) (i : ℕ) (c d : X) → i < length xs → get_or (drop i xs) 0 c ≡ get_or xs i d
 same_at xs i c d within =
     let e : i + 0 ≡ i = omega arith in
     get_or-drop i xs 0 c ∙ ap (λ k. get_or xs k c) e ∙ get_or_default xs i c d within

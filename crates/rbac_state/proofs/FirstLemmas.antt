@@ -27,3 +27,8 @@ module _ {X : Type 0} (p : X → Bool) (xs : List X) (i : ℕ) (d : X) (within :
       ∙ ap (λ o. option_or o (find p (drop i xs))) none
       ∙ ap (find p) (drop_more xs i d within)
       ∙ ap (λ b. cond b (Some (get_or xs i d)) (find p (drop (i + 1) xs))) passes
+
+-- none passes
+pub find_never : {X : Type 0} (p : X → Bool) (xs : List X) → ((x : X) → p x ≡ false) → find p xs ≡ None
+find_never p [] never = refl
+find_never p (x ∷ xs) never = rw (never x) (find_never p xs never)

@@ -5,9 +5,10 @@ use Rattle.std.proofs.Common.{get_or, set, take, drop, filter, refl, sym, ap, �
 use Rattle.std.specs.Prelude.{vec_len, vec_capacity}
 use Rattle.std.specs.declared.vec.Vec.{Vec}
 use Rattle.std.specs.List.{AllByRecursion}
+use Rattle.std.proofs.lemmas.List.{take-append-drop}
 use Rattle.std.proofs.lemmas.List.Elements.{filter-append}
 use Rattle.rbac_state.specs.inside.Blocks.{AreBlocks, items_in, has_none, without_empty, tidied}
-use Rattle.rbac_state.proofs.EachLemmas.{each_append}
+use Rattle.rbac_state.proofs.EachLemmas.{each_append, each_first, each_second}
 use Rattle.rbac_state.proofs.BlockLemmas.{around, around_set}
 use Rattle.rbac_state.proofs.PlaceLemmas.{are_blocks_taken, same_tidied}
 
@@ -24,7 +25,7 @@ module _ {X : Type 0} (p : X → Bool) where
   filter_all [] all = refl
   filter_all (x ∷ xs) all = rw (all.0) (ap (λ l. x ∷ l) (filter_all xs all.1))
 
-  filter_twice : (xs : List X) → filter p (filter p xs) ≡ filter p xs
+  pub filter_twice : (xs : List X) → filter p (filter p xs) ≡ filter p xs
   filter_twice xs = filter_all (filter p xs) (passing xs)
 
   filter_three : (xs ys zs : List X) → filter p (xs ++ (ys ++ zs)) ≡ filter p xs ++ (filter p ys ++ filter p zs)
@@ -114,3 +115,64 @@ module _ {X Z : Type 0} (p : X → Bool) where
             subst (AreBlocks room) (sym is)
             (are_blocks_taken bs i b y at within capacity shrinks room (kept.room room are));
       }
+
+  each_passing : (bs : List (Vec X Z)) → AllByRecursion (λ x. p x ≡ true) (items_in bs) → AllByRecursion Passes bs
+  each_passing [] each = tt
+  each_passing (b ∷ bs) each = (
+    each_first (λ x. p x ≡ true) b.items (items_in bs) each,
+    each_passing bs (each_second (λ x. p x ≡ true) b.items (items_in bs) each),
+  )
+
+  front_without : (bs : List (Vec X Z)) (i s : ℕ) (y : Vec X Z) → s ≤ i → AllByRecursion Passes (take s bs) →
+      AllByRecursion Passes (take s (without_empty i (set bs i y)))
+  front_without bs i zero y within each = tt
+  front_without [] zero (suc s) y within each = absurd (omega arith)
+  front_without [] (suc i) (suc s) y within each = tt
+  front_without (b ∷ bs) zero (suc s) y within each = absurd (omega arith)
+  front_without (b ∷ bs) (suc i) (suc s) y within each = (each.0, front_without bs i s y (omega arith) each.1)
+
+  front_tidied : (bs : List (Vec X Z)) (i s : ℕ) (y : Vec X Z) → s ≤ i → AllByRecursion Passes (take s bs) →
+      AllByRecursion Passes (take s (tidied i (set bs i y)))
+  front_tidied bs i zero y within each = tt
+  front_tidied [] zero (suc s) y within each = absurd (omega arith)
+  front_tidied [] (suc i) (suc s) y within each = tt
+  front_tidied (b ∷ bs) zero (suc s) y within each = absurd (omega arith)
+  front_tidied (b ∷ bs) (suc i) (suc s) y within each = (each.0, front_without bs i s y (omega arith) each.1)
+
+  -- the same, where all before the start pass
+  pub record IsKeptBetween (start place : ℕ) (old new : List (Vec X Z)) : Type 0 where
+    pub kept : IsKeptFrom place old new
+    pub onward : start ≤ place
+    pub front : AllByRecursion (λ b. AllByRecursion (λ x. p x ≡ true) b.items) (take start new)
+
+  pub kept_between_first : (start end : ℕ) (bs : List (Vec X Z)) → start ≤ end → end ≤ length bs →
+      AllByRecursion (λ x. p x ≡ true) (items_in (take start bs)) →
+      AllByRecursion (λ x. p x ≡ true) (items_in (drop end bs)) → IsKeptBetween start end bs bs
+  kept_between_first start end bs onward fits before after = record {
+    kept = record { fits = fits; same = refl; passes = each_passing (drop end bs) after; room = λ room are. are };
+    onward = onward;
+    front = each_passing (take start bs) before;
+  }
+
+  pub kept_between_all : (start place : ℕ) (old new : List (Vec X Z)) → place ≤ start →
+      IsKeptBetween start place old new → items_in new ≡ filter p (items_in old)
+  kept_between_all start place old new done between =
+      let onward = between.onward in
+      let e : place ≡ start = omega arith in
+      let back : AllByRecursion Passes (drop start new) =
+      subst (λ k. AllByRecursion Passes (drop k new)) e between.kept.passes in
+      let all : AllByRecursion Passes new =
+      subst (AllByRecursion Passes) (take-append-drop start new)
+      (each_append Passes (take start new) (drop start new) between.front back) in
+      sym (filter_all p (items_in new) (all_passing new all)) ∙ between.kept.same
+
+  pub kept_between_more : (start : ℕ) (old bs new : List (Vec X Z)) (place i : ℕ) (b y : Vec X Z) →
+      IsKeptBetween start place old bs → start < place → i ≡ place - 1 → b ≡ get_or bs i b →
+      y.items ≡ filter p b.items → vec_len y ≤ vec_len b → vec_capacity b ≤ vec_capacity y → new ≡ tidied i (set bs i y) →
+      IsKeptBetween start i old new
+  kept_between_more start old bs new place i b y between some less at items shrinks capacity is = record {
+    kept = kept_more old bs new place i b y between.kept (omega arith) less at items shrinks capacity is;
+    onward = omega arith;
+    front = subst (λ l. AllByRecursion Passes (take start l)) (sym is)
+        (front_tidied bs i start y (omega arith) between.front);
+  }

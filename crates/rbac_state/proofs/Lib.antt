@@ -5,11 +5,14 @@ pub mod SortedLemmas
 pub mod RangeLemmas
 pub mod EachLemmas
 pub mod BlockLemmas
+pub mod RunLemmas
 pub mod PlaceLemmas
 pub mod SplitLemmas
 pub mod KeepLemmas
 pub mod RelationLemmas
+pub mod TurnedLemmas
 pub mod FirstLemmas
+pub mod FoundLemmas
 pub mod StreamLemmas
 pub mod PolicyLaws
 pub mod ApplyLemmas

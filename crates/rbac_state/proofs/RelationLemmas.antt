@@ -35,7 +35,7 @@ last_true : (a b : Bool) → (a && b) ≡ true → b ≡ true
 last_true true b e = e
 last_true false b e = cc
 
-first_true : (a b : Bool) → (a && b) ≡ true → a ≡ true
+pub first_true : (a b : Bool) → (a && b) ≡ true → a ≡ true
 first_true true b e = refl
 first_true false b e = cc
 
@@ -94,29 +94,22 @@ module _ {A B : Type 0} (R : A → A → Ordering) {S : B → B → Ordering} (o
       (λ p e. alike b second p.0 (first_true _ _ (sym (pair_tied (S b p.0) (R a p.1)) ∙ e))) ps
 
   -- a relation without the pairs of a second
-  module _ (old new : Relation A B) (second : B)
-      (by_first : (items_in new.by_first.items) ≡ filter (λ p. not (eq_by_cmp S p.1 second)) (items_in
-      old.by_first.items)) where
-    pub relates_others : (a : A) (b : B) → relates R S new a b ≡ (not (eq_by_cmp S b second) && relates R S old a b)
-    relates_others a b =
-        ap (λ l. is_among (pair_cmp R S) l (a, b)) by_first ∙ among_others second (items_in old.by_first.items) a b
-
-    pub kept_without : (items_in new.by_second.items) ≡ filter (λ p. not (eq_by_cmp S p.0 second)) (items_in
-        old.by_second.items)
-        → IsKeptBothWays R S old → AreBlocks new.room new.by_first.items → AreBlocks new.room new.by_second.items
-        → IsKeptBothWays R S new
-    kept_without by_second kept first_blocks second_blocks = record {
-      first_blocks = first_blocks;
-      second_blocks = second_blocks;
-      by_first = subst (IsStrictlySortedBy (pair_cmp R S)) (sym by_first)
-          (IsStrictlySortedBy-filter (pair_cmp R S) _ _ kept.by_first);
-      by_second = subst (IsStrictlySortedBy (pair_cmp S R)) (sym by_second)
-          (IsStrictlySortedBy-filter (pair_cmp S R) _ _ kept.by_second);
-      same = λ a b.
-          ap (λ l. is_among (pair_cmp S R) l (b, a)) by_second ∙ among_turned_others second (items_in
-          old.by_second.items) a b
-          ∙ ap (λ x. not (eq_by_cmp S b second) && x) (kept.same a b) ∙ sym (relates_others a b);
-    }
+  pub kept_without : (old new : Relation A B) (second : B) → IsKeptBothWays R S old →
+      IsStrictlySortedBy (pair_cmp R S) (items_in new.by_first.items) →
+      ((a : A) (b : B) → relates R S new a b ≡ (not (eq_by_cmp S b second) && relates R S old a b)) →
+      (items_in new.by_second.items) ≡ filter (λ p. not (eq_by_cmp S p.0 second)) (items_in old.by_second.items) →
+      AreBlocks new.room new.by_first.items → AreBlocks new.room new.by_second.items → IsKeptBothWays R S new
+  kept_without old new second kept up members by_second first_blocks second_blocks = record {
+    first_blocks = first_blocks;
+    second_blocks = second_blocks;
+    by_first = up;
+    by_second = subst (IsStrictlySortedBy (pair_cmp S R)) (sym by_second)
+        (IsStrictlySortedBy-filter (pair_cmp S R) _ _ kept.by_second);
+    same = λ a b.
+        ap (λ l. is_among (pair_cmp S R) l (b, a)) by_second ∙ among_turned_others second (items_in
+        old.by_second.items) a b
+        ∙ ap (λ x. not (eq_by_cmp S b second) && x) (kept.same a b) ∙ sym (members a b);
+  }
 
 module _ {A B : Type 0} {R : A → A → Ordering} {S : B → B → Ordering} (o : IsTotalOrder R) (ob : IsTotalOrder S)
     (exact : CmpEqualImpliesEq R) (exact_second : CmpEqualImpliesEq S) where

@@ -69,7 +69,7 @@ fn place_of<T: Ord>(blocks: &[Vec<T>], item: &T) -> usize
 }
 
 /// All but the first.
-fn later<T>(blocks: &[Vec<T>]) -> &[Vec<T>]
+pub fn later<T>(blocks: &[Vec<T>]) -> &[Vec<T>]
     ensures { result.now ≡ drop 1 blocks.now }
 {
     &blocks[blocks.len().min(1)..]
@@ -86,7 +86,7 @@ fn begins_by<T: Ord>(block: &[T], item: &T) -> bool
 }
 
 /// Drops the block at this place, where it is empty and not the first.
-fn drop_if_empty<T: Drop>(blocks: &mut Vec<Vec<T>>, place: usize)
+pub fn drop_if_empty<T: Drop>(blocks: &mut Vec<Vec<T>>, place: usize)
     requires { place < vec_len blocks.old }
     ensures { blocks.new.items ≡ tidied place blocks.old.items }
 {
@@ -191,21 +191,6 @@ pub fn take_away_second<A: Drop, B: Ord + Copy + Drop>(blocks: &mut Vec<Vec<(A, 
     while place > 0 {
         place -= 1;
         sorted::take_away_second(&mut blocks[place], second);
-        drop_if_empty(blocks, place);
-    }
-}
-
-/// Takes away all pairs of this first. It takes no memory.
-pub fn take_away_first<A: Ord + Copy + Drop, B: Drop>(blocks: &mut Vec<Vec<(A, B)>>, first: A)
-    requires { AreBlocks 0 blocks.old.items }
-    ensures items { items_in blocks.new.items
-        ≡ filter (λ p. not (eq_by_cmp A.cmp p.0 first)) (items_in blocks.old.items) }
-    ensures room { (room : ℕ) → AreBlocks room blocks.old.items → AreBlocks room blocks.new.items }
-{
-    let mut place = blocks.len();
-    while place > 0 {
-        place -= 1;
-        sorted::take_away_first(&mut blocks[place], first);
         drop_if_empty(blocks, place);
     }
 }

@@ -7,6 +7,7 @@ pub mod laws;
 mod listing;
 mod policy;
 mod relation;
+mod run;
 mod select;
 mod sorted;
 

@@ -4,8 +4,10 @@ ghost use Rattle.std.specs.Prelude.{◌≡◌, ◌<◌, ◌≤◌, ◌+◌, ◌*
 ghost use Rattle.std.specs.Ordering.{eq_by_cmp};
 ghost use Rattle.rbac_state.specs.inside.Blocks.{block_size, items_in};
 ghost use Rattle.rbac_state.specs.inside.Relations.{IsKeptBothWays, SamePairs, relates, room_of};
+ghost use Rattle.rbac_state.specs.inside.Runs.{AreAlike};
 
 use crate::blocks;
+use crate::run::{self, Alike};
 use std::alloc::{AllocError, Global};
 use std::cmp::Ord;
 
@@ -111,8 +113,8 @@ impl<A: Ord + Copy + Drop, B: Ord + Copy + Drop> Relation<A, B> {
             ≡ (not (eq_by_cmp B.cmp b second) && relates A.cmp B.cmp self.old a b) }
         ensures room { room_of self.old ≤ room_of self.new }
     {
-        blocks::take_away_second(&mut self.by_first, second);
-        blocks::take_away_first(&mut self.by_second, second);
+        run::take_away_second(&mut self.by_first, &self.by_second, second);
+        run::take_away_first(&mut self.by_second, second);
     }
 
     /// Whether the pair is in the relation.
@@ -121,6 +123,14 @@ impl<A: Ord + Copy + Drop, B: Ord + Copy + Drop> Relation<A, B> {
         ensures { result ≡ relates A.cmp B.cmp self.now first second }
     {
         blocks::has(&self.by_first, &(first, second))
+    }
+
+    /// Where the pairs of this first lie.
+    pub fn of_first(&self, first: A) -> Alike<'_, A, B>
+        requires { IsKeptBothWays A.cmp B.cmp self.now }
+        ensures { AreAlike A.cmp B.cmp first (items_in self.now.by_first.items) result }
+    {
+        Alike::find(&self.by_first, &first)
     }
 
     /// The blocks of the pairs, in ascending order, in which those of this first lie.

@@ -1,8 +1,8 @@
 //! What the review functions look for, in the order in which it is kept.
 
-ghost use Rattle.std.specs.Prelude.{◌≡◌, ◌==◌, ◌&&◌, ◌++◌, map, filter, find, IfOk, OnOk};
+ghost use Rattle.std.specs.Prelude.{◌≡◌, ◌<◌, ◌==◌, ◌&&◌, ◌++◌, length, drop, map, filter, find, IfOk, OnOk};
 ghost use Rattle.std.specs.Ordering.{eq_by_cmp, nat_cmp};
-ghost use Rattle.std.specs.List.{flat_map};
+ghost use Rattle.std.specs.List.{AllByRecursion, flat_map};
 ghost use Rattle.std.specs.List.Sorted.{IsStrictlySortedBy};
 ghost use Rattle.rbac_state.specs.Policies.{permission_cmp};
 ghost use Rattle.rbac_state.specs.inside.Blocks.{items_in};
@@ -10,6 +10,7 @@ ghost use Rattle.rbac_state.specs.inside.Relations.{IsKeptBothWays, pair_cmp, re
 
 use crate::policy::Permission;
 use crate::relation::Relation;
+use crate::run::run_of;
 use crate::sorted;
 use std::alloc::{AllocError, Global};
 use std::cmp::Ord;
@@ -20,7 +21,8 @@ pub fn seconds<A: Ord + Copy + Drop, B: Ord + Copy + Drop>(
     blocks: &[Vec<(A, B)>],
     first: A,
 ) -> Result<Vec<B>, AllocError>
-    requires { IsStrictlySortedBy (pair_cmp A.cmp B.cmp) (items_in blocks.now) }
+    requires ascending { IsStrictlySortedBy (pair_cmp A.cmp B.cmp) (items_in blocks.now) }
+    requires filled { AllByRecursion (λ b. 0 < length b.items) (drop 1 blocks.now) }
     ensures { IfOk result (λ seconds. seconds.items
         ≡ map (λ p. p.1) (filter (λ p. eq_by_cmp A.cmp first p.0) (items_in blocks.now))) }
 {
@@ -35,11 +37,13 @@ fn add_seconds<A: Ord + Copy + Drop, B: Ord + Copy + Drop>(
     blocks: &[Vec<(A, B)>],
     first: A,
 ) -> Result<(), AllocError>
-    requires { IsStrictlySortedBy (pair_cmp A.cmp B.cmp) (items_in blocks.now) }
+    requires ascending { IsStrictlySortedBy (pair_cmp A.cmp B.cmp) (items_in blocks.now) }
+    requires filled { AllByRecursion (λ b. 0 < length b.items) (drop 1 blocks.now) }
     ensures { OnOk result (seconds.new.items ≡ seconds.old.items
         ++ map (λ p. p.1) (filter (λ p. eq_by_cmp A.cmp first p.0) (items_in blocks.now))) }
 {
-    for block in blocks {
+    let alike = run_of(blocks, &first);
+    for block in alike {
         add_each_second(seconds, sorted::beginning_with(block, &first))?;
     }
     Ok(())
@@ -101,11 +105,13 @@ fn add_operations(
     role: u16,
     object: u32,
 ) -> Result<(), AllocError>
-    requires { IsStrictlySortedBy (pair_cmp nat_cmp permission_cmp) (items_in blocks.now) }
+    requires ascending { IsStrictlySortedBy (pair_cmp nat_cmp permission_cmp) (items_in blocks.now) }
+    requires filled { AllByRecursion (λ b. 0 < length b.items) (drop 1 blocks.now) }
     ensures { OnOk result (operations.new.items ≡ operations.old.items ++ map (λ g. g.1.0)
         (filter (λ g. g.1.1 == object) (filter (λ g. eq_by_cmp nat_cmp role g.0) (items_in blocks.now)))) }
 {
-    for block in blocks {
+    let alike = run_of(blocks, &role);
+    for block in alike {
         add_each_operation(operations, sorted::beginning_with(block, &role), object)?;
     }
     Ok(())
@@ -140,8 +146,13 @@ pub fn first_granting(
     ensures { result ≡ find (λ role. relates nat_cmp nat_cmp assigned.now user role
         && relates permission_cmp nat_cmp granted.now permission role) roles.now }
 {
+    let grants = granted.of_first(permission);
+    if grants.is_empty() {
+        return None;
+    }
+    let assignments = assigned.of_first(user);
     for role in roles {
-        if granted.has(permission, *role) && assigned.has(user, *role) {
+        if grants.has(&(permission, *role)) && assignments.has(&(user, *role)) {
             return Some(*role);
         }
     }

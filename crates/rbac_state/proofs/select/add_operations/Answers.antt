@@ -9,5 +9,5 @@ use Rattle.rbac_state.proofs.select.add_operations.Goals as goal
 pub beginning_with-requires : goal.beginning_with-requires
 beginning_with-requires c =
     subst (IsStrictlySortedBy (pair_cmp nat_cmp permission_cmp)) (sym c.deref.ensures.value)
-    (block_ascends (λ b. b.items) c.args.blocks.now c.loop-block.block-index c.block-item.result c.block-item.is
-    c.loop-block-test.true (pair_cmp nat_cmp permission_cmp) c.requires)
+    (block_ascends (λ b. b.items) c.run_of-alike.result.now c.loop-block.block-index c.block-item.result c.block-item.is
+    c.loop-block-test.true (pair_cmp nat_cmp permission_cmp) c.run_of-alike.ensures.ascending)

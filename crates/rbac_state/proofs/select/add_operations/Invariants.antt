@@ -8,4 +8,4 @@ invariant-loop-block l =
     l.operations.items
     ≡ l.initial.operations.items
     ++ map (λ g. g.1.0) (filter (λ g. g.1.1 == l.object)
-    (filter (λ g. eq_by_cmp nat_cmp l.role g.0) (items_in (take l.block-index l.blocks))))
+    (filter (λ g. eq_by_cmp nat_cmp l.role g.0) (items_in (take l.block-index l.alike))))

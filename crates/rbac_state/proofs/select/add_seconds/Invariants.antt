@@ -7,4 +7,4 @@ abbrev pub invariant-loop-block : goal.invariant-loop-block
 invariant-loop-block g l =
     l.seconds.items
     ≡ l.initial.seconds.items
-    ++ map (λ p. p.1) (filter (λ p. eq_by_cmp g.A.Ord.cmp l.first p.0) (items_in (take l.block-index l.blocks)))
+    ++ map (λ p. p.1) (filter (λ p. eq_by_cmp g.A.Ord.cmp l.first p.0) (items_in (take l.block-index l.alike)))

@@ -1,18 +1,10 @@
-use Rattle.rbac_state.proofs.RelationLemmas.{kept_without, relates_others}
+use Rattle.rbac_state.proofs.RelationLemmas.{kept_without}
 use Rattle.rbac_state.proofs.relation.Relation.take_away_second.Goals as goal
 
 pub returns-clause-kept : goal.returns-clause-kept
 returns-clause-kept g c =
-    kept_without g.A.Ord.cmp g.met.B.Ord.total c.args.self.now _ c.args.second c.take_away_second.ensures.items
-    c.take_away_first.ensures.items c.requires
+    kept_without g.A.Ord.cmp g.met.B.Ord.total c.args.self.now _ c.args.second c.requires
+    c.take_away_second.ensures.ascending c.take_away_second.ensures.members
+    c.take_away_first.ensures.items
     (c.take_away_second.ensures.room c.args.self.now.room c.requires.first_blocks)
     (c.take_away_first.ensures.room c.args.self.now.room c.requires.second_blocks)
-
-pub returns-clause-members : goal.returns-clause-members
-returns-clause-members g c =
-    relates_others g.A.Ord.cmp g.met.B.Ord.total c.args.self.now
-    (record {
-      by_first = c.take_away_second.new.blocks;
-      by_second = c.take_away_first.new.blocks;
-      room = c.args.self.now.room;
-    }) c.args.second c.take_away_second.ensures.items

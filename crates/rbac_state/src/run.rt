@@ -1,0 +1,215 @@
+//! The pairs of one first, which lie together in a list of pairs in blocks.
+
+ghost use Rattle.std.specs.Prelude.{◌≡◌, ◌≤◌, ◌<◌, [], ℕ, ◌&&◌, not, length, take, drop, filter, IsTrue};
+ghost use Rattle.std.specs.List.{AllByRecursion};
+ghost use Rattle.std.specs.List.Sorted.{IsStrictlySortedBy};
+ghost use Rattle.std.specs.Ordering.{eq_by_cmp, is_le, is_lt};
+ghost use Rattle.std.specs.declared.cmp.Ordering.TheVariants.{Less};
+ghost use Rattle.rbac_state.specs.inside.Blocks.{AreBlocks, items_in, begins};
+ghost use Rattle.rbac_state.specs.inside.Relations.{pair_cmp};
+ghost use Rattle.rbac_state.specs.inside.Relations.{is_among};
+ghost use Rattle.rbac_state.specs.inside.Runs.{AreAlike, IsFilled, pairs_in};
+
+use crate::blocks::{self, drop_if_empty, later};
+use crate::sorted;
+use std::cmp::Ord;
+
+/// Where the pairs of one first lie: in a part of one block, which has no others, or in blocks behind one another,
+/// which may begin and end with others.
+#[derive(Clone, Copy)]
+pub enum Alike<'a, A, B> {
+    Part(&'a [(A, B)]),
+    Blocks(&'a [Vec<(A, B)>]),
+}
+
+impl<'a, A: Ord + Copy, B: Ord + Copy> Alike<'a, A, B> {
+    /// Where the pairs of this first lie.
+    pub fn find(blocks: &'a [Vec<(A, B)>], first: &A) -> Alike<'a, A, B>
+        requires ascending { IsStrictlySortedBy (pair_cmp A.cmp B.cmp) (items_in blocks.now) }
+        requires filled { AllByRecursion (λ b. 0 < length b.items) (drop 1 blocks.now) }
+        ensures { AreAlike A.cmp B.cmp first.now (items_in blocks.now) result }
+    {
+        match run_of(blocks, first) {
+            [block] => Alike::Part(sorted::beginning_with(block, first)),
+            alike => Alike::Blocks(alike),
+        }
+    }
+
+    /// Whether it is plain that there is none.
+    pub fn is_empty(&self) -> bool
+        ensures { IsTrue result → pairs_in self.now ≡ [] }
+    {
+        match self {
+            Alike::Part(pairs) => pairs.is_empty(),
+            Alike::Blocks(_) => false,
+        }
+    }
+
+    /// Whether the pair is there.
+    pub fn has(&self, pair: &(A, B)) -> bool
+        requires ascending { IsStrictlySortedBy (pair_cmp A.cmp B.cmp) (pairs_in self.now) }
+        requires filled { IsFilled self.now }
+        ensures { result ≡ is_among (pair_cmp A.cmp B.cmp) (pairs_in self.now) pair.now }
+    {
+        match self {
+            Alike::Part(pairs) => sorted::has(pairs, pair),
+            Alike::Blocks(blocks) => blocks::has(blocks, pair),
+        }
+    }
+}
+
+/// The blocks in which the pairs of this first lie, which others may begin and end.
+pub fn run_of<'a, A: Ord, B: Ord>(blocks: &'a [Vec<(A, B)>], first: &A) -> &'a [Vec<(A, B)>]
+    requires ascending { IsStrictlySortedBy (pair_cmp A.cmp B.cmp) (items_in blocks.now) }
+    requires filled { AllByRecursion (λ b. 0 < length b.items) (drop 1 blocks.now) }
+    ensures same { filter (λ p. eq_by_cmp A.cmp first.now p.0) (items_in result.now)
+        ≡ filter (λ p. eq_by_cmp A.cmp first.now p.0) (items_in blocks.now) }
+    ensures ascending { IsStrictlySortedBy (pair_cmp A.cmp B.cmp) (items_in result.now) }
+    ensures filled { AllByRecursion (λ b. 0 < length b.items) (drop 1 result.now) }
+{
+    let start = start_of(blocks, first);
+    let end = end_of(blocks, first, start);
+    &blocks[start..end]
+}
+
+/// The place of the first block in which pairs of this first may lie: all before it are of a lower first.
+pub fn start_of<A: Ord, B: Ord>(blocks: &[Vec<(A, B)>], first: &A) -> usize
+    requires ascending { IsStrictlySortedBy (pair_cmp A.cmp B.cmp) (items_in blocks.now) }
+    requires filled { AllByRecursion (λ b. 0 < length b.items) (drop 1 blocks.now) }
+    ensures within { result ≤ length blocks.now }
+    ensures below { AllByRecursion (λ p. A.cmp p.0 first.now ≡ Less) (items_in (take result blocks.now)) }
+{
+    later(blocks).partition_point(|block| begins_before(block, first))
+}
+
+/// The place behind the last block in which pairs of this first may lie, from this place on: all behind it are of a
+/// higher first.
+pub fn end_of<A: Ord, B: Ord>(blocks: &[Vec<(A, B)>], first: &A, start: usize) -> usize
+    requires ascending { IsStrictlySortedBy (pair_cmp A.cmp B.cmp) (items_in blocks.now) }
+    requires filled { AllByRecursion (λ b. 0 < length b.items) (drop 1 blocks.now) }
+    requires within { start ≤ length blocks.now }
+    ensures onward { start ≤ result }
+    ensures within { result ≤ length blocks.now }
+    ensures above { AllByRecursion (λ p. A.cmp first.now p.0 ≡ Less) (items_in (drop result blocks.now)) }
+{
+    if start == blocks.len() {
+        return start;
+    }
+    let mut end = start + 1;
+    while end < blocks.len() && begins_upto(&blocks[end], first) {
+        end += 1;
+    }
+    end
+}
+
+/// How many pairs of this first there are.
+fn count<A: Ord, B: Ord>(run: &[Vec<(A, B)>], first: &A) -> usize
+    requires { IsStrictlySortedBy (pair_cmp A.cmp B.cmp) (items_in run.now) }
+{
+    let mut count = 0usize;
+    for block in run {
+        count = count.saturating_add(sorted::beginning_with(block, first).len());
+    }
+    count
+}
+
+/// Takes away all pairs of this first. It takes no memory.
+pub fn take_away_first<A: Ord + Copy + Drop, B: Ord + Drop>(blocks: &mut Vec<Vec<(A, B)>>, first: A)
+    requires blocks { AreBlocks 0 blocks.old.items }
+    requires ascending { IsStrictlySortedBy (pair_cmp A.cmp B.cmp) (items_in blocks.old.items) }
+    ensures items { items_in blocks.new.items
+        ≡ filter (λ p. not (eq_by_cmp A.cmp p.0 first)) (items_in blocks.old.items) }
+    ensures room { (room : ℕ) → AreBlocks room blocks.old.items → AreBlocks room blocks.new.items }
+{
+    let start = start_of(blocks, &first);
+    let mut place = end_of(blocks, &first, start);
+    while place > start {
+        place -= 1;
+        sorted::take_away_first(&mut blocks[place], first);
+        drop_if_empty(blocks, place);
+    }
+}
+
+/// Takes away all pairs of this second: each by a search where they are few beside the blocks, and else in one pass.
+/// The other list has the same pairs turned. It takes no memory.
+pub fn take_away_second<A: Ord + Copy + Drop, B: Ord + Copy + Drop>(
+    blocks: &mut Vec<Vec<(A, B)>>,
+    turned: &[Vec<(B, A)>],
+    second: B,
+)
+    requires blocks { AreBlocks 0 blocks.old.items }
+    requires ascending { IsStrictlySortedBy (pair_cmp A.cmp B.cmp) (items_in blocks.old.items) }
+    requires turned { IsStrictlySortedBy (pair_cmp B.cmp A.cmp) (items_in turned.now) }
+    requires filled { AllByRecursion (λ b. 0 < length b.items) (drop 1 turned.now) }
+    requires same { (a : A) (b : B) → is_among (pair_cmp B.cmp A.cmp) (items_in turned.now) (b, a)
+        ≡ is_among (pair_cmp A.cmp B.cmp) (items_in blocks.old.items) (a, b) }
+    ensures ascending { IsStrictlySortedBy (pair_cmp A.cmp B.cmp) (items_in blocks.new.items) }
+    ensures members { (a : A) (b : B) → is_among (pair_cmp A.cmp B.cmp) (items_in blocks.new.items) (a, b)
+        ≡ (not (eq_by_cmp B.cmp b second) && is_among (pair_cmp A.cmp B.cmp) (items_in blocks.old.items) (a, b)) }
+    ensures room { (room : ℕ) → AreBlocks room blocks.old.items → AreBlocks room blocks.new.items }
+{
+    let run = run_of(turned, &second);
+    if count(run, &second) <= blocks.len() {
+        take_away_turned(blocks, run, second);
+    } else {
+        blocks::take_away_second(blocks, second);
+    }
+}
+
+/// Takes away the pairs of this first, turned, from a list of pairs in blocks. It takes no memory.
+fn take_away_turned<A: Ord + Copy + Drop, B: Ord + Copy + Drop>(
+    blocks: &mut Vec<Vec<(A, B)>>,
+    run: &[Vec<(B, A)>],
+    first: B,
+)
+    requires turned { IsStrictlySortedBy (pair_cmp B.cmp A.cmp) (items_in run.now) }
+    requires blocks { AreBlocks 0 blocks.old.items }
+    requires ascending { IsStrictlySortedBy (pair_cmp A.cmp B.cmp) (items_in blocks.old.items) }
+    ensures ascending { IsStrictlySortedBy (pair_cmp A.cmp B.cmp) (items_in blocks.new.items) }
+    ensures members { (q : A × B) → is_among (pair_cmp A.cmp B.cmp) (items_in blocks.new.items) q
+        ≡ (not (is_among (pair_cmp B.cmp A.cmp) (filter (λ p. eq_by_cmp B.cmp first p.0) (items_in run.now)) (q.1, q.0))
+        && is_among (pair_cmp A.cmp B.cmp) (items_in blocks.old.items) q) }
+    ensures room { (room : ℕ) → AreBlocks room blocks.old.items → AreBlocks room blocks.new.items }
+{
+    for block in run {
+        take_away_each(blocks, sorted::beginning_with(block, &first));
+    }
+}
+
+/// Takes away each of these pairs, turned.
+fn take_away_each<A: Ord + Copy + Drop, B: Ord + Copy + Drop>(
+    blocks: &mut Vec<Vec<(A, B)>>,
+    pairs: &[(B, A)],
+)
+    requires blocks { AreBlocks 0 blocks.old.items }
+    requires ascending { IsStrictlySortedBy (pair_cmp A.cmp B.cmp) (items_in blocks.old.items) }
+    ensures ascending { IsStrictlySortedBy (pair_cmp A.cmp B.cmp) (items_in blocks.new.items) }
+    ensures members { (q : A × B) → is_among (pair_cmp A.cmp B.cmp) (items_in blocks.new.items) q
+        ≡ (not (is_among (pair_cmp B.cmp A.cmp) pairs.now (q.1, q.0))
+        && is_among (pair_cmp A.cmp B.cmp) (items_in blocks.old.items) q) }
+    ensures room { (room : ℕ) → AreBlocks room blocks.old.items → AreBlocks room blocks.new.items }
+{
+    for (second, first) in pairs {
+        blocks::take_away(blocks, &(*first, *second));
+    }
+}
+
+/// Whether the block begins with a pair of a lower first.
+fn begins_before<A: Ord, B>(block: &[(A, B)], first: &A) -> bool
+    ensures { result ≡ begins (λ p. is_lt (A.cmp p.0 first.now)) block.now }
+{
+    match block.first() {
+        Some(pair) => pair.0.cmp(first).is_lt(),
+        None => false,
+    }
+}
+
+/// Whether the block begins with a pair of this first or of a lower one.
+fn begins_upto<A: Ord, B>(block: &[(A, B)], first: &A) -> bool
+    ensures { result ≡ begins (λ p. is_le (A.cmp p.0 first.now)) block.now }
+{
+    match block.first() {
+        Some(pair) => pair.0.cmp(first).is_le(),
+        None => false,
+    }
+}
