@@ -29,7 +29,8 @@ use Rattle.byz_world.specs.declared.step.Step.TheVariants.{Give}
 use Rattle.byz_world.proofs.Elements.{contained, number_of}
 use Rattle.byz_world.proofs.Ordered.{times, times-append, times-own}
 use Rattle.byz_world.proofs.Pooled.{name_at}
-use Rattle.byz_world.proofs.Progress.{nothing_is_stuck, some_within}
+use Rattle.byz_world.proofs.Progress.{nothing_is_stuck, rest_is_stuck, some_within}
+use Rattle.byz_world.specs.Resting.{IsAtRest}
 use Rattle.byz_world.proofs.Prolonging.{total, total_most, total_more, prolonged_is_run}
 use Rattle.byz_world.proofs.Prolonging.{first_given, rest_given}
 use Rattle.byz_world.proofs.Pushing.{history_of-own, history_of-other}
@@ -189,6 +190,30 @@ none_added w (n ∷ numbers) short j k at =
 
 pub pass_prolongs : (w : WorldValue) → IsProlonged w (after_pass w)
 pass_prolongs w = gives_prolong w (range_with_len 0 (length (pool w.config w.run)))
+
+-- where no packet of the pool counts, a pass leaves the world
+prolonged_stuck : (w : WorldValue) (more : Run) → IsStuck w.config w.liars w.run →
+    IsProlongation w.config w.liars w.run more → more ≡ []
+prolonged_stuck w [] stuck is = refl
+prolonged_stuck w (pair ∷ more) stuck is =
+    let one = is 0 pair refl in
+    let P : Run → Type 0 = λ run. IsGivable w.config w.liars run one.0 in
+    let now : IsGivable w.config w.liars w.run one.0 = subst P (append-nil w.run) one.1 in
+    let not' : counts_now w.config w.run one.0 ≡ false = stuck one.0 now.sent now.to in
+    let counts : counts_now w.config w.run one.0 ≡ true = now.counts in
+    absurd cc
+
+pub rest_pass : (w : WorldValue) → IsClusterRunOf w → IsAtRest w.config w.liars w.run → after_pass w ≡ w
+rest_pass w is rest =
+    let first = pass_prolongs w in
+    let none = prolonged_stuck w first.0 (rest_is_stuck w.config w.liars w.run is rest) first.2 in
+    first.1 ∙ ap (λ more. with_run w (w.run ++ more)) none ∙ same_run w
+
+less_itself : (n : ℕ) → nat_lt n n ≡ false
+less_itself n = grind (arith, nat_tests)
+
+pub rest_adds : (w : WorldValue) → after_pass w ≡ w → pass_adds w ≡ false
+rest_adds w same = ap (λ (v : WorldValue). nat_lt (length w.run) (length v.run)) same ∙ less_itself (length w.run)
 
 not_less : (a b : ℕ) → nat_lt a b ≡ false → b ≤ a
 not_less a b e = grind (arith, nat_tests)

@@ -265,9 +265,15 @@ idle_uncounted config me history e idle = by (outlook config me history e) idle
     by (Ok effect.Counted) is = absurd cc
     by (Err f) is = absurd cc
 
+-- at rest no packet counts, also where a history is full
+pub rest_is_stuck : (config : ConfigValue) (liars : Nodes) (run : Run) → IsClusterRun config liars run →
+    IsAtRest config liars run → IsStuck config liars run
+rest_is_stuck config liars run cluster rest p pooled correct =
+    idle_uncounted config p.to (history_of p.to run) (event.Take p)
+    (taken_is_idle config p.to (history_of p.to run) p (cluster.legal p.to) (rest p pooled correct))
+
 pub nothing_is_stuck : NothingIsStuck
 nothing_is_stuck config liars run cluster room = (
   λ stuck. rests config liars run cluster room stuck,
-  λ rest p pooled correct. idle_uncounted config p.to (history_of p.to run) (event.Take p)
-      (taken_is_idle config p.to (history_of p.to run) p (cluster.legal p.to) (rest p pooled correct)),
+  λ rest. rest_is_stuck config liars run cluster rest,
 )

@@ -41,7 +41,8 @@ impl World {
         u64::from(self.sizes().n()) * u64::from(self.config().limit())
     }
 
-    /// Gives each packet that the pool has. Whether something was recorded.
+    /// Gives each packet that the pool has, of which none counts where the cluster is at rest. Whether something was
+    /// recorded.
     fn give_each(&mut self) -> Result<bool, AllocError>
         ensures prolonged { IsProlonged self.old self.new }
         ensures adds { IfOk result (λ adds. adds ≡ pass_adds self.old) }
@@ -49,6 +50,9 @@ impl World {
         ensures run { IsClusterRunOf self.new }
     {
         let before = self.run_len();
+        if self.at_rest() {
+            return Ok(false);
+        }
         for packet in 0..self.sent_len() {
             self.pass(&Step::Give { packet })?;
         }

@@ -1,7 +1,7 @@
 use Rattle.std.proofs.Common.{◌≡◌, nat_lt, length, ap, sym, ◌∙◌, subst}
 use Rattle.byz_world.specs.Settled.{IsProlonged, after_pass}
 use Rattle.byz_world.specs.Worlds.{WorldValue}
-use Rattle.byz_world.proofs.Passes.{given_first, given_next, given_prolongs, given_all}
+use Rattle.byz_world.proofs.Passes.{given_first, given_next, given_prolongs, given_all, rest_adds, rest_pass}
 use Rattle.byz_world.proofs.world.World.give_each.Goals as goal
 
 pub loop-packet-init : goal.loop-packet-init
@@ -32,3 +32,12 @@ returns-clause-adds c =
 pub returns-clause-after : goal.returns-clause-after
 returns-clause-after c =
     given_all c.loop-packet.invariant c.loop-packet-test.false c.sent_len-packet-end.ensures.value
+
+pub returns-then-at_rest-clause-adds : goal.returns-then-at_rest-clause-adds
+returns-then-at_rest-clause-adds c =
+    let first : WorldValue = c.args.self.now in
+    sym (rest_adds first (rest_pass first c.run_len-before.ensures.run (c.at_rest.ensures.0 c.if-at_rest.true)))
+
+pub returns-then-at_rest-clause-after : goal.returns-then-at_rest-clause-after
+returns-then-at_rest-clause-after c =
+    sym (rest_pass c.args.self.now c.run_len-before.ensures.run (c.at_rest.ensures.0 c.if-at_rest.true))
