@@ -168,8 +168,8 @@ module _ {X Z : Type 0} (p : X → Bool) where
 
   pub kept_between_more : (start : ℕ) (old bs new : List (Vec X Z)) (place i : ℕ) (b y : Vec X Z) →
       IsKeptBetween start place old bs → start < place → i ≡ place - 1 → b ≡ get_or bs i b →
-      y.items ≡ filter p b.items → vec_len y ≤ vec_len b → vec_capacity b ≤ vec_capacity y → new ≡ tidied i (set bs i y) →
-      IsKeptBetween start i old new
+      y.items ≡ filter p b.items → vec_len y ≤ vec_len b → vec_capacity b ≤ vec_capacity y →
+      new ≡ tidied i (set bs i y) → IsKeptBetween start i old new
   kept_between_more start old bs new place i b y between some less at items shrinks capacity is = record {
     kept = kept_more old bs new place i b y between.kept (omega arith) less at items shrinks capacity is;
     onward = omega arith;

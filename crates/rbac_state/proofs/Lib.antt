@@ -17,4 +17,5 @@ pub mod StreamLemmas
 pub mod PolicyLaws
 pub mod ApplyLemmas
 pub mod ListingLemmas
+pub mod PackedLemmas
 pub mod Exported

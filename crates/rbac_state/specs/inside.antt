@@ -1,3 +1,4 @@
 pub mod Blocks
+pub mod Packed
 pub mod Relations
 pub mod Runs

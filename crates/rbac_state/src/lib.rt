@@ -5,6 +5,7 @@
 mod blocks;
 pub mod laws;
 mod listing;
+mod packed;
 mod policy;
 mod relation;
 mod run;

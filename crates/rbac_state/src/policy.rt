@@ -7,6 +7,7 @@ ghost use Rattle.rbac_state.specs.Policies.{UserMay, least_room, IsBlank, SameRe
 ghost use Rattle.rbac_state.specs.Listings.{IsListing};
 
 use crate::listing::ascending;
+use crate::packed::ascending_permissions;
 use crate::relation::Relation;
 use crate::select;
 use quorum_sizes::NodeName;
@@ -222,7 +223,7 @@ impl Policy {
             (λ p. (role : ℕ) × Contains roles.now role × RoleMay self.now p.0 p.1 role) permissions.items) }
     {
         let permissions = select::permissions(self.alloc(), &self.granted, roles)?;
-        Ok(ascending(permissions))
+        ascending_permissions(permissions)
     }
 
     /// The operations that the role may do on the object, in ascending order.

@@ -1,0 +1,115 @@
+-- Permissions as numbers: a listing of the numbers is one of the permissions.
+use Rattle.std.proofs.Common.{◌≡◌, ℕ, ◌+◌, ◌*◌, ◌/◌, ◌%◌, ◌<◌, ◌^◌, inl, inr, List, [], ◌∷◌}
+use Rattle.std.proofs.Common.{map, refl, sym, ap, ◌∙◌, subst, arith}
+use Rattle.std.specs.Prelude.{All, Contains}
+use Rattle.std.specs.declared.cmp.Ordering.TheVariants.{Less, Equal, Greater}
+use Rattle.std.specs.List.{AllByRecursion}
+use Rattle.std.specs.List.Sorted.{IsStrictlySortedBy}
+use Rattle.std.specs.Ordering.{MatchOrdering, nat_cmp, ordering_then}
+use Rattle.std.proofs.lemmas.Bool.Decides.{nat_tests}
+use Rattle.std.proofs.lemmas.Cmp.{ranked}
+use Rattle.std.proofs.lemmas.List.Elements.{at_from_Contains}
+use Rattle.rbac_state.specs.Policies.{permission_cmp}
+use Rattle.rbac_state.specs.Listings.{IsListing}
+use Rattle.rbac_state.specs.inside.Packed.{packed, unpacked}
+use Rattle.rbac_state.proofs.Members.{contains_head, contains_more, contains_cases, contains_none}
+
+abbrev pub Fits : ℕ × ℕ → Type 0
+Fits p = (p.0 < 2 ^ 16) × (p.1 < 2 ^ 32)
+
+back_first : (a b : ℕ) → a < 65536 → b < 4294967296 → (a * 4294967296 + b) / 4294967296 % 65536 ≡ a
+back_first a b first second = omega arith
+
+back_second : (a b : ℕ) → b < 4294967296 → (a * 4294967296 + b) % 4294967296 ≡ b
+back_second a b second = omega arith
+
+-- a permission comes back from its number
+pub back : (p : ℕ × ℕ) → Fits p → unpacked (packed p) ≡ p
+back p fits = λ i. (back_first p.0 p.1 fits.0 fits.1 i, back_second p.0 p.1 fits.1 i)
+
+less_cmp : (a b : ℕ) → a < b → nat_cmp a b ≡ Less
+less_cmp a b less = grind (arith, nat_tests)
+
+less_then : (a b c d : ℕ) → b < 4294967296 → d < 4294967296 → a * 4294967296 + b < c * 4294967296 + d →
+    ordering_then (nat_cmp a c) (nat_cmp b d) ≡ Less
+less_then a b c d small large less =
+    elim (nat_cmp a c) as (λ u. MatchOrdering u (a < c) (a ≡ c) (c < a) → ordering_then u (nat_cmp b d) ≡ Less) [
+      | Less ↦ λ _. refl
+      | Equal ↦ λ same. less_cmp b d (omega arith)
+      | Greater ↦ λ above. absurd (omega arith)
+    ] (ranked a c (nat_cmp a c) refl)
+
+pub mapped_from : {X Y : Type 0} (f : X → Y) (xs : List X) (y : Y) → Contains (map f xs) y
+    → (x : X) × Contains xs x × (f x ≡ y)
+mapped_from f [] y h = contains_none y _ h
+mapped_from f (x ∷ xs) y h =
+    elim (contains_cases (f x) (map f xs) y h) [
+      | inl here ↦ (x, contains_head x xs x refl, here)
+      | inr later ↦ let z = mapped_from f xs y later in (z.0, contains_more x xs z.0 z.1, z.2)
+    ]
+
+pub mapped_into : {X Y : Type 0} (f : X → Y) (xs : List X) (x : X) → Contains xs x → Contains (map f xs) (f x)
+mapped_into f [] x within = contains_none x _ within
+mapped_into f (z ∷ xs) x within =
+    elim (contains_cases z xs x within) [
+      | inl here ↦ contains_head (f z) (map f xs) (f x) (ap f here)
+      | inr later ↦ contains_more (f z) (map f xs) (f x) (mapped_into f xs x later)
+    ]
+
+-- the number of a permission that fits
+abbrev IsNumber : ℕ → Type 0
+IsNumber n = (p : ℕ × ℕ) × Fits p × (packed p ≡ n)
+
+each_number : (ns : List ℕ) → ((n : ℕ) → Contains ns n → IsNumber n) → AllByRecursion IsNumber ns
+each_number [] are = tt
+each_number (n ∷ ns) are = (
+  are n (contains_head n ns n refl),
+  each_number ns (λ m h. are m (contains_more n ns m h)),
+)
+
+nat_less : (a b : ℕ) → nat_cmp a b ≡ Less → a < b
+nat_less a b e = subst (λ u. MatchOrdering u (a < b) (a ≡ b) (b < a)) e (ranked a b (nat_cmp a b) refl)
+
+unpacked_less : (m n : ℕ) → IsNumber m → IsNumber n → nat_cmp m n ≡ Less
+    → permission_cmp (unpacked m) (unpacked n) ≡ Less
+unpacked_less m n (p, fits, is) (q, fit, are) less =
+    let lower : packed p < packed q = (let h = nat_less m n less in omega (arith, is, are)) in
+    (λ i. permission_cmp (unpacked (sym is i)) (unpacked (sym are i)))
+    ∙ (λ i. permission_cmp (back p fits i) (back q fit i))
+    ∙ less_then p.0 p.1 q.0 q.1 fits.1 fit.1 lower
+
+unpacked_above : (m : ℕ) (ns : List ℕ) → IsNumber m → AllByRecursion IsNumber ns →
+    AllByRecursion (λ n. nat_cmp m n ≡ Less) ns →
+    AllByRecursion (λ p. permission_cmp (unpacked m) p ≡ Less) (map unpacked ns)
+unpacked_above m [] is are above = tt
+unpacked_above m (n ∷ ns) is are above = (
+  unpacked_less m n is are.0 above.0,
+  unpacked_above m ns is are.1 above.1,
+)
+
+unpacked_ascend : (ns : List ℕ) → AllByRecursion IsNumber ns → IsStrictlySortedBy nat_cmp ns →
+    IsStrictlySortedBy permission_cmp (map unpacked ns)
+unfolding IsStrictlySortedBy
+unpacked_ascend [] are up = tt
+unpacked_ascend (n ∷ ns) are up = (unpacked_above n ns are.0 are.1 up.0, unpacked_ascend ns are.1 up.1)
+
+fits_at : (ps : List (ℕ × ℕ)) → All Fits ps → (p : ℕ × ℕ) → Contains ps p → Fits p
+fits_at ps all p within =
+    let at = at_from_Contains ps p within in
+    subst Fits (at.2 (0, 0)) (all at.0 (0, 0) at.1)
+
+pub unpacked_listing : (ps : List (ℕ × ℕ)) (ns : List ℕ) → All Fits ps → IsListing nat_cmp (Contains (map packed ps)) ns
+    → IsListing permission_cmp (Contains ps) (map unpacked ns)
+unpacked_listing ps ns all listing = record {
+  ascending = unpacked_ascend ns (each_number ns (λ n h.
+      let p = mapped_from packed ps n ((listing.exact n).0 h) in (p.0, fits_at ps all p.0 p.1, p.2))) listing.ascending;
+  exact = λ q. (
+    λ h.
+        let n = mapped_from unpacked ns q h in
+        let p = mapped_from packed ps n.0 ((listing.exact n.0).0 n.1) in
+        subst (Contains ps) (sym (back p.0 (fits_at ps all p.0 p.1)) ∙ ap unpacked p.2 ∙ n.2) p.1,
+    λ h.
+        subst (Contains (map unpacked ns)) (back q (fits_at ps all q h))
+        (mapped_into unpacked ns (packed q) ((listing.exact (packed q)).1 (mapped_into packed ps q h))),
+  );
+}

@@ -1,0 +1,16 @@
+use Rattle.std.proofs.Common.{◌≡◌, map}
+use Rattle.std.specs.Prelude.{Contains}
+use Rattle.std.proofs.lemmas.Result.{IfOk-weaker}
+use Rattle.rbac_state.specs.Listings.{IsListing}
+use Rattle.rbac_state.specs.Policies.{permission_cmp}
+use Rattle.rbac_state.specs.inside.Packed.{unpacked}
+use Rattle.rbac_state.proofs.PackedLemmas.{unpacked_listing}
+use Rattle.rbac_state.proofs.packed.sorted_as_numbers.Goals as goal
+
+pub returns : goal.returns
+returns c =
+    IfOk-weaker c.unpack_all.result (λ xs. xs.items ≡ map unpacked c.deref.result.now)
+    (λ xs. IsListing permission_cmp (Contains c.args.permissions.now) xs.items)
+    (λ xs is. rw (is, c.deref.ensures.value)
+    (unpacked_listing c.args.permissions.now c.ascending.result.items c.within.ensures
+    (rw (c.in_ok-numbers.ensures) at c.ascending.ensures))) c.unpack_all.ensures
