@@ -1,6 +1,6 @@
 -- A list of pairs in blocks, from which the pairs of another list are taken, turned.
-use Rattle.std.proofs.Common.{◌≡◌, ℕ, ◌+◌, ◌<◌, Bool, true, false, not, ◌&&◌, ◌||◌, List, [], ◌∷◌, ◌++◌}
-use Rattle.std.proofs.Common.{length, get_or, take, filter, append-nil, refl, sym, ap, ◌∙◌}
+use Rattle.std.proofs.Common.{◌≡◌, ℕ, ◌+◌, ◌<◌, ◌≤◌, Bool, true, false, not, ◌&&◌, ◌||◌, List, [], ◌∷◌, ◌++◌}
+use Rattle.std.proofs.Common.{length, get_or, drop, filter, refl, sym, ap, ◌∙◌}
 use Rattle.std.specs.declared.cmp.Ordering.{Ordering}
 use Rattle.std.specs.declared.vec.Vec.{Vec}
 use Rattle.std.specs.Ordering.{eq_by_cmp}
@@ -8,8 +8,7 @@ use Rattle.std.specs.List.{flat_map}
 use Rattle.std.specs.List.Sorted.{IsStrictlySortedBy}
 use Rattle.std.specs.Cmp.{IsTotalOrder}
 use Rattle.std.proofs.lemmas.Cmp.{eq_by_cmp_equiv}
-use Rattle.std.proofs.lemmas.List.{take_more}
-use Rattle.std.proofs.lemmas.List.Concat.{flat_map-append}
+use Rattle.std.proofs.lemmas.List.{drop_more}
 use Rattle.std.proofs.lemmas.List.Elements.{filter-append}
 use Rattle.std.proofs.lemmas.List.Folds.{list_any-append}
 use Rattle.std.proofs.lemmas.Map.Views.{any-filter_same}
@@ -26,9 +25,14 @@ pub record AreTaken {A B Z : Type 0} (R : A → A → Ordering) (S : B → B →
       ≡ (not (is_among (pair_cmp S R) pairs (q.1, q.0)) && is_among (pair_cmp R S) (items_in old) q)
   pub room : (room : ℕ) → AreBlocks room old → AreBlocks room new
 
-both_not : (a b c : Bool) → (not b && (not a && c)) ≡ (not (a || b) && c)
-both_not true true c = refl
-both_not true false c = refl
+-- the same, of the pairs from this place of so many on
+pub record IsTakenFrom {A B Z : Type 0} (R : A → A → Ordering) (S : B → B → Ordering) (place count : ℕ)
+    (pairs : List (B × A)) (old new : List (Vec (A × B) Z)) : Type 0 where
+  pub within : place ≤ count
+  pub taken : AreTaken R S pairs old new
+
+both_not : (a b c : Bool) → (not a && (not b && c)) ≡ (not (a || b) && c)
+both_not true b c = refl
 both_not false b c = refl
 
 or_none : (b : Bool) → (b || false) ≡ b
@@ -40,18 +44,19 @@ module _ {A B Z : Type 0} (R : A → A → Ordering) (S : B → B → Ordering) 
       → AreTaken R S [] old old
   none_taken old up = record { ascending = up; members = λ q. refl; room = λ room are. are }
 
-  pub taken_both : (first second : List (B × A)) (old between new : List (Vec (A × B) Z)) →
-      AreTaken R S first old between → AreTaken R S second between new → AreTaken R S (first ++ second) old new
-  taken_both first second old between new a b = record {
-    ascending = b.ascending;
+  -- the later ones were taken before
+  pub taken_before : (first second : List (B × A)) (old between new : List (Vec (A × B) Z)) →
+      AreTaken R S second old between → AreTaken R S first between new → AreTaken R S (first ++ second) old new
+  taken_before first second old between new b a = record {
+    ascending = a.ascending;
     members = λ q.
-        b.members q
-        ∙ ap (λ x. not (is_among (pair_cmp S R) second (q.1, q.0)) && x) (a.members q)
+        a.members q
+        ∙ ap (λ x. not (is_among (pair_cmp S R) first (q.1, q.0)) && x) (b.members q)
         ∙ both_not (is_among (pair_cmp S R) first (q.1, q.0)) (is_among (pair_cmp S R) second (q.1, q.0))
         (is_among (pair_cmp R S) (items_in old) q)
         ∙ ap (λ x. not x && is_among (pair_cmp R S) (items_in old) q)
         (sym (list_any-append (eq_by_cmp (pair_cmp S R) (q.1, q.0)) first second));
-    room = λ room are. b.room room (a.room room are);
+    room = λ room are. a.room room (b.room room are);
   }
 
   -- one pair
@@ -83,17 +88,16 @@ module _ {A B Z : Type 0} (R : A → A → Ordering) (S : B → B → Ordering) 
     room = room;
   }
 
--- one more item, and the items of one more block
+-- one more item in front, and the items of one more block
 pub item_here : {X : Type 0} (xs : List X) (i : ℕ) (x : X) → i < length xs → x ≡ get_or xs i x →
-    take (i + 1) xs ≡ take i xs ++ (x ∷ [])
-item_here xs i x within is = take_more xs i x within ∙ ap (λ y. take i xs ++ (y ∷ [])) (sym is)
+    drop i xs ≡ x ∷ drop (i + 1) xs
+item_here xs i x within is = drop_more xs i x within ∙ ap (λ y. y ∷ drop (i + 1) xs) (sym is)
 
 pub block_here : {X K : Type 0} (f : X → List K) (p : K → Bool) (xs : List X) (i : ℕ) (x : X) → i < length xs →
-    x ≡ get_or xs i x → filter p (flat_map f (take (i + 1) xs)) ≡ filter p (flat_map f (take i xs)) ++ filter p (f x)
+    x ≡ get_or xs i x → filter p (flat_map f (drop i xs)) ≡ filter p (f x) ++ filter p (flat_map f (drop (i + 1) xs))
 block_here f p xs i x within is =
     ap (λ l. filter p (flat_map f l)) (item_here xs i x within is)
-    ∙ ap (filter p) (flat_map-append f (take i xs) (x ∷ []) ∙ ap (λ l. flat_map f (take i xs) ++ l) (append-nil (f x)))
-    ∙ filter-append p (flat_map f (take i xs)) (f x)
+    ∙ filter-append p (f x) (flat_map f (drop (i + 1) xs))
 
 and_known : (e r : Bool) → (not (e && r) && r) ≡ (not e && r)
 and_known true true = refl

@@ -171,12 +171,14 @@ fn take_away_turned<A: Ord + Copy + Drop, B: Ord + Copy + Drop>(
         && is_among (pair_cmp A.cmp B.cmp) (items_in blocks.old.items) q) }
     ensures room { (room : ℕ) → AreBlocks room blocks.old.items → AreBlocks room blocks.new.items }
 {
-    for block in run {
-        take_away_each(blocks, sorted::beginning_with(block, &first));
+    let mut place = run.len();
+    while place > 0 {
+        place -= 1;
+        take_away_each(blocks, sorted::beginning_with(&run[place], &first));
     }
 }
 
-/// Takes away each of these pairs, turned.
+/// Takes away each of these pairs, turned: the last first, so that few blocks stand behind one that gets empty.
 fn take_away_each<A: Ord + Copy + Drop, B: Ord + Copy + Drop>(
     blocks: &mut Vec<Vec<(A, B)>>,
     pairs: &[(B, A)],
@@ -189,8 +191,11 @@ fn take_away_each<A: Ord + Copy + Drop, B: Ord + Copy + Drop>(
         && is_among (pair_cmp A.cmp B.cmp) (items_in blocks.old.items) q) }
     ensures room { (room : ℕ) → AreBlocks room blocks.old.items → AreBlocks room blocks.new.items }
 {
-    for (second, first) in pairs {
-        blocks::take_away(blocks, &(*first, *second));
+    let mut place = pairs.len();
+    while place > 0 {
+        place -= 1;
+        let pair = pairs[place];
+        blocks::take_away(blocks, &(pair.1, pair.0));
     }
 }
 

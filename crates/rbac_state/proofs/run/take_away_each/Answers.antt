@@ -1,19 +1,33 @@
-use Rattle.std.proofs.Common.{◌∷◌, [], take, sym, subst}
-use Rattle.rbac_state.proofs.TurnedLemmas.{AreTaken, taken_both, taken_one, item_here}
+use Rattle.std.proofs.Common.{◌≡◌, ◌-◌, ◌+◌, ◌∷◌, [], drop, sym, ap, ◌∙◌, subst, arith}
+use Rattle.rbac_state.proofs.TurnedLemmas.{AreTaken, taken_before, taken_one, item_here}
 use Rattle.rbac_state.proofs.run.take_away_each.Goals as goal
 
 pub take_away-requires-clause-filled : goal.take_away-requires-clause-filled
-take_away-requires-clause-filled g c = (c.loop-second.invariant.room 0 c.requires.blocks).filled
+take_away-requires-clause-filled g c = (c.loop-place.invariant.taken.room 0 c.requires.blocks).filled
 
-pub loop-second-preserved : goal.loop-second-preserved
-loop-second-preserved g c =
-    let p = c.loop-second-item.result in
-    let i = c.loop-second.second-index in
+pub loop-place-preserved : goal.loop-place-preserved
+loop-place-preserved g c =
+    let p = c.index-pairs-place.result in
+    let i = c.loop-place.place - 1 in
+    let pairs = c.args.pairs.now in
     let old = c.args.blocks.now.items in
-    let between = c.loop-second.blocks.items in
+    let between = c.loop-place.blocks.items in
     let new = c.take_away.new.blocks.items in
-    subst (λ l. AreTaken g.A.Ord.cmp g.B.Ord.cmp l old new)
-    (sym (item_here c.args.pairs.now i p c.loop-second-test.true c.loop-second-item.is))
-    (taken_both g.A.Ord.cmp g.B.Ord.cmp (take i c.args.pairs.now) (p ∷ []) old between new c.loop-second.invariant
-    (taken_one g.A.Ord.cmp g.B.Ord.cmp p between new c.take_away.ensures.ascending c.take_away.ensures.members
-    c.take_away.ensures.room))
+    let e : c.loop-place.place ≡ i + 1 = omega arith in
+    record {
+      within = omega (arith, c.loop-place.invariant.within);
+      taken =
+          subst (λ l. AreTaken g.A.Ord.cmp g.B.Ord.cmp l old new)
+          (sym (item_here pairs i p (omega (arith, c.loop-place.invariant.within)) c.index-pairs-place.is))
+          (taken_before g.A.Ord.cmp g.B.Ord.cmp (p ∷ []) (drop (i + 1) pairs) old between new
+          (subst (λ k. AreTaken g.A.Ord.cmp g.B.Ord.cmp (drop k pairs) old between) e c.loop-place.invariant.taken)
+          (taken_one g.A.Ord.cmp g.B.Ord.cmp p between new c.take_away.ensures.ascending
+          c.take_away.ensures.members c.take_away.ensures.room));
+    }
+
+pub returns-clause-members : goal.returns-clause-members
+returns-clause-members g c =
+    let e : c.loop-place.place ≡ 0 = omega arith in
+    let all = subst (λ k. AreTaken g.A.Ord.cmp g.B.Ord.cmp (drop k c.args.pairs.now) c.args.blocks.now.items
+    c.loop-place.blocks.items) e c.loop-place.invariant.taken in
+    all.members

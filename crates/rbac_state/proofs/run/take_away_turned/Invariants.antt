@@ -1,11 +1,14 @@
-use Rattle.std.proofs.Common.{take, filter}
+use Rattle.std.proofs.Common.{◌≤◌, length, drop, filter}
 use Rattle.std.specs.Ordering.{eq_by_cmp}
 use Rattle.rbac_state.specs.inside.Blocks.{items_in}
-use Rattle.rbac_state.proofs.TurnedLemmas.{AreTaken}
+use Rattle.rbac_state.proofs.TurnedLemmas.{IsTakenFrom}
 use Rattle.rbac_state.proofs.run.take_away_turned.Given as goal
 
-abbrev pub invariant-loop-block : goal.invariant-loop-block
-invariant-loop-block g l =
-    AreTaken g.A.Ord.cmp g.B.Ord.cmp
-    (filter (λ p. eq_by_cmp g.B.Ord.cmp l.first p.0) (items_in (take l.block-index l.run)))
+abbrev pub invariant-loop-place : goal.invariant-loop-place
+invariant-loop-place g l =
+    IsTakenFrom g.A.Ord.cmp g.B.Ord.cmp l.place (length l.run)
+    (filter (λ p. eq_by_cmp g.B.Ord.cmp l.first p.0) (items_in (drop l.place l.run)))
     l.fn.blocks.items l.blocks.items
+
+abbrev pub decreases-loop-place : goal.decreases-loop-place
+decreases-loop-place g l = l.place
