@@ -14,3 +14,10 @@ pub mod SameTags
 pub mod TextLemmas
 pub mod CallLemmas
 pub mod WriteLemmas
+pub mod FourLanes
+pub mod ScheduleWords
+pub mod Rounds
+pub mod Turns
+pub mod BlockWords
+pub mod TagLemmas
+pub mod Rotations

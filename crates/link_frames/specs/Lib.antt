@@ -5,6 +5,7 @@ pub mod FrameReads
 pub mod Frames
 pub mod Holding
 pub mod Hmac
+pub mod inside
 pub mod Kinds
 pub mod KeyRings
 pub mod Keys

@@ -3,7 +3,11 @@
 ghost use Rattle.std.specs.Prelude.{◌≡◌, ◌^◌, ◌<◌, List, ℕ, length};
 ghost use Rattle.link_frames.specs.Hmac.{padded_key, xor_each, hmac};
 ghost use Rattle.link_frames.specs.Pads.{AfterPads};
+ghost use Rattle.link_frames.specs.inside.MidStates.{MidStates};
 
+use crate::layout::TAG_AT;
+use crate::sha256::{INITIAL, compress};
+use crate::words::{digest, digest_words, fields_words, words_of};
 use sha2::{Digest, Sha256};
 use std::marker::Model;
 
@@ -66,12 +70,12 @@ pub fn hmac_sha256(key: &[u8], text: &[u8]) -> [u8; 32]
     finished(inner, outer, text)
 }
 
-/// A key, with SHA-256 after each of its pads, so that its tags do not hash the pads anew.
+/// A key, with the hash values of SHA-256 after each of its pads, so that its tags do not hash the pads anew.
 #[derive(Drop)]
 pub(crate) struct PreparedKey {
     key: [u8; 32],
-    inner: Sha256,
-    outer: Sha256,
+    inner: [u32; 8],
+    outer: [u32; 8],
 }
 
 impl Model for PreparedKey {
@@ -79,7 +83,7 @@ impl Model for PreparedKey {
 
     ghost view = { λ a. a.key };
 
-    ghost invariant = { λ a. AfterPads a.key a.inner a.outer };
+    ghost invariant = { λ a. MidStates a.key a.inner a.outer };
 }
 
 impl PreparedKey {
@@ -87,22 +91,19 @@ impl PreparedKey {
     pub(crate) fn new(key: &[u8; 32]) -> PreparedKey
         ensures { result ≡ key.now }
     {
-        let (inner, outer) = after_pads(key);
+        let block = key_block(key);
         PreparedKey {
             key: *key,
-            inner,
-            outer,
+            inner: compress(INITIAL, words_of(&padded_by(0x36, &block))),
+            outer: compress(INITIAL, words_of(&padded_by(0x5c, &block))),
         }
     }
 
-    /// The HMAC of the text under the key, with SHA-256. It takes no memory.
-    pub(crate) fn tag(&self, text: &[u8]) -> [u8; 32]
-        ensures { result ≡ hmac self.now text.now }
+    /// The HMAC of a frame's fields under the key, with SHA-256. It takes no memory.
+    pub(crate) fn tag(&self, fields: &[u8; TAG_AT]) -> [u8; 32]
+        ensures { result ≡ hmac self.now fields.now }
     {
-        finished(
-            self.inner.clone().unwrap(),
-            self.outer.clone().unwrap(),
-            text,
-        )
+        let inner = compress(self.inner, fields_words(fields));
+        digest(compress(self.outer, digest_words(&inner)))
     }
 }

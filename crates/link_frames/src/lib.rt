@@ -19,8 +19,11 @@ mod next;
 mod opening;
 mod packet;
 mod reading;
+mod schedule;
 mod sealing;
+mod sha256;
 mod watched;
+mod words;
 
 pub use ahead::Ahead;
 pub use blocks::AheadFault;

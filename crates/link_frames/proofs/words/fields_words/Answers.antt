@@ -1,0 +1,15 @@
+use Rattle.std.proofs.Common.{arith}
+use Rattle.link_frames.proofs.BlockWords.{words_of_fields}
+use Rattle.link_frames.proofs.words.fields_words.Goals as goal
+
+pub returns : goal.returns
+returns c =
+    rw (
+      c.word_at.ensures,
+      c.word_at-2.ensures,
+      c.word_at-3.ensures,
+      c.word_at-4.ensures,
+      c.word_at-5.ensures,
+      c.from_be_bytes.ensures,
+    )
+    (words_of_fields c.args.fields.now (omega arith))
