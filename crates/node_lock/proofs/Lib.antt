@@ -1,4 +1,5 @@
 pub mod DueOutcomes
 pub mod Places
+pub mod Keys
 pub mod AuditLemmas
 pub mod InboxMoves

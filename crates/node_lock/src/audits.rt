@@ -5,14 +5,16 @@ ghost use Rattle.std.specs.List.Sorted.{IsNonDecreasingBy};
 ghost use Rattle.role_node.specs.Answers.{is_recorded};
 ghost use Rattle.role_node.specs.Nodes.{new_node, due_at, with_event};
 ghost use Rattle.node_lock.specs.Audits.{node_at, AreTrue, IsAuditFault};
-ghost use Rattle.node_lock.specs.inside.Walks.{receipts_of, IsRest, event_in, IsNext, IsEntryOf};
-ghost use Rattle.node_lock.specs.inside.Walks.{IsTrueHere, recorded_in, AreRightHere, IsFaultHere};
+ghost use Rattle.node_lock.specs.inside.Walks.{receipts_of, IsRest, event_in, IsNext};
+ghost use Rattle.node_lock.specs.inside.Walks.{IsTrueHere, IsUnrecorded, recorded_in, AreRightHere, IsFaultHere};
+ghost use Rattle.node_lock.specs.declared.receipt.Call.TheVariants.{Step};
+ghost use Rattle.node_lock.specs.declared.receipt.Outcome.TheVariants.{Reply as Replied};
 ghost use Rattle.node_lock.specs.declared.receipt.Receipt.{Receipt as ReceiptValue};
 
 use crate::questions::ask_outcome;
 use crate::receipt::{Call, Outcome, Receipt};
 use bracha_instance::Effect;
-use role_node::{Entry, Event, Node, Reply};
+use role_node::{Event, Node, Reply};
 use std::alloc::{AllocError, Global};
 use std::error::Error;
 use std::fmt;
@@ -59,6 +61,35 @@ impl From<AllocError> for AuditFault {
     }
 }
 
+/// An entry of the history: an event that was recorded, and its reply.
+#[derive(Clone, Copy)]
+struct Recorded {
+    event: Event,
+    reply: Reply,
+}
+
+impl Recorded {
+    /// Whether the entry is of this event.
+    #[inline(always)]
+    fn is_of(&self, event: &Event) -> bool
+        ensures { IsTrue result ↔ (self.now.event ≡ event.now) }
+    {
+        self.event == *event
+    }
+
+    /// Whether the receipt is of the entry's event, with its reply.
+    #[inline(always)]
+    fn is_told_by(&self, receipt: &Receipt) -> bool
+        ensures call { IsTrue result → receipt.now.call ≡ Step self.now.event }
+        ensures outcome { IsTrue result → receipt.now.outcome ≡ Replied self.now.reply }
+    {
+        match &receipt.call {
+            Call::Step(event) => self.is_of(event) && receipt.outcome.is_reply(&self.reply),
+            Call::Ask(_) => false,
+        }
+    }
+}
+
 /// Whether every receipt is true of the node's history, and each of its places has exactly one receipt of a recorded
 /// event. It replays the history once, and goes once over the receipts, which it sorts by place.
 ///
@@ -92,8 +123,8 @@ fn check_all_places(
     for place in 0..end {
         let (here, _) = split_at_place(&sorted[done..], place);
         let entry = entry_at(node, place);
-        check_place(replay, &Some(entry), here, place)?;
-        advance(replay, &entry.event())?;
+        check_recorded(replay, entry, here, place)?;
+        advance(replay, &entry.event)?;
         done += here.len();
     }
     let (here, past) = split_at_place(&sorted[done..], end);
@@ -104,24 +135,33 @@ fn check_all_places(
     }
 }
 
-/// The entry at a place of the history.
-fn entry_at(node: &Node, place: u32) -> Entry
+/// The entry at a place of the history, with its event and its reply side by side.
+fn entry_at(node: &Node, place: u32) -> Recorded
     requires { place < length node.now.history }
     ensures event { slice_get node.now.history place ≡ Some result.event }
     ensures next { IsNext (node_at node.now place) (Some result) }
 {
-    node.history()[place as usize]
+    let entry = node.history()[place as usize];
+    Recorded {
+        event: entry.event(),
+        reply: entry.reply(),
+    }
 }
 
 /// The receipts in the order of their places.
 fn by_place(alloc: Global, receipts: &[Receipt]) -> Result<Vec<&Receipt>, AllocError>
     ensures { IfOk result (λ sorted. IsRest receipts.now 0 (receipts_of sorted.items)) }
 {
-    let mut sorted = Vec::new(alloc);
+    // Each place stands beside its reference, so that the sort reads no receipt.
+    let mut keys = Vec::with_capacity(alloc, receipts.len())?;
     for receipt in receipts {
-        sorted.push(receipt)?;
+        keys.push((receipt.place, receipt))?;
     }
-    sorted.sort_unstable_by_key(|receipt| receipt.place);
+    keys.sort_by_key(|key| key.0)?;
+    let mut sorted = Vec::with_capacity(alloc, receipts.len())?;
+    for key in keys.as_slice() {
+        sorted.push(key.1)?;
+    }
     Ok(sorted)
 }
 
@@ -146,10 +186,30 @@ fn split_at_place<'a, 'b>(
     rest.split_at(count)
 }
 
+/// Whether one receipt is of the entry's event, and all receipts here are true. The node has the history before it.
+/// Most places have one receipt alone, which tells of the entry.
+#[inline(always)]
+fn check_recorded(
+    replay: &mut Node,
+    entry: Recorded,
+    here: &[&Receipt],
+    place: u32,
+) -> Result<(), AuditFault>
+    requires { IsNext replay.old (Some entry) }
+    ensures ok { OnOk result (AreRightHere replay.old (Some entry.event) (receipts_of here.now)) }
+    ensures err { IfErr result (IsFaultHere replay.old (Some entry.event) (receipts_of here.now) place) }
+    ensures same { replay.new ≡ replay.old }
+{
+    match here {
+        [receipt] if entry.is_told_by(receipt) => Ok(()),
+        _ => check_place(replay, &Some(entry), here, place),
+    }
+}
+
 /// Whether one receipt is of the place's event, and all receipts here are true. The node has the history before it.
 fn check_place(
     replay: &mut Node,
-    entry: &Option<Entry>,
+    entry: &Option<Recorded>,
     here: &[&Receipt],
     place: u32,
 ) -> Result<(), AuditFault>
@@ -184,7 +244,11 @@ fn count_recorded(receipts: &[&Receipt]) -> usize
 }
 
 /// Whether all receipts here are true.
-fn are_true(replay: &mut Node, entry: &Option<Entry>, here: &[&Receipt]) -> Result<bool, AllocError>
+fn are_true(
+    replay: &mut Node,
+    entry: &Option<Recorded>,
+    here: &[&Receipt],
+) -> Result<bool, AllocError>
     requires { IsNext replay.old entry.now }
     ensures all { IfOk result
         (λ yes. IsTrue yes ↔ All (IsTrueHere replay.old (event_in entry.now)) (receipts_of here.now)) }
@@ -199,28 +263,32 @@ fn are_true(replay: &mut Node, entry: &Option<Entry>, here: &[&Receipt]) -> Resu
 }
 
 /// Whether a receipt is true here.
-fn is_true(replay: &mut Node, entry: &Option<Entry>, receipt: &Receipt) -> Result<bool, AllocError>
+fn is_true(
+    replay: &mut Node,
+    entry: &Option<Recorded>,
+    receipt: &Receipt,
+) -> Result<bool, AllocError>
     requires { IsNext replay.old entry.now }
     ensures is { IfOk result (λ yes. IsTrue yes ↔ IsTrueHere replay.old (event_in entry.now) receipt.now) }
     ensures same { replay.new ≡ replay.old }
 {
-    match receipt.call {
-        Call::Ask(question) => Ok(ask_outcome(replay, question)?.equals(&receipt.outcome)),
-        Call::Step(event) => Ok(match replay.look(&event) {
-            Ok(Effect::Counted) => is_recorded_here(entry, &event, &receipt.outcome),
-            Ok(Effect::Idle) => Outcome::Reply(Reply::Idle).equals(&receipt.outcome),
-            Err(fault) => Outcome::Refused(fault).equals(&receipt.outcome),
+    match &receipt.call {
+        Call::Ask(question) => Ok(ask_outcome(replay, *question)?.equals(&receipt.outcome)),
+        Call::Step(event) => Ok(match entry {
+            Some(entry) if entry.is_of(event) => receipt.outcome.is_reply(&entry.reply),
+            _ => is_unrecorded(replay, event, &receipt.outcome),
         }),
     }
 }
 
-/// Whether the entry is of this event, and its reply is the outcome.
-fn is_recorded_here(entry: &Option<Entry>, event: &Event, outcome: &Outcome) -> bool
-    ensures { IsTrue result ↔ IsEntryOf entry.now event.now outcome.now }
+/// Whether the outcome is due to the event, and it is not recorded.
+fn is_unrecorded(replay: &Node, event: &Event, outcome: &Outcome) -> bool
+    ensures { IsTrue result ↔ IsUnrecorded (due_at replay.now event.now) outcome.now }
 {
-    match entry {
-        Some(entry) => entry.event() == *event && Outcome::Reply(entry.reply()).equals(outcome),
-        None => false,
+    match replay.look(event) {
+        Ok(Effect::Counted) => false,
+        Ok(Effect::Idle) => Outcome::Reply(Reply::Idle).equals(outcome),
+        Err(fault) => Outcome::Refused(fault).equals(outcome),
     }
 }
 

@@ -3,6 +3,7 @@
 ghost use Rattle.std.specs.Prelude.{◌≡◌, IsTrue, ◌↔◌};
 ghost use Rattle.node_lock.specs.Receipts.{is_recorded_outcome};
 ghost use Rattle.node_lock.specs.declared.receipt.Call.TheVariants.{Step};
+ghost use Rattle.node_lock.specs.declared.receipt.Outcome.TheVariants.{Reply as Replied};
 
 use role_commands::Items;
 use role_node::{Answer, Event, NodeFault, Question, Reply};
@@ -73,6 +74,18 @@ impl Outcome {
         }
     }
 
+    /// Whether the outcome is this reply.
+    #[inline(always)]
+    pub(crate) fn is_reply(&self, reply: &Reply) -> bool
+        ensures { IsTrue result ↔ (self.now ≡ Replied reply.now) }
+    {
+        match self {
+            Outcome::Reply(said) => same_reply(said, reply),
+            Outcome::Answer(_) => false,
+            Outcome::Refused(_) => false,
+        }
+    }
+
     /// Whether two outcomes are equal.
     pub(crate) fn equals(&self, other: &Outcome) -> bool
         ensures { IsTrue result ↔ (self.now ≡ other.now) }
@@ -119,6 +132,7 @@ fn same_pairs(a: &Items<(u16, u32)>, b: &Items<(u16, u32)>) -> bool
 }
 
 /// Whether two replies are equal.
+#[inline(always)]
 fn same_reply(a: &Reply, b: &Reply) -> bool
     ensures { IsTrue result ↔ (a.now ≡ b.now) }
 {

@@ -1,17 +1,19 @@
 -- What an audit does at one place of the history.
-use Rattle.std.specs.Prelude.{◌≡◌, ℕ, ◌<◌, ◌≤◌, IsTrue, List, map, Option, Some}
-use Rattle.std.specs.Prelude.{None, IsSome, Ok, All, Contains, count_by, ⊤}
+use Rattle.std.specs.Prelude.{◌≡◌, ℕ, ◌<◌, ◌≤◌, false, IsTrue, List, map, Option, Some}
+use Rattle.std.specs.Prelude.{None, IsSome, Result, Ok, All, Contains, count_by, ⊤}
 use Rattle.std.specs.List.Sorted.{IsNonDecreasingBy}
 use Rattle.std.specs.Borrow.{Bor}
-use Rattle.role_node.specs.Answers.{EntryValue, is_recorded}
+use Rattle.role_node.specs.Answers.{is_recorded}
 use Rattle.role_node.specs.Nodes.{NodeValue, due_at}
 use Rattle.role_node.specs.declared.event.Event.{Event}
+use Rattle.role_node.specs.declared.event.Reply.{Reply}
+use Rattle.role_node.specs.declared.faults.NodeFault.{NodeFault}
 use Rattle.node_lock.specs.Audits.{IsEventOf, recorded_at}
-use Rattle.node_lock.specs.Receipts.{outcome_due, is_recorded_outcome}
+use Rattle.node_lock.specs.Receipts.{outcome_due, outcome_from, is_recorded_outcome}
 use Rattle.node_lock.specs.declared.audits.AuditFault.{AuditFault}
 use Rattle.node_lock.specs.declared.audits.AuditFault.TheVariants.{Missing, Doubled, Differs, Memory}
+use Rattle.node_lock.specs.declared.audits.Recorded.{Recorded}
 use Rattle.node_lock.specs.declared.receipt.Outcome.{Outcome}
-use Rattle.node_lock.specs.declared.receipt.Outcome.TheVariants.{Reply as Replied}
 use Rattle.node_lock.specs.declared.receipt.Receipt.{Receipt}
 
 -- the receipts behind the references
@@ -27,12 +29,12 @@ pub record IsRest (receipts : List Receipt) (place : ℕ) (rest : List Receipt) 
   pub among : (r : Receipt) → Contains rest r → Contains receipts r
 
 -- the event of an entry
-abbrev pub event_in : Option EntryValue → Option Event
+abbrev pub event_in : Option Recorded → Option Event
 event_in None = None
 event_in (Some entry) = Some entry.event
 
 -- the entry's reply is due after the node's history, and its event is recorded
-abbrev pub IsNext : NodeValue → Option EntryValue → Type 0
+abbrev pub IsNext : NodeValue → Option Recorded → Type 0
 IsNext node None = ⊤
 IsNext node (Some entry) = (due_at node entry.event ≡ Ok entry.reply) × IsTrue (is_recorded (Ok entry.reply))
 
@@ -41,10 +43,9 @@ pub record IsTrueHere (node : NodeValue) (at : Option Event) (r : Receipt) : Typ
   pub outcome : r.outcome ≡ outcome_due node r.call
   pub event : IsTrue (is_recorded_outcome r.outcome) → IsEventOf at r.call
 
--- the entry is of this event, and its reply is the outcome
-abbrev pub IsEntryOf : Option EntryValue → Event → Outcome → Type 0
-IsEntryOf None event outcome = ⊥
-IsEntryOf (Some entry) event outcome = (entry.event ≡ event) × (Replied entry.reply ≡ outcome)
+-- the outcome is that of the due reply, whose event is not recorded
+abbrev pub IsUnrecorded : Result Reply NodeFault → Outcome → Type 0
+IsUnrecorded due outcome = (is_recorded due ≡ false) × (outcome ≡ outcome_from due)
 
 -- how many of the receipts are of recorded events
 abbrev pub recorded_in : List Receipt → ℕ

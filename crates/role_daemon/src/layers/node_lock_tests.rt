@@ -161,7 +161,7 @@ fn close_at_last<L: Ledger>(
     Ok(node)
 }
 
-/// The three receipts are true; with the first one altered, left out or doubled they are not.
+/// The three receipts are true in any order; with the first one altered, left out or doubled they are not.
 fn audit_three(
     rt: &impl Abort,
     alloc: Global,
@@ -184,6 +184,9 @@ fn audit_three(
     receipts.push(open)?;
     let found = audit(alloc, node, &receipts);
     assert!(rt; found == Ok(()), "all three: {found:?}");
+    receipts.reverse();
+    let found = audit(alloc, node, &receipts);
+    assert!(rt; found == Ok(()), "from the last to the first: {found:?}");
     receipts.push(opening_receipt(1))?;
     let found = audit(alloc, node, &receipts);
     assert!(rt;

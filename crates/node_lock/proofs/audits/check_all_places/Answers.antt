@@ -19,8 +19,8 @@ from_on : (sorted : List (Bor Receipt)) (done : ℕ) → receipts_of (take (leng
     ≡ receipts_of (drop done sorted)
 from_on sorted done = ap receipts_of (take_rest sorted done)
 
-pub returns-in_err-check_place-clause-err : goal.returns-in_err-check_place-clause-err
-returns-in_err-check_place-clause-err c =
+pub returns-in_err-check_recorded-clause-err : goal.returns-in_err-check_recorded-clause-err
+returns-in_err-check_recorded-clause-err c =
     let split : IsSplit c.args.receipts.now c.loop-place.place
     (receipts_of (drop c.loop-place.done c.as_slice-sorted.result.now))
     (receipts_of c.split_at_place.result.0.now) (receipts_of c.split_at_place.result.1.now) = record {
@@ -29,12 +29,12 @@ returns-in_err-check_place-clause-err c =
       same = c.split_at_place.ensures.here;
       above = c.split_at_place.ensures.later;
     } in
-    let p = err_from_is_err_and c.from_residual-in_err-check_place.result
-    c.from_residual-in_err-check_place.ensures.1 in
+    let p = err_from_is_err_and c.from_residual-in_err-check_recorded.result
+    c.from_residual-in_err-check_recorded.ensures.1 in
     rw (p.1, p.2)
     (fault_found c.args.node.now c.args.receipts.now c.loop-place.place _ _ _ split c.loop-place.invariant.right _
     c.loop-place.replay (Some c.entry_at-entry.result.event) c.loop-place.invariant.replay
-    c.entry_at-entry.ensures.event c.in_err-check_place.ensures.err)
+    c.entry_at-entry.ensures.event c.in_err-check_recorded.ensures.err)
 
 pub loop-place-preserved : goal.loop-place-preserved
 loop-place-preserved c =
@@ -51,7 +51,7 @@ loop-place-preserved c =
     right_found c.args.node.now c.args.receipts.now c.loop-place.place _ _ _ split within
     c.loop-place.replay (Some c.entry_at-entry.result.event) c.loop-place.invariant.replay
     c.entry_at-entry.ensures.event
-    c.in_ok-check_place.ensures.ok in
+    c.in_ok-check_recorded.ensures.ok in
     let P : List Receipt → Type 0 = λ rs. IsRest c.args.receipts.now (c.loop-place.place + 1) rs in
     record {
       done =
@@ -67,15 +67,14 @@ loop-place-preserved c =
           c.split_at_place.ensures.here c.split_at_place.ensures.later);
       replay =
           c.in_ok-advance.ensures
-          ∙ ap (with_event c.check_place.new.replay) c.event.ensures
           ∙ ap (λ (n : NodeValue). with_event n c.entry_at-entry.result.event)
-          (c.in_ok-check_place.ensures.same ∙ c.loop-place.invariant.replay)
+          (c.in_ok-check_recorded.ensures.same ∙ c.loop-place.invariant.replay)
           ∙ one_further c.args.node.now c.loop-place.place c.entry_at-entry.result.event
           c.entry_at-entry.ensures.event;
     }
 
-pub returns-in_err-check_place-2-clause-err : goal.returns-in_err-check_place-2-clause-err
-returns-in_err-check_place-2-clause-err c =
+pub returns-in_err-check_place-clause-err : goal.returns-in_err-check_place-clause-err
+returns-in_err-check_place-clause-err c =
     let at_end : c.loop-place.place ≡ c.events-end.result = omega arith in
     let end : slice_get c.args.node.now.history c.events-end.result ≡ None =
     slice_get_past c.args.node.now.history c.events-end.result (omega arith) in
@@ -90,12 +89,12 @@ returns-in_err-check_place-2-clause-err c =
       same = c.split_at_place-2.ensures.here;
       above = c.split_at_place-2.ensures.later;
     } in
-    let p = err_from_is_err_and c.from_residual-in_err-check_place-2.result
-    c.from_residual-in_err-check_place-2.ensures.1 in
+    let p = err_from_is_err_and c.from_residual-in_err-check_place.result
+    c.from_residual-in_err-check_place.ensures.1 in
     rw (p.1, p.2)
     (fault_found c.args.node.now c.args.receipts.now c.events-end.result _ _ _ split
     (subst B at_end c.loop-place.invariant.right) _ c.loop-place.replay None
-    (c.loop-place.invariant.replay ∙ ap (node_at c.args.node.now) at_end) end c.in_err-check_place-2.ensures.err)
+    (c.loop-place.invariant.replay ∙ ap (node_at c.args.node.now) at_end) end c.in_err-check_place.ensures.err)
 
 pub returns-in-Some-clause-err : goal.returns-in-Some-clause-err
 returns-in-Some-clause-err c =
@@ -118,7 +117,7 @@ returns-in-Some-clause-err c =
     right_found node rs (length node.history) _ _ _ split (omega arith) c.loop-place.replay None
     (c.loop-place.invariant.replay ∙ ap (node_at node) at_end)
     (slice_get_past node.history (length node.history) (omega arith))
-    c.in_ok-check_place-2.ensures.ok in
+    c.in_ok-check_place.ensures.ok in
     let before = right_before node rs (length node.history) (subst B at_end c.loop-place.invariant.right) right in
     let first =
     least_first c.split_at_place-2.result.1.now c.in-Some.receipt.now (sym c.in-Some.ensures.value)
@@ -146,7 +145,7 @@ returns-clause-ok c =
     right_found node rs (length node.history) _ _ _ split (omega arith) c.loop-place.replay None
     (c.loop-place.invariant.replay ∙ ap (node_at node) at_end)
     (slice_get_past node.history (length node.history) (omega arith))
-    c.in_ok-check_place-2.ensures.ok in
+    c.in_ok-check_place.ensures.ok in
     let before = right_before node rs (length node.history) (subst B at_end c.loop-place.invariant.right) right in
     let none = none_first c.split_at_place-2.result.1.now (sym c.in-None.ensures.value) in
     let L : List Receipt → Type 0 = λ later. IsSplit rs (length node.history)

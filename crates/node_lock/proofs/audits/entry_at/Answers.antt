@@ -13,3 +13,4 @@ returns-clause-next c =
     c.history.ensures.replies c.history.ensures.legal
     (slice_get_read entries (length entries) c.args.place c.index-history-place.result refl
     (omega arith) c.index-history-place.is)
+    c.event.result c.reply.result c.event.ensures c.reply.ensures
