@@ -35,6 +35,13 @@ due-none s bytes refused = by_test (nat_lt most_line_bytes (length bytes))
     by_test false = rw refused
     by_test true = refl
 
+-- what a text asks that is an object
+pub asks-object : (s : Counts) (text : List ℕ) (ms : Members) → IsUtf8 text → read text ≡ Some (object ms)
+    → request_if_named s (option_and_then as_str (member_of Op (object ms))) (object ms)
+    ≡ request_if_json s (json_of text)
+unfolding request_of_value
+asks-object s text ms utf8 is = rw (json_of-some text (object ms) utf8 is) refl
+
 -- what bytes ask that are an object
 pub due-object : (s : Counts) (bytes : List ℕ) (ms : Members) → length bytes ≤ most_line_bytes → IsUtf8 bytes
     → read bytes ≡ Some (object ms)

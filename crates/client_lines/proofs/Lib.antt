@@ -2,3 +2,4 @@ pub mod JsonLemmas
 pub mod LineLemmas
 pub mod ObjectReading
 pub mod Joins
+pub mod CompactLemmas

@@ -6,7 +6,7 @@ use Rattle.json.specs.Token.{Token}
 use Rattle.json.specs.Json as json
 use Rattle.json.specs.Json.{Parse, parse_map, read_key, members, if_last, value}
 use Rattle.json.specs.Lex.{tokens}
-use Rattle.json.proofs.Grammar.{members_end, members_more, value-begin_object}
+use Rattle.json.proofs.Grammar.{left, members_end, members_more, value-begin_object, skip_value-shorter}
 use Rattle.serde_json.specs.Data.{Data, object, Members, no_members, put}
 use Rattle.serde_json.specs.Read.{of_json, of_members, converted, read}
 
@@ -24,6 +24,12 @@ converted_some : {A B : Type 0} (f : A → Option B) (o : Option (A × List Toke
 converted_some f None b r e = absurd (cc)
 converted_some f (Some p) b r e =
     let both = found p.0 p.1 r (f p.0) b e in (p.0, ap (λ s. Some (p.0, s)) both.0, both.1)
+
+-- a value that was read takes at least one token
+pub value_shorter : (ts r : List Token) (d : Data) → converted of_json (value 126 ts) ≡ Some (d, r)
+    → length r < length ts
+value_shorter ts r d e =
+    let j = converted_some of_json (value 126 ts) d r e in skip_value-shorter 126 ts r (ap left j.1)
 
 with_member : (k : List ℕ) (j : json.Json) (d : Data) (old : Members) → of_json j ≡ Some d
     → (o : Option (json.Members × List Token)) → converted (λ ms. of_members ms old) (parse_map (json.member k j) o)
@@ -45,6 +51,25 @@ member_read p old n k ts s r d some key e =
 pub members_over : (p : Parse json.Json) (old : Members) (n : ℕ) (ts r : List Token) → length ts ≤ n
     → read_key ts ≡ Some (None, r) → converted (λ ms. of_members ms old) (members p n ts) ≡ Some (old, r)
 members_over p old n ts r enough e = ap (converted (λ ms. of_members ms old)) (members_end p n ts r enough e)
+
+-- one member more is read of all, and what follows is passed
+pub read_on : (all : Option (Members × List Token)) (old : Members) (n : ℕ) (k : List ℕ) (ts s r next : List Token)
+    (d : Data) → all ≡ converted (λ ms. of_members ms old) (members (value 126) n ts) → 0 < n
+    → read_key ts ≡ Some (Some k, s) → converted of_json (value 126 s) ≡ Some (d, r) → r ≡ next
+    → all ≡ converted (λ ms. of_members ms (put k d old)) (members (value 126) (n - 1) next)
+read_on all old n k ts s r next d before some key e passed =
+    before ∙ member_read (value 126) old n k ts s r d some key e
+    ∙ ap (λ t. converted (λ ms. of_members ms (put k d old)) (members (value 126) (n - 1) t)) passed
+
+-- the last member of all is read
+pub read_last : (all : Option (Members × List Token)) (old : Members) (n : ℕ) (k : List ℕ) (ts s r next : List Token)
+    (d : Data) → all ≡ converted (λ ms. of_members ms old) (members (value 126) n ts) → length ts ≤ n
+    → length s < length ts → length r < length s → read_key ts ≡ Some (Some k, s)
+    → converted of_json (value 126 s) ≡ Some (d, r) → read_key r ≡ Some (None, next)
+    → all ≡ Some (put k d old, next)
+read_last all old n k ts s r next d before enough less shorter key e over =
+    read_on all old n k ts s r r d before (omega arith) key e refl
+    ∙ members_over (value 126) (put k d old) (n - 1) r next (omega arith) over
 
 -- a key was read, or the end
 pub key_found : {E : Type 0} (r : Result (Option (Bor (List ℕ))) E) (key : Option (Bor (List ℕ))) (old new : List Token)

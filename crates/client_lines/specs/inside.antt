@@ -1,2 +1,3 @@
 -- What serves the code and no public contract.
 pub mod Says
+pub mod Compact

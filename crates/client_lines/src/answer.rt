@@ -1,16 +1,16 @@
 //! What a node answers to a client's line, and how an answer is written.
 
-ghost use Rattle.std.specs.Prelude.{◌≡◌, ℕ, List, Some, IfOk, codes, string_bytes};
+ghost use Rattle.std.specs.Prelude.{◌≡◌, ◌++◌, decimal, IfOk, OnOk, codes, string_bytes};
 ghost use Rattle.std.specs.List.{join_by};
 ghost use Rattle.client_lines.specs.AnswerTexts as texts;
 ghost use Rattle.client_lines.specs.AnswerTexts.{IsWritten};
 
 use crate::fault::LineFault;
+use itoa::{Buffer, Integer};
 use link_frames::Place;
 use role_commands::Items;
 use role_node::{NodeFault, Verdict};
 use std::alloc::{AllocError, Global};
-use std::fmt::{Display, Write};
 
 /// What a node answers to a client line. `at` is how many events the node had recorded then.
 #[derive(Drop, Debug)]
@@ -75,21 +75,13 @@ pub fn answer_text(alloc: Global, answer: &ClientAnswer) -> Result<String, Alloc
         ClientAnswer::Session(id) => number_text(alloc, "session", *id),
         ClientAnswer::Done => String::from_str(alloc, "{\"done\":true}"),
         ClientAnswer::Verdict { at, verdict } => verdict_text(alloc, *at, verdict),
-        ClientAnswer::Users { at, users } => {
-            let items = numbers_text(alloc, users.as_slice())?;
-            list_text(alloc, *at, "users", &items)
-        }
-        ClientAnswer::Roles { at, roles } => {
-            let items = numbers_text(alloc, roles.as_slice())?;
-            list_text(alloc, *at, "roles", &items)
-        }
+        ClientAnswer::Users { at, users } => numbers_text(alloc, *at, "users", users.as_slice()),
+        ClientAnswer::Roles { at, roles } => numbers_text(alloc, *at, "roles", roles.as_slice()),
         ClientAnswer::Permissions { at, permissions } => {
-            let items = permissions_text(alloc, permissions.as_slice())?;
-            list_text(alloc, *at, "permissions", &items)
+            permissions_text(alloc, *at, permissions.as_slice())
         }
         ClientAnswer::Operations { at, operations } => {
-            let items = numbers_text(alloc, operations.as_slice())?;
-            list_text(alloc, *at, "operations", &items)
+            numbers_text(alloc, *at, "operations", operations.as_slice())
         }
         ClientAnswer::Reach(reach) => number_text(alloc, "reach", u64::from(*reach)),
         ClientAnswer::Again(messages) => number_text(alloc, "again", u64::from(*messages)),
@@ -102,13 +94,21 @@ pub fn answer_text(alloc: Global, answer: &ClientAnswer) -> Result<String, Alloc
 fn issued_text(alloc: Global, place: Place, reach: u32) -> Result<String, AllocError>
     ensures { IfOk result (λ text. string_bytes text ≡ texts.issued_text place reach) }
 {
-    format!(in alloc; "{{\"issued\":{place},\"reach\":{reach}}}")
+    let (mut first, mut second) = (Buffer::new(), Buffer::new());
+    joined(
+        alloc,
+        "{\"issued\":",
+        first.format(place),
+        ",\"reach\":",
+        second.format(reach),
+        "}",
+    )
 }
 
 fn number_text(alloc: Global, name: &str, number: u64) -> Result<String, AllocError>
     ensures { IfOk result (λ text. string_bytes text ≡ texts.number_text name.now number) }
 {
-    format!(in alloc; "{{\"{name}\":{number}}}")
+    joined(alloc, "{\"", name, "\":", Buffer::new().format(number), "}")
 }
 
 fn verdict_text(alloc: Global, at: u32, verdict: &Verdict) -> Result<String, AllocError>
@@ -123,46 +123,152 @@ fn verdict_text(alloc: Global, at: u32, verdict: &Verdict) -> Result<String, All
 fn allow_text(alloc: Global, at: u32, role: u16) -> Result<String, AllocError>
     ensures { IfOk result (λ text. string_bytes text ≡ texts.allow_text at role) }
 {
-    format!(in alloc; "{{\"allow\":true,\"at\":{at},\"role\":{role}}}")
+    let (mut first, mut second) = (Buffer::new(), Buffer::new());
+    joined(
+        alloc,
+        "{\"allow\":true,\"at\":",
+        first.format(at),
+        ",\"role\":",
+        second.format(role),
+        "}",
+    )
 }
 
 fn deny_text(alloc: Global, at: u32, code: &str) -> Result<String, AllocError>
     ensures { IfOk result (λ text. string_bytes text ≡ texts.deny_text at code.now) }
 {
-    format!(in alloc; "{{\"allow\":false,\"at\":{at},\"rule\":\"{code}\"}}")
+    joined(
+        alloc,
+        "{\"allow\":false,\"at\":",
+        Buffer::new().format(at),
+        ",\"rule\":\"",
+        code,
+        "\"}",
+    )
 }
 
-fn list_text(alloc: Global, at: u32, name: &str, items: &str) -> Result<String, AllocError>
-    ensures { IfOk result (λ text. string_bytes text ≡ texts.list_text at name.now items.now) }
+/// The text of a listing of numbers.
+fn numbers_text<T: Integer>(
+    alloc: Global,
+    at: u32,
+    name: &str,
+    numbers: &[T],
+) -> Result<String, AllocError>
+    ensures { IfOk result (λ text. string_bytes text
+        ≡ texts.list_text at name.now (join_by T.text (codes ",") numbers.now)) }
 {
-    format!(in alloc; "{{\"at\":{at},\"{name}\":[{items}]}}")
-}
-
-fn numbers_text<T: Display>(alloc: Global, numbers: &[T]) -> Result<String, AllocError>
-    ghost written: { T → List ℕ }
-    requires { (number : T) → T.output number ≡ Some (written number) }
-    ensures { IfOk result (λ text. string_bytes text ≡ join_by written (codes ",") numbers.now) }
-{
-    let Some((first, others)) = numbers.split_first() else {
-        return Ok(String::new(alloc));
-    };
-    let mut text = format!(in alloc; "{first}")?;
-    for number in others {
-        write!(text, ",{number}")?;
-    }
+    let mut text = list_front(alloc, at, name)?;
+    add_numbers(&mut text, numbers)?;
+    text.push_str("]}")?;
     Ok(text)
 }
 
-fn permissions_text(alloc: Global, permissions: &[(u16, u32)]) -> Result<String, AllocError>
-    ensures { IfOk result (λ text. string_bytes text ≡ texts.permissions_text permissions.now) }
+/// The text of a listing of permissions.
+fn permissions_text(
+    alloc: Global,
+    at: u32,
+    permissions: &[(u16, u32)],
+) -> Result<String, AllocError>
+    ensures { IfOk result (λ text. string_bytes text
+        ≡ texts.list_text at (codes "permissions") (texts.permissions_text permissions.now)) }
+{
+    let mut text = list_front(alloc, at, "permissions")?;
+    add_permissions(&mut text, permissions)?;
+    text.push_str("]}")?;
+    Ok(text)
+}
+
+/// The text of a listing up to its first item.
+fn list_front(alloc: Global, at: u32, name: &str) -> Result<String, AllocError>
+    ensures { IfOk result (λ text. string_bytes text
+        ≡ codes "{\"at\":" ++ (decimal at ++ (codes ",\"" ++ (name.now ++ codes "\":[")))) }
+{
+    joined(
+        alloc,
+        "{\"at\":",
+        Buffer::new().format(at),
+        ",\"",
+        name,
+        "\":[",
+    )
+}
+
+/// Adds the numbers, with a comma between each two.
+fn add_numbers<T: Integer>(text: &mut String, numbers: &[T]) -> Result<(), AllocError>
+    ensures { OnOk result (string_bytes text.new
+        ≡ string_bytes text.old ++ join_by T.text (codes ",") numbers.now) }
+{
+    let Some((first, others)) = numbers.split_first() else {
+        return Ok(());
+    };
+    let mut digits = Buffer::new();
+    text.push_str(digits.format(*first))?;
+    for number in others {
+        text.push_str(",")?;
+        text.push_str(digits.format(*number))?;
+    }
+    Ok(())
+}
+
+/// Adds the permissions, with a comma between each two.
+fn add_permissions(text: &mut String, permissions: &[(u16, u32)]) -> Result<(), AllocError>
+    ensures { OnOk result (string_bytes text.new
+        ≡ string_bytes text.old ++ texts.permissions_text permissions.now) }
 {
     let Some((&(operation, object), others)) = permissions.split_first() else {
-        return Ok(String::new(alloc));
+        return Ok(());
     };
-    let mut text = format!(in alloc; "[{operation},{object}]")?;
+    add_permission(text, "[", operation, object)?;
     for &(operation, object) in others {
-        write!(text, ",[{operation},{object}]")?;
+        add_permission(text, ",[", operation, object)?;
     }
+    Ok(())
+}
+
+/// Adds a permission behind what opens it.
+fn add_permission(
+    text: &mut String,
+    opening: &str,
+    operation: u16,
+    object: u32,
+) -> Result<(), AllocError>
+    ensures { OnOk result (string_bytes text.new ≡ string_bytes text.old
+        ++ (opening.now ++ (decimal operation ++ (codes "," ++ (decimal object ++ codes "]"))))) }
+{
+    let mut digits = Buffer::new();
+    text.push_str(opening)?;
+    text.push_str(digits.format(operation))?;
+    text.push_str(",")?;
+    text.push_str(digits.format(object))?;
+    text.push_str("]")
+}
+
+/// Two texts within three others, in memory that they just fill.
+#[inline(always)]
+fn joined(
+    alloc: Global,
+    front: &str,
+    first: &str,
+    between: &str,
+    second: &str,
+    end: &str,
+) -> Result<String, AllocError>
+    ensures { IfOk result (λ text. string_bytes text
+        ≡ front.now ++ (first.now ++ (between.now ++ (second.now ++ end.now)))) }
+{
+    let inner = first
+        .len()
+        .saturating_add(between.len())
+        .saturating_add(second.len());
+    let mut text = String::with_capacity(
+        alloc,
+        front.len().saturating_add(inner).saturating_add(end.len()),
+    )?;
+    text.push_str(front)?;
+    text.push_str(first)?;
+    text.push_str(between)?;
+    text.push_str(second)?;
+    text.push_str(end)?;
     Ok(text)
 }
 

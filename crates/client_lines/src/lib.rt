@@ -5,6 +5,7 @@
 #![tactic(auto)]
 
 mod answer;
+mod compact;
 mod fault;
 mod flat;
 mod json_value;

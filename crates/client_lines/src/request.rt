@@ -10,6 +10,7 @@ ghost use Rattle.client_lines.specs.inside.Says.{Says};
 ghost use Rattle.client_lines.specs.Requests as lines;
 ghost use Rattle.client_lines.specs.Requests.{request_due, most_line_bytes};
 
+use crate::compact::compact_line;
 use crate::fault::LineFault;
 use crate::flat::flat_line;
 use crate::json_value::read_json;
@@ -89,9 +90,21 @@ impl RequestReader {
         let Ok(text) = str::from_utf8(bytes) else {
             return Err(LineFault::NotJson);
         };
+        if let Some(line) = compact_line(text) {
+            return request_of_line(sizes, &line);
+        }
+        self.read_other(sizes, text)
+    }
+
+    /// What a line asks that is not written as most clients write theirs.
+    #[inline(never)]
+    fn read_other(&mut self, sizes: &Sizes, text: &str) -> Result<Request, LineFault>
+        ensures due { (result ≡ lines.request_if_json sizes.now (json_of text.now)) ⊎ (result ≡ Err LineFault.Memory) }
+        ensures nodes { IfOk result (lines.NamesNodes sizes.now) }
+    {
         match flat_line(text, &mut self.scratch)? {
             Some(line) => request_of_line(sizes, &line),
-            None => read_any(self.alloc, sizes, bytes),
+            None => read_any(self.alloc, sizes, text.as_bytes()),
         }
     }
 }

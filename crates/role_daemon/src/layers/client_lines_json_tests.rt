@@ -587,6 +587,36 @@ fn objects(rt: HostRuntime) {
     compare(&rt, rt.alloc(), &REPEATED_MEMBERS);
 }
 
+/// Lines in which one byte decides how they are read: numbers of 19 and 20 digits, names of small letters and others,
+/// and a blank that no line needs.
+static NEARLY_PLAIN: [(&str, Due); 20] = [
+    (r#"{"op":"stop","x":9999999999999999999}"#, Ok(Stop)),
+    (r#"{"op":"stop","x":10000000000000000000}"#, Ok(Stop)),
+    (r#"{"op":"stop","x":99999999999999999999}"#, Ok(Stop)),
+    (r#"{"op":"stop","x":0}"#, Ok(Stop)),
+    (r#"{"op":"stop","x":00}"#, NOT_JSON),
+    (r#"{"op":"stop","x":1x}"#, NOT_JSON),
+    (r#"{"op":"stop","x":1:2}"#, NOT_JSON),
+    (r#"{"op":"stop","x":"y":0}"#, NOT_JSON),
+    (r#"{"op":"stop","_":0}"#, Ok(Stop)),
+    (r#"{"op":"stop","^":0}"#, Ok(Stop)),
+    (r#"{"op":"stop","X":0}"#, Ok(Stop)),
+    ("{\"op\":\"stop\",\"\u{f6}\":0}", Ok(Stop)),
+    ("{\"op\":\"stop\",\"x\":\"\u{7f}\u{1f600}\"}", Ok(Stop)),
+    (r#"{"op":"stop","x":"y\u007a"}"#, Ok(Stop)),
+    (r#"{"op":"open","user":7,"user":8}"#, Ok(Open(8))),
+    (r#"{"op":"open","user":7,"user": 8}"#, Ok(Open(8))),
+    (r#"{"op":"open","user":7,"user":"x"}"#, OUT_OF_RANGE),
+    (r#"{"op":"open","x":"user"}"#, MISSING_USER),
+    (r#"{"op":"stop","x":0,}"#, NOT_JSON),
+    (r#"{"op":"stop","x":0}}"#, NOT_JSON),
+];
+
+#[test]
+fn nearly_plain(rt: HostRuntime) {
+    compare(&rt, rt.alloc(), &NEARLY_PLAIN);
+}
+
 #[test]
 fn no_texts(rt: HostRuntime) {
     compare(&rt, rt.alloc(), &NO_TEXTS);

@@ -9,7 +9,7 @@ returns-in_default-clause-due c =
 
 pub returns-in-Some-clause-due : goal.returns-in-Some-clause-due
 returns-in-Some-clause-due c =
-    let said = rw c.in-Some.is at c.in_ok-line.ensures in
+    let said = c.in-Some.ensures in
     let same = c.in-Ok.ensures.cases in
     inl (c.request_of_line.ensures.value _ said.2
     ∙ due-object _ _ said.0 c.if-bytes-gt-MOST_LINE_BYTES.false same.1 (ap read (sym same.0) ∙ said.1))

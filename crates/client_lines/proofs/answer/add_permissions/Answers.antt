@@ -1,9 +1,8 @@
-use Rattle.std.proofs.Common.{◌∙◌, ℕ, List, ap, ◌++◌, codes, get_or, string_bytes, take}
-use Rattle.std.specs.List.{flat_map}
+use Rattle.std.proofs.Common.{◌∙◌, ℕ, List, ap, ◌++◌, codes, get_or, string_bytes}
 use Rattle.client_lines.specs.AnswerTexts.{permission_text}
 use Rattle.link_frames.proofs.Exported.{written_more}
-use Rattle.client_lines.proofs.Joins.{all_joined, permission-grouped, permission-whole}
-use Rattle.client_lines.proofs.answer.permissions_text.Goals as goal
+use Rattle.client_lines.proofs.Joins.{all_added, permission-grouped, permission-whole}
+use Rattle.client_lines.proofs.answer.add_permissions.Goals as goal
 
 pub loop-operation-preserved : goal.loop-operation-preserved
 loop-operation-preserved c =
@@ -11,7 +10,7 @@ loop-operation-preserved c =
     let i = c.loop-operation.operation-index in
     let p = get_or xs i (0, 0) in
     let text = string_bytes c.loop-operation.text in
-    c.in_ok-write.ensures.bytes
+    c.in_ok-add_permission-2.ensures
     ∙ ap (λ (item : List ℕ). text ++ item) (permission-grouped p)
     ∙ ap (λ (front : List ℕ). front ++ (codes "," ++ permission_text p)) c.loop-operation.invariant
     ∙ written_more (λ y. codes "," ++ permission_text y) _ xs i (0, 0) c.loop-operation-test.true
@@ -20,7 +19,8 @@ pub returns : goal.returns
 returns c =
     let i = c.loop-operation.operation-index in
     let first = c.in-Some.field-0-0.now in
-    all_joined permission_text (codes ",") _ _ first _ i c.in-Some.ensures.cases.0 c.loop-operation-test.false
-    (c.loop-operation.invariant
-    ∙ ap (λ (front : List ℕ). front ++ flat_map (λ y. codes "," ++ permission_text y) (take i c.in-Some.others.now))
-    (c.in_ok-text.ensures.ok ∙ permission-whole first))
+    let before = string_bytes c.args.text.now in
+    all_added permission_text (codes ",") before _ _ _ first _ i c.in-Some.ensures.cases.0
+    c.loop-operation-test.false
+    (c.in_ok-add_permission.ensures ∙ ap (λ (item : List ℕ). before ++ item) (permission-whole first))
+    c.loop-operation.invariant

@@ -1,0 +1,191 @@
+-- What the lexer and the grammar make of a line at a place.
+use Rattle.std.proofs.Common.{◌≡◌, ◌∙◌, ◌⊎◌, inl, inr, ℕ, suc, ◌+◌, ◌-◌, ◌*◌, ◌/◌, ◌%◌, ◌^◌, ◌<◌, ◌≤◌}
+use Rattle.std.proofs.Common.{Bool, true, false, cond, refl, sym, ap, ap₂, subst, arith}
+use Rattle.std.proofs.Common.{List, [], ◌∷◌, ◌++◌, length, take, drop, get_or, Some, None, decimal}
+use Rattle.std.proofs.lemmas.List.{drop_more, drop_all, drop-drop, take-append-drop, append_assoc}
+use Rattle.std.proofs.lemmas.Bool.{leb-true, false≢true}
+use Rattle.std.proofs.lemmas.Fmt.{decimal_step, decimal_digit}
+use Rattle.std.specs.List.{prefix_len}
+use Rattle.json.specs.Token.{Token}
+use Rattle.json.specs.Text.{content, plain}
+use Rattle.json.specs.Word.{ends_word}
+use Rattle.json.specs.Lex.{Lexeme, token, colon, string_token, lex, between, in_string}
+use Rattle.json.specs.Lex.{Place, fresh, after_value, after_comma}
+use Rattle.json.specs.Lex.{after_key, may_begin, punctuate, tokens}
+use Rattle.json.specs.Print.{escape}
+use Rattle.json.specs.Json.{value, read_key}
+use Rattle.json.proofs.Grammar.{value_is}
+use Rattle.json.proofs.Printed.Strings.{content-escape, lex-escape, escape_byte_plain}
+use Rattle.json.proofs.Printed.Numbers.{lex-number}
+use Rattle.json.proofs.Printed.Decimals.{IsNumber-decimal}
+use Rattle.serde_json.specs.Data.{number, string, unsigned}
+use Rattle.serde_json.specs.Read.{of_json, converted}
+use Rattle.serde_json.proofs.Numbers.{number_of-decimal}
+use Rattle.client_lines.specs.inside.Compact.{is_plain, tokens_from, IsQuoted, EndsValue}
+
+-- ---- texts
+
+escape_byte_more : (p : Bool) (x n : ℕ) (xs : List ℕ) → p ≡ is_plain x → escape (take n xs) ≡ take n xs
+    → escape (take (cond p (1 + n) 0) (x ∷ xs)) ≡ take (cond p (1 + n) 0) (x ∷ xs)
+escape_byte_more false x n xs e more = refl
+escape_byte_more true x n xs e more =
+    let next : 1 + n ≡ suc n = omega arith in
+    let above : 95 ≤ x = leb-true 95 x (sym e) in
+    rw next
+    (ap₂ (λ (a b : List ℕ). a ++ b)
+    (escape_byte_plain x (λ same. omega arith) (λ same. omega arith) (omega arith)) more)
+
+-- plain bytes need no escape
+escape_front : (xs : List ℕ) → escape (take (prefix_len is_plain xs) xs) ≡ take (prefix_len is_plain xs) xs
+escape_front [] = refl
+escape_front (x ∷ xs) = escape_byte_more (is_plain x) x (prefix_len is_plain xs) xs refl (escape_front xs)
+
+lex-unescaped : (s rest : List ℕ) → escape s ≡ s
+    → lex between (34 ∷ (s ++ (34 ∷ rest))) ≡ token (Token.string s) ∷ lex between rest
+unfolding lex
+lex-unescaped s rest e =
+    ap₂ (λ o l. token (string_token o) ∷ l)
+    (ap (λ (t : List ℕ). content plain (t ++ (34 ∷ rest))) (sym e) ∙ content-escape s rest)
+    (ap (λ (t : List ℕ). lex in_string (t ++ (34 ∷ rest))) (sym e) ∙ lex-escape s rest)
+
+-- a byte, and what follows it
+pub byte_at : (line : List ℕ) (at x : ℕ) → at < length line → get_or line at 0 ≡ x
+    → drop at line ≡ x ∷ drop (at + 1) line
+byte_at line at x within e = drop_more line at 0 within ∙ ap (λ (y : ℕ). y ∷ drop (at + 1) line) e
+
+-- plain bytes between two quotes are a text
+pub quoted_at : (line : List ℕ) (at end : ℕ) → at < length line → get_or line at 0 ≡ 34
+    → end ≡ at + 1 + prefix_len is_plain (drop (at + 1) line) → end < length line → get_or line end 0 ≡ 34
+    → IsQuoted line at (take (end - (at + 1)) (drop (at + 1) line)) (end + 1)
+quoted_at line at end first opens is within closes =
+    let inside = drop (at + 1) line in
+    let n = end - (at + 1) in
+    let count : prefix_len is_plain inside ≡ n = omega arith in
+    let back : n + (at + 1) ≡ end = omega arith in
+    let behind : drop n inside ≡ 34 ∷ drop (end + 1) line =
+    drop-drop n (at + 1) line ∙ ap (λ k. drop k line) (omega arith) ∙ byte_at line end 34 within closes in
+    let whole : inside ≡ take n inside ++ (34 ∷ drop (end + 1) line) =
+    sym (take-append-drop n inside) ∙ ap (λ (l : List ℕ). take n inside ++ l) behind in
+    let bare : escape (take n inside) ≡ take n inside =
+    subst (λ k. escape (take k inside) ≡ take k inside) count (escape_front inside) in
+    record {
+      forward = omega arith;
+      within = omega arith;
+      lexed = ap (lex between) (byte_at line at 34 first opens ∙ ap (λ (l : List ℕ). 34 ∷ l) whole)
+          ∙ lex-unescaped (take n inside) (drop (end + 1) line) bare;
+    }
+
+-- ---- names
+
+key_first : (place : Place) (name : List ℕ) (ls : List Lexeme) → may_begin place ≡ true
+    → read_key (punctuate place (token (Token.string name) ∷ (colon ∷ ls))) ≡ Some (Some name, punctuate fresh ls)
+unfolding punctuate
+key_first fresh name ls e = refl
+key_first after_value name ls e = absurd (false≢true e)
+key_first after_comma name ls e = refl
+key_first after_key name ls e = absurd (false≢true e)
+
+-- a text before a colon is a name
+pub name_before_colon : (line : List ℕ) (at : ℕ) (name : List ℕ) (end : ℕ) → IsQuoted line at name end
+    → end < length line
+    → get_or line end 0 ≡ 58 → (place : Place) → may_begin place ≡ true
+    → read_key (tokens_from place line at) ≡ Some (Some name, tokens_from fresh line (end + 1))
+unfolding lex
+name_before_colon line at name end text within e place may =
+    ap (λ ls. read_key (punctuate place ls))
+    (text.lexed ∙ ap (λ (l : List ℕ). token (Token.string name) ∷ lex between l) (byte_at line end 58 within e))
+    ∙ key_first place name (lex between (drop (end + 1) line)) may
+
+-- ---- values
+
+text_first : (s behind : List ℕ) → (rest : List ℕ) × ((behind ≡ 44 ∷ rest) ⊎ (behind ≡ 125 ∷ rest))
+    → punctuate fresh (token (Token.string s) ∷ lex between behind)
+    ≡ Token.string s ∷ punctuate after_value (lex between behind)
+unfolding lex punctuate
+text_first s behind (rest, inl e) = rw e refl
+text_first s behind (rest, inr e) = rw e refl
+
+ends_there : (behind : List ℕ) → (rest : List ℕ) × ((behind ≡ 44 ∷ rest) ⊎ (behind ≡ 125 ∷ rest))
+    → ends_word behind ≡ true
+ends_there behind (rest, inl e) = rw e refl
+ends_there behind (rest, inr e) = rw e refl
+
+number_first : (n : ℕ) (behind : List ℕ) → n < 2 ^ 64 → (rest : List ℕ) × ((behind ≡ 44 ∷ rest) ⊎ (behind ≡ 125 ∷ rest))
+    → punctuate fresh (lex between (decimal n ++ behind))
+    ≡ Token.number (decimal n) ∷ punctuate after_value (lex between behind)
+unfolding punctuate
+number_first n behind h ends =
+    ap (punctuate fresh) (lex-number (decimal n) behind (IsNumber-decimal n h) (ends_there behind ends))
+
+-- a text that ends is a value
+pub text_value : (line : List ℕ) (at : ℕ) (s : List ℕ) (end : ℕ) → IsQuoted line at s end → EndsValue line end
+    → converted of_json (value 126 (tokens_from fresh line at)) ≡ Some (string s, tokens_from after_value line end)
+text_value line at s end text ends =
+    let is : tokens_from fresh line at ≡ Token.string s ∷ tokens_from after_value line end =
+    ap (punctuate fresh) text.lexed ∙ text_first s (drop end line) ends in
+    ap (converted of_json) (ap (value 126) is ∙ value_is 126 _)
+
+-- and so is a number
+pub number_value : (line : List ℕ) (at n end : ℕ) → n < 2 ^ 64 → drop at line ≡ decimal n ++ drop end line
+    → EndsValue line end
+    → converted of_json (value 126 (tokens_from fresh line at))
+    ≡ Some (number (unsigned n), tokens_from after_value line end)
+number_value line at n end h digits ends =
+    let is : tokens_from fresh line at ≡ Token.number (decimal n) ∷ tokens_from after_value line end =
+    ap (λ (l : List ℕ). punctuate fresh (lex between l)) digits ∙ number_first n (drop end line) h ends in
+    ap (converted of_json) (ap (value 126) is ∙ value_is 126 _) ∙ rw (number_of-decimal n h) refl
+
+-- one digit more
+pub decimal_more : (n c : ℕ) → 0 < n → n < 10 ^ 18 → 48 ≤ c → c ≤ 57
+    → decimal n ++ (c ∷ []) ≡ decimal (n * 10 + (c - 48))
+decimal_more n c some small low high =
+    let m = n * 10 + (c - 48) in
+    let front : m / 10 ≡ n = omega arith in
+    let last : 48 + m % 10 ≡ c = omega arith in
+    sym (decimal_step m (omega arith) (omega arith)
+    ∙ ap₂ (λ (a : ℕ) (b : ℕ). decimal a ++ (b ∷ [])) front last)
+
+-- ---- between and behind the members
+
+-- a comma is passed
+pub comma_passed : (line : List ℕ) (end : ℕ) → end < length line → get_or line end 0 ≡ 44
+    → tokens_from after_value line end ≡ tokens_from after_comma line (end + 1)
+unfolding lex punctuate
+comma_passed line end within e =
+    ap (λ (l : List ℕ). punctuate after_value (lex between l)) (byte_at line end 44 within e)
+
+-- the object ends with the line
+pub object_over : (line : List ℕ) (end : ℕ) → end + 1 ≡ length line → get_or line end 0 ≡ 125
+    → read_key (tokens_from after_value line end) ≡ Some (None, [])
+unfolding lex punctuate
+object_over line end last e =
+    ap (λ (l : List ℕ). read_key (punctuate after_value (lex between l)))
+    (byte_at line end 125 (omega arith) e ∙ ap (λ (l : List ℕ). 125 ∷ l) (drop_all (end + 1) line (omega arith)))
+
+-- the object begins with the line
+pub object_begun : (line : List ℕ) → get_or line 0 0 ≡ 123
+    → tokens line ≡ Token.begin_object ∷ tokens_from fresh line 1
+unfolding lex punctuate
+object_begun [] e = absurd (omega arith)
+object_begun (x ∷ xs) e = rw e refl
+
+-- the first digit
+pub number_begun : (line : List ℕ) (at : ℕ) → at < length line → 48 ≤ get_or line at 0 → get_or line at 0 ≤ 57
+    → drop at line ≡ decimal (get_or line at 0 - 48) ++ drop (at + 1) line
+number_begun line at within low high =
+    let c = get_or line at 0 in
+    let back : 48 + (c - 48) ≡ c = omega arith in
+    byte_at line at c within refl
+    ∙ ap (λ (l : List ℕ). l ++ drop (at + 1) line)
+    (sym (decimal_digit (c - 48) (omega arith) ∙ ap (λ (x : ℕ). x ∷ []) back))
+
+-- one digit more of a number
+pub number_more : (line : List ℕ) (at n end : ℕ) → drop at line ≡ decimal n ++ drop end line → end < length line → 0 < n
+    → n < 10 ^ 18 → 48 ≤ get_or line end 0 → get_or line end 0 ≤ 57
+    → drop at line ≡ decimal (n * 10 + (get_or line end 0 - 48)) ++ drop (end + 1) line
+number_more line at n end so_far within some small low high =
+    let c = get_or line end 0 in
+    so_far
+    ∙ ap (λ (l : List ℕ). decimal n ++ l) (byte_at line end c within refl)
+    ∙ sym (append_assoc (decimal n) (c ∷ []) (drop (end + 1) line))
+    ∙ ap (λ (l : List ℕ). l ++ drop (end + 1) line) (decimal_more n c some small low high)

@@ -1,0 +1,68 @@
+use Rattle.std.proofs.Common.{◌+◌, ◌-◌, ◌<◌, ◌≤◌, drop, length, Some, inl, inr, refl, subst, arith}
+use Rattle.json.specs.Lex.{fresh, after_comma, after_value}
+use Rattle.json.proofs.Grammar.{read_key-shorter}
+use Rattle.serde_json.specs.Data.{no_members, put}
+use Rattle.client_lines.specs.inside.Compact.{tokens_from, EndsValue}
+use Rattle.client_lines.proofs.ObjectReading.{read_on, read_last, value_shorter}
+use Rattle.client_lines.proofs.CompactLemmas.{byte_at, comma_passed, object_over}
+use Rattle.client_lines.proofs.compact.members_line.Goals as goal
+
+pub members-init : goal.members-init
+members-init c =
+    let ts = tokens_from fresh c.args.text.now 1 in
+    record {
+      place = fresh;
+      turns = length ts;
+      found = no_members;
+      begins = refl;
+      enough = omega arith;
+      read = refl;
+      says = c.new-line.ensures;
+    }
+
+pub members-preserved : goal.members-preserved
+members-preserved c =
+    let line = c.args.text.now in
+    let before = c.members.invariant in
+    let end = c.in_ok-scalar.end in
+    let within : end < length line = rw c.as_bytes-bytes.ensures.value at c.if-end-bytes.false in
+    let comma = rw c.as_bytes-bytes.ensures.value at c.if-bytes-end-ne44.false in
+    let ends : EndsValue line end = (drop (end + 1) line, inl (byte_at line end 44 within comma)) in
+    let value = c.in_ok-scalar.ensures.is ends in
+    let key = c.in_ok-name.ensures.key before.place before.begins in
+    let passed = comma_passed line end within comma in
+    let ts = tokens_from before.place line c.members.at in
+    let rest = tokens_from fresh line c.in_ok-name.value in
+    let shorter : length rest < length ts = read_key-shorter ts (Some c.in_ok-name.name.now) rest key in
+    let less : length (tokens_from after_value line end) < length rest = value_shorter rest _ value.0 value.1 in
+    record {
+      place = after_comma;
+      turns = before.turns - 1;
+      found = put c.in_ok-name.name.now value.0 before.found;
+      begins = refl;
+      enough = subst (λ r. length r ≤ before.turns - 1) passed (omega (arith, before.enough));
+      read = read_on _ before.found before.turns _ ts rest _ _ value.0 before.read (omega (arith, before.enough)) key
+          value.1 passed;
+      says = c.put.ensures before.found value.0 value.2 before.says;
+    }
+
+pub returns-then-end-bytes-2 : goal.returns-then-end-bytes-2
+returns-then-end-bytes-2 c =
+    let line = c.args.text.now in
+    let before = c.members.invariant in
+    let end = c.in_ok-scalar.end in
+    let within : end < length line = rw c.as_bytes-bytes.ensures.value at c.if-end-bytes.false in
+    let brace = rw c.as_bytes-bytes.ensures.value at c.if-bytes-end-eq125.true in
+    let last = rw c.as_bytes-bytes.ensures.value at c.if-end-bytes-2.true in
+    let ends : EndsValue line end = (drop (end + 1) line, inr (byte_at line end 125 within brace)) in
+    let value = c.in_ok-scalar.ensures.is ends in
+    let key = c.in_ok-name.ensures.key before.place before.begins in
+    let ts = tokens_from before.place line c.members.at in
+    let rest = tokens_from fresh line c.in_ok-name.value in
+    let shorter : length rest < length ts = read_key-shorter ts (Some c.in_ok-name.name.now) rest key in
+    let less : length (tokens_from after_value line end) < length rest = value_shorter rest _ value.0 value.1 in (
+      put c.in_ok-name.name.now value.0 before.found,
+      read_last _ before.found before.turns _ ts rest _ _ value.0 before.read before.enough shorter less key value.1
+          (object_over line end last brace),
+      c.put.ensures before.found value.0 value.2 before.says,
+    )
