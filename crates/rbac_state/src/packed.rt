@@ -23,17 +23,17 @@ pub fn ascending_permissions(permissions: Vec<Permission>) -> Result<Vec<Permiss
     if permissions.len() <= FEW {
         return Ok(ascending(permissions));
     }
-    sorted_as_numbers(*permissions.allocator(), &permissions)
+    sorted_as_numbers(*permissions.allocator(), permissions)
 }
 
 /// The permissions in ascending order, each once, by their numbers.
 fn sorted_as_numbers(
     alloc: Global,
-    permissions: &[Permission],
+    permissions: Vec<Permission>,
 ) -> Result<Vec<Permission>, AllocError>
-    ensures { IfOk result (λ sorted. IsListing permission_cmp (Contains permissions.now) sorted.items) }
+    ensures { IfOk result (λ sorted. IsListing permission_cmp (Contains permissions.items) sorted.items) }
 {
-    within(permissions);
+    within(&permissions);
     let numbers = pack_all(alloc, permissions)?;
     unpack_all(alloc, &ascending(numbers))
 }
@@ -51,8 +51,8 @@ fn one_within(permission: Permission)
     ensures { (permission.0 < 2 ^ 16) × (permission.1 < 2 ^ 32) }
 {}
 
-fn pack_all(alloc: Global, permissions: &[Permission]) -> Result<Vec<u64>, AllocError>
-    ensures { IfOk result (λ numbers. numbers.items ≡ map packed permissions.now) }
+fn pack_all(alloc: Global, permissions: Vec<Permission>) -> Result<Vec<u64>, AllocError>
+    ensures { IfOk result (λ numbers. numbers.items ≡ map packed permissions.items) }
 {
     permissions
         .iter()

@@ -14,6 +14,9 @@ use crate::blocks::{self, drop_if_empty, later};
 use crate::sorted;
 use std::cmp::Ord;
 
+/// One pair is searched and taken away in the time in which a pass goes over so many.
+const PASSED_A_SEARCH: usize = 256;
+
 /// Where the pairs of one first lie: in a part of one block, which has no others, or in blocks behind one another,
 /// which may begin and end with others.
 #[derive(Clone, Copy)]
@@ -95,11 +98,34 @@ pub fn end_of<A: Ord, B: Ord>(blocks: &[Vec<(A, B)>], first: &A, start: usize) -
     if start == blocks.len() {
         return start;
     }
-    let mut end = start + 1;
-    while end < blocks.len() && begins_upto(&blocks[end], first) {
-        end += 1;
+    let next = start + 1;
+    if next < blocks.len() && begins_upto(&blocks[next], first) {
+        end_behind(blocks, first, next)
+    } else {
+        next
     }
-    end
+}
+
+/// As `end_of`, for pairs that reach the block at this place: by halving, however many blocks they fill.
+fn end_behind<A: Ord, B: Ord>(blocks: &[Vec<(A, B)>], first: &A, reached: usize) -> usize
+    requires ascending { IsStrictlySortedBy (pair_cmp A.cmp B.cmp) (items_in blocks.now) }
+    requires filled { AllByRecursion (λ b. 0 < length b.items) (drop 1 blocks.now) }
+    requires within { reached < length blocks.now }
+    ensures onward { reached < result }
+    ensures within { result ≤ length blocks.now }
+    ensures above { AllByRecursion (λ p. A.cmp first.now p.0 ≡ Less) (items_in (drop result blocks.now)) }
+{
+    let mut end = reached + 1;
+    let mut behind = blocks.len();
+    while end < behind {
+        let middle = end + (behind - end) / 2;
+        if begins_upto(&blocks[middle], first) {
+            end = middle + 1;
+        } else {
+            behind = middle;
+        }
+    }
+    behind
 }
 
 /// How many pairs of this first there are.
@@ -111,6 +137,18 @@ fn count<A: Ord, B: Ord>(run: &[Vec<(A, B)>], first: &A) -> usize
         count = count.saturating_add(sorted::beginning_with(block, first).len());
     }
     count
+}
+
+/// Whether the blocks have so many pairs, which it sees as soon as it has counted them.
+fn have<T>(blocks: &[Vec<T>], least: usize) -> bool {
+    let mut pairs = 0usize;
+    for block in blocks {
+        pairs = pairs.saturating_add(block.len());
+        if pairs >= least {
+            return true;
+        }
+    }
+    false
 }
 
 /// Takes away all pairs of this first. It takes no memory.
@@ -130,7 +168,7 @@ pub fn take_away_first<A: Ord + Copy + Drop, B: Ord + Drop>(blocks: &mut Vec<Vec
     }
 }
 
-/// Takes away all pairs of this second: each by a search where they are few beside the blocks, and else in one pass.
+/// Takes away all pairs of this second: each by a search where they are few beside all pairs, and else in one pass.
 /// The other list has the same pairs turned. It takes no memory.
 pub fn take_away_second<A: Ord + Copy + Drop, B: Ord + Copy + Drop>(
     blocks: &mut Vec<Vec<(A, B)>>,
@@ -149,7 +187,8 @@ pub fn take_away_second<A: Ord + Copy + Drop, B: Ord + Copy + Drop>(
     ensures room { (room : ℕ) → AreBlocks room blocks.old.items → AreBlocks room blocks.new.items }
 {
     let run = run_of(turned, &second);
-    if count(run, &second) <= blocks.len() {
+    let passed = count(run, &second).saturating_mul(PASSED_A_SEARCH);
+    if have(blocks, passed) {
         take_away_turned(blocks, run, second);
     } else {
         blocks::take_away_second(blocks, second);

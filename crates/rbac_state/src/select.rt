@@ -1,6 +1,7 @@
 //! What the review functions look for, in the order in which it is kept.
 
 ghost use Rattle.std.specs.Prelude.{◌≡◌, ◌<◌, ◌==◌, ◌&&◌, ◌++◌, length, drop, map, filter, find, IfOk, OnOk};
+ghost use Rattle.std.specs.Prelude.{if◌then◌else◌, Some, None};
 ghost use Rattle.std.specs.Ordering.{eq_by_cmp, nat_cmp};
 ghost use Rattle.std.specs.List.{AllByRecursion, flat_map};
 ghost use Rattle.std.specs.List.Sorted.{IsStrictlySortedBy};
@@ -146,13 +147,51 @@ pub fn first_granting(
     ensures { result ≡ find (λ role. relates nat_cmp nat_cmp assigned.now user role
         && relates permission_cmp nat_cmp granted.now permission role) roles.now }
 {
+    match roles {
+        [role] => if_granting(assigned, granted, user, *role, permission),
+        _ => first_of_many(assigned, granted, user, roles, permission),
+    }
+}
+
+/// The role, if the user has it and it has the permission.
+fn if_granting(
+    assigned: &Relation<u32, u16>,
+    granted: &Relation<Permission, u16>,
+    user: u32,
+    role: u16,
+    permission: Permission,
+) -> Option<u16>
+    requires users { IsKeptBothWays nat_cmp nat_cmp assigned.now }
+    requires permissions { IsKeptBothWays permission_cmp nat_cmp granted.now }
+    ensures { result ≡ (if relates nat_cmp nat_cmp assigned.now user role
+        && relates permission_cmp nat_cmp granted.now permission role then Some role else None) }
+{
+    if granted.has(permission, role) && assigned.has(user, role) {
+        Some(role)
+    } else {
+        None
+    }
+}
+
+/// As `first_granting`: the roles that have the permission are found once for all of these.
+fn first_of_many(
+    assigned: &Relation<u32, u16>,
+    granted: &Relation<Permission, u16>,
+    user: u32,
+    roles: &[u16],
+    permission: Permission,
+) -> Option<u16>
+    requires users { IsKeptBothWays nat_cmp nat_cmp assigned.now }
+    requires permissions { IsKeptBothWays permission_cmp nat_cmp granted.now }
+    ensures { result ≡ find (λ role. relates nat_cmp nat_cmp assigned.now user role
+        && relates permission_cmp nat_cmp granted.now permission role) roles.now }
+{
     let grants = granted.of_first(permission);
     if grants.is_empty() {
         return None;
     }
-    let assignments = assigned.of_first(user);
     for role in roles {
-        if grants.has(&(permission, *role)) && assignments.has(&(user, *role)) {
+        if grants.has(&(permission, *role)) && assigned.has(user, *role) {
             return Some(*role);
         }
     }

@@ -1,18 +1,25 @@
-use Rattle.std.proofs.Common.{sym, ap, ◌∙◌, arith}
+use Rattle.std.proofs.Common.{◌+◌, sym, ap, ◌∙◌, arith}
 use Rattle.std.specs.Ordering.{is_le}
+use Rattle.std.proofs.lemmas.List.{length-drop}
 use Rattle.rbac_state.specs.inside.Blocks.{begins}
 use Rattle.rbac_state.proofs.BlockLemmas.{same_at}
 use Rattle.rbac_state.proofs.RunLemmas.{above_end}
 use Rattle.rbac_state.proofs.run.end_of.Goals as goal
+use Rattle.rbac_state.proofs.run.end_of.Goals.{else-next-blocks-via-then-next-blocks+else-begins_upto}
+use Rattle.rbac_state.proofs.run.end_of.Goals.{else-next-blocks-via-else-next-blocks}
 
-pub returns-else-begins_upto-clause-above : goal.returns-else-begins_upto-clause-above
-returns-else-begins_upto-clause-above g c =
+pub returns-else-next-blocks-clause-above : goal.returns-else-next-blocks-clause-above
+returns-else-next-blocks-clause-above g c =
     let blocks = c.args.blocks.now in
-    let end = c.loop-end.end in
+    let next = c.args.start + 1 in
     let first = c.args.first.now in
-    above_end g.B.Ord.cmp g.met.A.Ord.total first (λ b. b.items) blocks c.requires.ascending c.requires.filled end
-    (omega arith) (λ d some.
-    ap (λ b. begins (λ p. is_le (g.A.Ord.cmp p.0 first)) b.items)
-    (same_at blocks end d c.index-blocks-end.result c.loop-end-test.true ∙ sym c.index-blocks-end.is)
-    ∙ ap (begins (λ p. is_le (g.A.Ord.cmp p.0 first))) (sym c.deref.ensures.value) ∙ sym c.begins_upto.ensures
-    ∙ c.if-begins_upto.false)
+    above_end g.B.Ord.cmp g.met.A.Ord.total first (λ b. b.items) blocks c.requires.ascending c.requires.filled next
+    (omega arith) (λ d some. elim c.else-next-blocks.branch [
+      | else-next-blocks-via-then-next-blocks+else-begins_upto w ↦
+          ap (λ b. begins (λ p. is_le (g.A.Ord.cmp p.0 first)) b.items)
+          (same_at blocks next d w.index-blocks-next.result w.if-next-blocks.true ∙ sym w.index-blocks-next.is)
+          ∙ ap (begins (λ p. is_le (g.A.Ord.cmp p.0 first))) (sym w.deref.ensures.value) ∙ sym w.begins_upto.ensures
+          ∙ w.if-begins_upto.false
+      | else-next-blocks-via-else-next-blocks w ↦
+          absurd (omega (arith, some, length-drop next blocks, w.if-next-blocks.false))
+    ])

@@ -1,4 +1,4 @@
-use Rattle.std.proofs.Common.{◌≡◌, ◌-◌, ◌+◌, ◌∷◌, [], drop, sym, ap, ◌∙◌, subst, arith}
+use Rattle.std.proofs.Common.{◌≡◌, ◌-◌, ◌+◌, ◌∷◌, [], drop, sym, subst, arith}
 use Rattle.rbac_state.proofs.TurnedLemmas.{AreTaken, taken_before, taken_one, item_here}
 use Rattle.rbac_state.proofs.run.take_away_each.Goals as goal
 

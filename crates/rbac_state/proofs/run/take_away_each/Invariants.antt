@@ -1,4 +1,4 @@
-use Rattle.std.proofs.Common.{◌≤◌, length, drop}
+use Rattle.std.proofs.Common.{length, drop}
 use Rattle.rbac_state.proofs.TurnedLemmas.{IsTakenFrom}
 use Rattle.rbac_state.proofs.run.take_away_each.Given as goal
 

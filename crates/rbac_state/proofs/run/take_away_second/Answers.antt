@@ -7,19 +7,19 @@ use Rattle.rbac_state.proofs.RelationLemmas.{among_others}
 use Rattle.rbac_state.proofs.TurnedLemmas.{others_left}
 use Rattle.rbac_state.proofs.run.take_away_second.Goals as goal
 
-pub returns-then-count-len-clause-members : goal.returns-then-count-len-clause-members
-returns-then-count-len-clause-members g c a b =
+pub returns-then-have-clause-members : goal.returns-then-have-clause-members
+returns-then-have-clause-members g c a b =
     others_left g.A.Ord.cmp g.met.B.Ord.total c.args.second (items_in c.args.turned.now)
     (items_in c.run_of-run.result.now) (items_in c.args.blocks.now.items) a b
     (is_among (pair_cmp g.A.Ord.cmp g.B.Ord.cmp) (items_in c.take_away_turned.new.blocks.items) (a, b))
     c.run_of-run.ensures.same (c.requires.same a b) (c.take_away_turned.ensures.members (a, b))
 
-pub returns-else-count-len-clause-ascending : goal.returns-else-count-len-clause-ascending
-returns-else-count-len-clause-ascending g c =
+pub returns-else-have-clause-ascending : goal.returns-else-have-clause-ascending
+returns-else-have-clause-ascending g c =
     subst (IsStrictlySortedBy (pair_cmp g.A.Ord.cmp g.B.Ord.cmp)) (sym c.take_away_second.ensures.items)
     (IsStrictlySortedBy-filter (pair_cmp g.A.Ord.cmp g.B.Ord.cmp) _ _ c.requires.ascending)
 
-pub returns-else-count-len-clause-members : goal.returns-else-count-len-clause-members
-returns-else-count-len-clause-members g c a b =
+pub returns-else-have-clause-members : goal.returns-else-have-clause-members
+returns-else-have-clause-members g c a b =
     ap (λ l. is_among (pair_cmp g.A.Ord.cmp g.B.Ord.cmp) l (a, b)) c.take_away_second.ensures.items
     ∙ among_others g.A.Ord.cmp g.met.B.Ord.total c.args.second (items_in c.args.blocks.now.items) a b

@@ -1,4 +1,4 @@
-use Rattle.std.proofs.Common.{◌≤◌, length, drop, filter}
+use Rattle.std.proofs.Common.{length, drop, filter}
 use Rattle.std.specs.Ordering.{eq_by_cmp}
 use Rattle.rbac_state.specs.inside.Blocks.{items_in}
 use Rattle.rbac_state.proofs.TurnedLemmas.{IsTakenFrom}

@@ -8,8 +8,8 @@ use Rattle.rbac_state.specs.inside.Relations.{relates}
 use Rattle.rbac_state.proofs.FirstLemmas.{find_more, find_here, find_never, and_false}
 use Rattle.rbac_state.proofs.FoundLemmas.{found_among, found_none}
 use Rattle.rbac_state.proofs.PairLemmas.{permissions_total, permissions_exact}
-use Rattle.rbac_state.proofs.select.first_granting.Goals as goal
-use Rattle.rbac_state.proofs.select.first_granting.Goals.{else-has-via-then-has+else-has-2, else-has-via-else-has}
+use Rattle.rbac_state.proofs.select.first_of_many.Goals as goal
+use Rattle.rbac_state.proofs.select.first_of_many.Goals.{else-has-via-then-has+else-has-2, else-has-via-else-has}
 
 pub returns-then-is_empty : goal.returns-then-is_empty
 returns-then-is_empty c =
@@ -33,9 +33,7 @@ returns-then-has-2 c =
     (items_in grants.by_first.items) c.of_first-grants.result c.of_first-grants.ensures role)
     ∙ sym c.has.ensures ∙ c.if-has.true in
     let assigned : relates nat_cmp nat_cmp users c.args.user role ≡ true =
-    sym (found_among nat_cmp_total nat_cmp_total exact_unsigned exact_unsigned c.args.user
-    (items_in users.by_first.items) c.of_first-assignments.result c.of_first-assignments.ensures role)
-    ∙ sym c.has-then-has.ensures ∙ c.if-has-2.true in
+    sym c.has-then-has.ensures ∙ c.if-has-2.true in
     sym (find_here (λ role. relates nat_cmp nat_cmp users c.args.user role
     && relates permission_cmp nat_cmp grants c.args.permission role) c.args.roles.now c.loop-role.role-index 0
     c.loop-role-test.true c.loop-role.invariant (λ i. assigned i && permitted i))
@@ -49,14 +47,12 @@ loop-role-preserved c =
     sym (found_among permissions_total nat_cmp_total permissions_exact exact_unsigned c.args.permission
     (items_in grants.by_first.items) c.of_first-grants.result c.of_first-grants.ensures role)
     ∙ sym c.has.ensures in
-    let assigned = found_among nat_cmp_total nat_cmp_total exact_unsigned exact_unsigned c.args.user
-    (items_in users.by_first.items) c.of_first-assignments.result c.of_first-assignments.ensures role in
     let counts : Bool = relates nat_cmp nat_cmp users c.args.user role in
     find_more (λ role. relates nat_cmp nat_cmp users c.args.user role
     && relates permission_cmp nat_cmp grants c.args.permission role) c.args.roles.now c.loop-role.role-index 0
     c.loop-role-test.true c.loop-role.invariant (elim c.else-has.branch [
       | else-has-via-then-has+else-has-2 w ↦
           ap (λ b. b && relates permission_cmp nat_cmp grants c.args.permission role)
-          (sym assigned ∙ sym w.has-then-has.ensures ∙ w.if-has-2.false)
+          (sym w.has-then-has.ensures ∙ w.if-has-2.false)
       | else-has-via-else-has w ↦ ap (λ b. counts && b) (permitted ∙ w.if-has.false) ∙ and_false counts
     ])

@@ -3,7 +3,7 @@ use Rattle.std.specs.List.{find}
 use Rattle.std.specs.Ordering.{nat_cmp}
 use Rattle.rbac_state.specs.Policies.{permission_cmp}
 use Rattle.rbac_state.specs.inside.Relations.{relates}
-use Rattle.rbac_state.proofs.select.first_granting.Given as goal
+use Rattle.rbac_state.proofs.select.first_of_many.Given as goal
 
 abbrev pub invariant-loop-role : goal.invariant-loop-role
 invariant-loop-role l =
