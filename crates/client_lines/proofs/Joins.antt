@@ -1,10 +1,8 @@
 -- Items that are written one after another, with a text between each two.
-use Rattle.std.proofs.Common.{append_assoc, codes, ◌≡◌, ◌∙◌, ℕ, ◌≤◌, List}
+use Rattle.std.proofs.Common.{append_assoc, ◌≡◌, ◌∙◌, ℕ, ◌≤◌, List}
 use Rattle.std.proofs.Common.{◌∷◌, ◌++◌, length, take, refl, sym, ap}
 use Rattle.std.proofs.lemmas.List.{take_all}
 use Rattle.std.specs.List.{flat_map, join_by}
-use Rattle.std.specs.Fmt.{decimal}
-use Rattle.client_lines.specs.AnswerTexts.{permission_text}
 
 -- all items are written
 pub all_joined : {X : Type 0} (f : X
@@ -29,13 +27,3 @@ all_added f between before start text whole first others i parts h begun written
     written ∙ ap (λ (front : List ℕ). front ++ more) begun ∙ append_assoc before (f first) more
     ∙ ap (λ (items : List ℕ). before ++ items)
     (all_joined f between (f first ++ more) whole first others i parts h refl)
-
--- a permission as it is written piece by piece, behind a comma
-pub permission-grouped : (p : ℕ × ℕ)
-    → codes ",[" ++ (decimal p.0 ++ (codes "," ++ (decimal p.1 ++ codes "]"))) ≡ codes "," ++ permission_text p
-permission-grouped p = simp append_assoc
-
--- the same of the first
-pub permission-whole : (p : ℕ × ℕ)
-    → codes "[" ++ (decimal p.0 ++ (codes "," ++ (decimal p.1 ++ codes "]"))) ≡ permission_text p
-permission-whole p = simp append_assoc

@@ -3,3 +3,4 @@ pub mod LineLemmas
 pub mod ObjectReading
 pub mod Joins
 pub mod CompactLemmas
+pub mod ItemLemmas

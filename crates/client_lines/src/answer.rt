@@ -1,16 +1,27 @@
 //! What a node answers to a client's line, and how an answer is written.
 
-ghost use Rattle.std.specs.Prelude.{◌≡◌, ◌++◌, decimal, IfOk, OnOk, codes, string_bytes};
+ghost use Rattle.std.specs.Prelude.{◌≡◌, ◌+◌, ◌≤◌, ◌<◌, ◌++◌, length, drop, decimal, codes, string_bytes};
+ghost use Rattle.std.specs.Prelude.{IfOk, OnOk, IsAscii};
 ghost use Rattle.std.specs.List.{join_by};
 ghost use Rattle.client_lines.specs.AnswerTexts as texts;
 ghost use Rattle.client_lines.specs.AnswerTexts.{IsWritten};
+ghost use Rattle.client_lines.specs.inside.Items.{behind_comma, behind_commas};
 
 use crate::fault::LineFault;
-use itoa::{Buffer, Integer};
+use itoa::{Buffer, Integer, write_digits};
 use link_frames::Place;
 use role_commands::Items;
 use role_node::{NodeFault, Verdict};
 use std::alloc::{AllocError, Global};
+
+/// So many permissions are written into a block before a text takes them.
+const BLOCK_PERMISSIONS: usize = 16;
+
+/// The bytes of a block: 19 for each permission, the comma before it counted.
+const BLOCK_BYTES: usize = 304;
+
+/// Room for a permission and a comma: twice what the shortest takes.
+const PERMISSION_ROOM: usize = 12;
 
 /// What a node answers to a client line. `at` is how many events the node had recorded then.
 #[derive(Drop, Debug)]
@@ -215,32 +226,67 @@ fn add_permissions(text: &mut String, permissions: &[(u16, u32)]) -> Result<(), 
     ensures { OnOk result (string_bytes text.new
         ≡ string_bytes text.old ++ texts.permissions_text permissions.now) }
 {
-    let Some((&(operation, object), others)) = permissions.split_first() else {
+    let Some((&first, others)) = permissions.split_first() else {
         return Ok(());
     };
-    add_permission(text, "[", operation, object)?;
-    for &(operation, object) in others {
-        add_permission(text, ",[", operation, object)?;
+    text.reserve(permissions.len().saturating_mul(PERMISSION_ROOM))?;
+    let mut block = [0; BLOCK_BYTES];
+    let start = put_permission(&mut block, BLOCK_BYTES, first);
+    add_ascii(text, &block[start + 1..])?;
+    let mut rest = others;
+    while !rest.is_empty() {
+        let (permissions, more) = rest.split_at(rest.len().min(BLOCK_PERMISSIONS));
+        let start = put_permissions(&mut block, permissions);
+        add_ascii(text, &block[start..])?;
+        rest = more;
     }
     Ok(())
 }
 
-/// Adds a permission behind what opens it.
-fn add_permission(
-    text: &mut String,
-    opening: &str,
-    operation: u16,
-    object: u32,
-) -> Result<(), AllocError>
-    ensures { OnOk result (string_bytes text.new ≡ string_bytes text.old
-        ++ (opening.now ++ (decimal operation ++ (codes "," ++ (decimal object ++ codes "]"))))) }
+/// Adds bytes that are ASCII.
+#[inline(always)]
+fn add_ascii(text: &mut String, ascii: &[u8]) -> Result<(), AllocError>
+    requires { IsAscii ascii.now }
+    ensures { OnOk result (string_bytes text.new ≡ string_bytes text.old ++ ascii.now) }
 {
-    let mut digits = Buffer::new();
-    text.push_str(opening)?;
-    text.push_str(digits.format(operation))?;
-    text.push_str(",")?;
-    text.push_str(digits.format(object))?;
-    text.push_str("]")
+    match str::from_utf8(ascii) {
+        Ok(ascii) => text.push_str(ascii),
+        Err(_) => unreachable!(),
+    }
+}
+
+/// Writes permissions, a comma before each, so that the last ends the block. Returns where they start.
+fn put_permissions(block: &mut [u8; BLOCK_BYTES], permissions: &[(u16, u32)]) -> usize
+    requires { length permissions.now ≤ 16 }
+    ensures within { result ≤ 304 }
+    ensures written { drop result block.new ≡ behind_commas permissions.now }
+    ensures ascii { IsAscii (drop result block.new) }
+{
+    let mut left = permissions.len();
+    let mut start = BLOCK_BYTES;
+    while left > 0 {
+        left -= 1;
+        start = put_permission(block, start, permissions[left]);
+    }
+    start
+}
+
+/// Writes a comma and a permission that end where the rest of a block starts. Returns where the comma stands.
+#[inline(always)]
+fn put_permission(block: &mut [u8; BLOCK_BYTES], rest: usize, permission: (u16, u32)) -> usize
+    requires { (19 ≤ rest) × (rest ≤ 304) }
+    ensures within { (rest ≤ result + 19) × (result < rest) }
+    ensures written { drop result block.new ≡ behind_comma permission ++ drop rest block.old }
+    ensures ascii { IsAscii (drop rest block.old) → IsAscii (drop result block.new) }
+{
+    let (operation, object) = permission;
+    block[rest - 1] = b']';
+    let second = write_digits(u64::from(object), block, rest - 1);
+    block[second - 1] = b',';
+    let first = write_digits(u64::from(operation), block, second - 1);
+    block[first - 1] = b'[';
+    block[first - 2] = b',';
+    first - 2
 }
 
 /// Two texts within three others, in memory that they just fill.

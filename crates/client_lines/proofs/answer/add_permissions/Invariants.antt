@@ -1,8 +1,10 @@
-use Rattle.std.proofs.Common.{◌≡◌, ◌++◌, codes, take, string_bytes}
-use Rattle.std.specs.List.{flat_map}
-use Rattle.client_lines.specs.AnswerTexts.{permission_text}
+use Rattle.std.proofs.Common.{◌≡◌, ◌++◌, length, string_bytes}
+use Rattle.client_lines.specs.inside.Items.{behind_commas}
 use Rattle.client_lines.proofs.answer.add_permissions.Given as goal
 
-abbrev pub invariant-loop-operation : goal.invariant-loop-operation
-invariant-loop-operation l = string_bytes l.text ≡ string_bytes l.initial.text
-    ++ flat_map (λ y. codes "," ++ permission_text y) (take l.operation-index l.others)
+abbrev pub invariant-loop-rest : goal.invariant-loop-rest
+invariant-loop-rest l =
+    string_bytes l.text ++ behind_commas l.rest ≡ string_bytes l.initial.text ++ behind_commas l.initial.rest
+
+abbrev pub decreases-loop-rest : goal.decreases-loop-rest
+decreases-loop-rest l = length l.rest
