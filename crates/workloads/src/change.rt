@@ -1,5 +1,5 @@
 //! Commands at one node whose policy gets large: assignments in descending order, then in random order, and then a mix
-//! with clears of roles with no pair, with some hundreds, and with a hundred thousand.
+//! with clears of roles with no pair, with some hundreds, and with some 70,000.
 
 use crate::digest::Digest;
 use crate::registry::{lone_node, publish};

@@ -1,5 +1,5 @@
-//! Commands of four owners on their way to seven nodes as sealed frames, among which come repeats, old frames and forged
-//! tags.
+//! Commands of four owners on their way to seven nodes as sealed frames, among which come repeats, old frames and
+//! forged tags.
 
 ghost use Rattle.std.specs.Prelude.{◌≡◌, ◌<◌};
 

@@ -1,5 +1,5 @@
-//! Clusters in a laboratory: 16 nodes with five liars that name another command at each node and place, packets given in
-//! no order; and 64 and 128 nodes with silent liars, packets given as they were sent.
+//! Clusters in a laboratory: 16 nodes with five liars that name another command at each node and place, packets given
+//! in no order; and 64 and 128 nodes with silent liars, packets given as they were sent.
 
 ghost use Rattle.std.specs.Prelude.{◌≡◌};
 
