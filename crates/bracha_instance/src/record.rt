@@ -6,7 +6,8 @@ ghost use Rattle.quorum_sizes.specs.Sizes.{Counts};
 ghost use Rattle.bracha_instance.specs.Broadcast.{Take, vote};
 ghost use Rattle.bracha_instance.specs.States.{state};
 ghost use Rattle.bracha_instance.specs.NewTakes.{taken_for};
-ghost use Rattle.bracha_instance.specs.Taking.{SendsAreFrom, has_voted, effect_of, newly_sent, newly_delivered};
+ghost use Rattle.bracha_instance.specs.Taking.{SendsAreFrom, has_voted, have_voted, effect_of};
+ghost use Rattle.bracha_instance.specs.Taking.{newly_sent, newly_delivered};
 ghost use Rattle.bracha_instance.specs.inside.Next.{after_kind};
 
 use crate::instance::{Caused, Effect, Taken, is_new, keep_first, kind_for};
@@ -146,6 +147,18 @@ impl Record {
             Kind::Send => self.echoed.is_some(),
             Kind::Echo => self.echoers.contains(from),
             Kind::Ready => self.readiers.contains(from),
+        }
+    }
+
+    /// Whether each of these nodes' message of that kind was taken, of one node at least. Takes no memory.
+    #[inline(always)]
+    pub fn all_voted(&self, kind: Kind, names: &NodeSet) -> bool
+        ensures { result ≡ have_voted self.now kind names.now }
+    {
+        match kind {
+            Kind::Send => self.echoed.is_some(),
+            Kind::Echo => names.is_subset(&self.echoers),
+            Kind::Ready => names.is_subset(&self.readiers),
         }
     }
 

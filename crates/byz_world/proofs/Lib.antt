@@ -31,6 +31,7 @@ pub mod Telling
 pub mod Stepping
 pub mod Arriving
 pub mod Settling
+pub mod RowTaking
 pub mod BlockTakes
 pub mod BlockMembers
 pub mod BlockNotes

@@ -2,3 +2,4 @@
 pub mod Blocks
 pub mod Fields
 pub mod Kept
+pub mod Rows

@@ -12,6 +12,7 @@ mod keys;
 pub mod laws;
 mod members;
 mod notes;
+mod rows;
 mod settle;
 mod step;
 mod world;
