@@ -14,7 +14,8 @@ use Rattle.bracha_instance.specs.declared.instance.Effect.TheVariants.{Idle, Cou
 use Rattle.bracha_instance.specs.Broadcast.{Take, command_of, is_of_kind, is_vote_of, vote, echoed}
 use Rattle.bracha_instance.specs.States.{State, state}
 use Rattle.bracha_instance.specs.Taking.{SendsAreFrom, effect_of, newly, sent_for}
-use Rattle.bracha_instance.specs.Taking.{newly_sent, newly_delivered, has_voted, have_voted}
+use Rattle.bracha_instance.specs.Taking.{newly_sent, newly_delivered, has_voted}
+use Rattle.bracha_instance.specs.Voters.{have_voted}
 use Rattle.bracha_instance.specs.inside.Next.{after_kind, after}
 use Rattle.bracha_instance.proofs.Same.{same_kind-true}
 use Rattle.bracha_instance.proofs.Voting.{contains-voters}

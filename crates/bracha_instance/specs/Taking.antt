@@ -1,7 +1,6 @@
 -- What one more message causes: whether it counts, what the node sends to all, and what it delivers.
 use Rattle.std.specs.Prelude.{◌≡◌, ℕ, Bool, List, All, if◌then◌else◌, is_some, Option, Some, None}
 use Rattle.quorum_sizes.specs.Sizes.{Counts}
-use Rattle.quorum_sizes.specs.NodeSets.{Nodes}
 use Rattle.role_commands.specs.declared.command.Command.{Command}
 use Rattle.link_frames.specs.declared.kind.Kind.{Kind}
 use Rattle.link_frames.specs.declared.kind.Kind.TheVariants.{Send, Echo, Ready}
@@ -24,12 +23,6 @@ abbrev pub has_voted : State → Kind → ℕ → Bool
 has_voted st Send p = is_some st.echoed
 has_voted st Echo p = sets.contains st.echoers p
 has_voted st Ready p = sets.contains st.readiers p
-
--- it says so of each of some names
-abbrev pub have_voted : State → Kind → Nodes → Bool
-have_voted st Send names = is_some st.echoed
-have_voted st Echo names = sets.is_subset names st.echoers
-have_voted st Ready names = sets.is_subset names st.readiers
 
 -- what there is now and was not before
 abbrev pub newly : Option Command → Option Command → Option Command

@@ -8,8 +8,9 @@ ghost use Rattle.role_commands.specs.declared.command.Command.{Command};
 ghost use Rattle.bracha_instance.specs.Broadcast.{Take, vote};
 ghost use Rattle.bracha_instance.specs.States.{state};
 ghost use Rattle.bracha_instance.specs.NewTakes.{kind_due, taken_for};
-ghost use Rattle.bracha_instance.specs.Taking.{SendsAreFrom, has_voted, have_voted, effect_of, newly};
+ghost use Rattle.bracha_instance.specs.Taking.{SendsAreFrom, has_voted, effect_of, newly};
 ghost use Rattle.bracha_instance.specs.Taking.{newly_sent, newly_delivered};
+ghost use Rattle.bracha_instance.specs.Voters.{have_voted};
 ghost use Rattle.bracha_instance.specs.inside.Next.{only_if, after_send, after_echo, after_ready, after_kind};
 ghost use Rattle.bracha_instance.specs.Supported.{CountsSupported};
 

@@ -6,8 +6,9 @@ ghost use Rattle.quorum_sizes.specs.Sizes.{Counts};
 ghost use Rattle.bracha_instance.specs.Broadcast.{Take, vote};
 ghost use Rattle.bracha_instance.specs.States.{state};
 ghost use Rattle.bracha_instance.specs.NewTakes.{taken_for};
-ghost use Rattle.bracha_instance.specs.Taking.{SendsAreFrom, has_voted, have_voted, effect_of};
+ghost use Rattle.bracha_instance.specs.Taking.{SendsAreFrom, has_voted, effect_of};
 ghost use Rattle.bracha_instance.specs.Taking.{newly_sent, newly_delivered};
+ghost use Rattle.bracha_instance.specs.Voters.{have_voted};
 ghost use Rattle.bracha_instance.specs.inside.Next.{after_kind};
 
 use crate::instance::{Caused, Effect, Taken, is_new, keep_first, kind_for};

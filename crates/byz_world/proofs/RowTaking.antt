@@ -19,7 +19,8 @@ use Rattle.link_frames.specs.Packets.{PacketValue, packet_of, packet_due}
 use Rattle.link_frames.specs.declared.packet.Message.{Message}
 use Rattle.bracha_instance.proofs.Exported.{same_kind-true, same_kind-refl}
 use Rattle.bracha_instance.specs.declared.instance.Effect.TheVariants.{Idle}
-use Rattle.role_node.specs.Answers.{outlook, IsOneOf}
+use Rattle.role_node.specs.Answers.{outlook}
+use Rattle.role_node.specs.Voters.{IsOneOf}
 use Rattle.role_node.specs.Configs.{ConfigValue}
 use Rattle.role_node.specs.Nodes.{NodeValue}
 use Rattle.role_node.specs.declared.event.Event.TheVariants.{Take}

@@ -13,10 +13,12 @@ use Rattle.link_frames.specs.declared.kind.Kind.{Kind}
 use Rattle.bracha_instance.proofs.Exported.{voted_at, one_voted}
 use Rattle.bracha_instance.specs.Broadcast.{Take, vote}
 use Rattle.bracha_instance.specs.States.{State, state}
-use Rattle.bracha_instance.specs.Taking.{SendsAreFrom, has_voted, have_voted}
+use Rattle.bracha_instance.specs.Taking.{SendsAreFrom, has_voted}
+use Rattle.bracha_instance.specs.Voters.{have_voted}
 use Rattle.bracha_instance.specs.declared.instance.Effect.TheVariants.{Idle, Counted}
 use Rattle.owner_streams.specs.Places.{window, take_of, takes_at, reach}
-use Rattle.owner_streams.specs.Steps.{SendsAreOwners, step_due, effect_due, have_taken}
+use Rattle.owner_streams.specs.Steps.{SendsAreOwners, step_due, effect_due}
+use Rattle.owner_streams.specs.Voters.{have_taken}
 use Rattle.owner_streams.specs.inside.Slots.{state_in, voted_in, all_voted_in}
 use Rattle.owner_streams.specs.inside.Kept.{reach_in, held, look_in, IsOwnerStream, AreStatesOf}
 use Rattle.owner_streams.specs.declared.owner_stream.OwnerStream.{OwnerStream}

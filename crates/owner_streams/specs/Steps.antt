@@ -1,14 +1,11 @@
 -- What one more packet causes, which packets are refused, what a node has sent at a place, and how a fault is written.
-use Rattle.std.specs.Prelude.{◌≡◌, ℕ, ◌+◌, Bool, ◌&&◌, nat_le, nat_lt, if◌then◌else◌, List, []}
+use Rattle.std.specs.Prelude.{◌≡◌, ℕ, ◌+◌, nat_le, if◌then◌else◌, List, []}
 use Rattle.std.specs.Prelude.{◌∷◌, ◌++◌, All, IsOkAnd, codes, Result, Ok, Err}
 use Rattle.std.specs.Fmt.{decimal}
 use Rattle.quorum_sizes.specs.Sizes.{Counts}
-use Rattle.quorum_sizes.specs.NodeSets.{Nodes}
-use Rattle.link_frames.specs.declared.kind.Kind.{Kind}
 use Rattle.link_frames.specs.Packets.{PacketValue, SentByOwner}
 use Rattle.bracha_instance.specs.Broadcast.{echoed, readied}
-use Rattle.bracha_instance.specs.States.{state}
-use Rattle.bracha_instance.specs.Taking.{effect_of, newly_sent, newly_delivered, have_voted}
+use Rattle.bracha_instance.specs.Taking.{effect_of, newly_sent, newly_delivered}
 use Rattle.bracha_instance.specs.declared.instance.Effect.{Effect}
 use Rattle.bracha_instance.specs.declared.instance.Effect.TheVariants.{Counted}
 use Rattle.owner_streams.specs.Places.{window, take_of, takes_at, reach}
@@ -54,11 +51,6 @@ IsAnswer due (Err Memory) = IsOkAnd due (λ step. step.effect ≡ Counted)
 abbrev pub effect_due : Result StreamStep StreamFault → Result Effect StreamFault
 effect_due (Ok step) = Ok step.effect
 effect_due (Err fault) = Err fault
-
--- each of these nodes' message of this kind was taken at the place, which is not beyond the window
-unfoldable pub have_taken : Counts → List PacketValue → Kind → ℕ → ℕ → Nodes → Bool
-have_taken s packets kind owner place names =
-    nat_lt place (window_end s owner packets) && have_voted (state s (takes_at owner place packets)) kind names
 
 -- what the node has sent to all at a place
 abbrev pub again_due : Counts → ℕ → ℕ → List PacketValue → Again

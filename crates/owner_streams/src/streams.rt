@@ -7,7 +7,7 @@ ghost use Rattle.link_frames.specs.Packets.{PacketValue};
 ghost use Rattle.bracha_instance.specs.declared.instance.Effect.TheVariants.{Idle, Counted};
 ghost use Rattle.owner_streams.specs.Places.{place_count, window, stream, reach as reach_of};
 ghost use Rattle.owner_streams.specs.Steps.{SendsAreOwners, step_due, IsAnswer, effect_due, again_due};
-ghost use Rattle.owner_streams.specs.Steps.{have_taken};
+ghost use Rattle.owner_streams.specs.Voters.{have_taken};
 ghost use Rattle.owner_streams.specs.Values.{IsStateOf, WouldCount};
 ghost use Rattle.owner_streams.specs.inside.Kept.{AreOwnerStreams};
 

@@ -8,8 +8,10 @@ use Rattle.link_frames.specs.Packets.{PacketValue}
 use Rattle.link_frames.specs.declared.kind.Kind.{Kind}
 use Rattle.bracha_instance.specs.declared.instance.Effect.TheVariants.{Idle}
 use Rattle.owner_streams.proofs.Exported.{taken_is_idle}
-use Rattle.owner_streams.specs.Steps.{SendsAreOwners, step_due, effect_due, have_taken}
-use Rattle.role_node.specs.Answers.{IsOneOf, is_routed, of_effect_due, take_outlook}
+use Rattle.owner_streams.specs.Steps.{SendsAreOwners, step_due, effect_due}
+use Rattle.owner_streams.specs.Voters.{have_taken}
+use Rattle.role_node.specs.Answers.{is_routed, of_effect_due, take_outlook}
+use Rattle.role_node.specs.Voters.{IsOneOf}
 use Rattle.role_node.specs.Histories.{packets}
 use Rattle.role_node.specs.declared.event.Event.{Event}
 use Rattle.role_node.specs.declared.faults.NodeFault.TheVariants as fault

@@ -2,13 +2,11 @@
 -- else its reply.
 use Rattle.std.specs.Prelude.{◌≡◌, ℕ, ◌+◌, ◌==◌, Bool, true, false, not, ◌&&◌, nat_le, nat_lt, if◌then◌else◌, IsTrue}
 use Rattle.std.specs.Prelude.{List, length, take, slice_get, Option, Some, None, option_map, Result, Ok, Err}
-use Rattle.std.specs.FinSet as sets
 use Rattle.quorum_sizes.specs.Sizes.{Counts}
-use Rattle.quorum_sizes.specs.NodeSets.{Nodes}
 use Rattle.role_commands.specs.Rules.{role_of}
 use Rattle.role_commands.specs.Tables.{Table}
 use Rattle.role_commands.specs.declared.command.Command.{Command}
-use Rattle.link_frames.specs.Packets.{PacketValue, SentByOwner}
+use Rattle.link_frames.specs.Packets.{PacketValue}
 use Rattle.link_frames.specs.declared.kind.Kind.{Kind}
 use Rattle.link_frames.specs.declared.kind.Kind.TheVariants.{Send}
 use Rattle.link_frames.specs.declared.packet.Message.{Message}
@@ -57,15 +55,6 @@ abbrev pub take_outlook : Table → ℕ → List Event → PacketValue → Resul
 take_outlook roles me history p =
     if is_routed roles.sizes me p then of_effect_due (effect_due (step_due roles.sizes (packets history) p))
     else Err fault.Misrouted
-
--- the packet is to this node, of this kind, at this place of the owner's stream, and from one of these nodes
-pub record IsOneOf (me : ℕ) (kind : Kind) (owner place : ℕ) (names : Nodes) (p : PacketValue) : Type 0 where
-  pub to : p.to ≡ me
-  pub kind_is : p.kind ≡ kind
-  pub owner_is : p.owner ≡ owner
-  pub place_is : p.place ≡ place
-  pub from : IsTrue (sets.contains names p.from)
-  pub own : SentByOwner p
 
 -- the first refusal of what a client does, under these relations and with these sessions
 abbrev pub act_fault : Table → Relations → SessionState → ClientEvent → Option NodeFault

@@ -4,14 +4,15 @@ ghost use Rattle.std.specs.Prelude.{◌≡◌, ◌<◌, ◌≤◌, ℕ, length, 
 ghost use Rattle.std.specs.FinSet as sets;
 ghost use Rattle.link_frames.specs.Packets.{PacketValue};
 ghost use Rattle.bracha_instance.specs.declared.instance.Effect.TheVariants.{Counted, Idle};
-ghost use Rattle.owner_streams.specs.Steps.{have_taken};
+ghost use Rattle.owner_streams.specs.Voters.{have_taken};
 ghost use Rattle.role_node.specs.Histories.{packets};
 ghost use Rattle.role_node.specs.declared.event.Event.TheVariants.{Take};
 ghost use Rattle.role_node.specs.Configs.{most_events};
 ghost use Rattle.role_node.specs.Access.{stream_at, reach_at, sessions_at, verdict_at, sent_at};
 ghost use Rattle.role_node.specs.Listed.{IsWithin};
 ghost use Rattle.role_node.specs.Questions.{ask_due, IsAsked, IsAnswerTo};
-ghost use Rattle.role_node.specs.Answers.{outlook, reply_to, is_recorded, IsAnswer, IsOneOf, event_of};
+ghost use Rattle.role_node.specs.Answers.{outlook, reply_to, is_recorded, IsAnswer, event_of};
+ghost use Rattle.role_node.specs.Voters.{IsOneOf};
 ghost use Rattle.role_node.specs.Nodes.{new_node, due_at, with_event, after_reply, IsLegalNode, AreRepliesOf};
 
 use crate::config::Config;

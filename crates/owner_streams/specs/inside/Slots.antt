@@ -10,7 +10,8 @@ use Rattle.link_frames.specs.declared.kind.Kind.{Kind}
 use Rattle.bracha_instance.specs.Broadcast.{Take}
 use Rattle.bracha_instance.specs.States.{State, state}
 use Rattle.bracha_instance.specs.NewTakes.{taken_for}
-use Rattle.bracha_instance.specs.Taking.{has_voted, have_voted, newly_sent, newly_delivered}
+use Rattle.bracha_instance.specs.Taking.{has_voted, newly_sent, newly_delivered}
+use Rattle.bracha_instance.specs.Voters.{have_voted}
 use Rattle.bracha_instance.specs.declared.instance.Caused.{Caused}
 use Rattle.bracha_instance.specs.declared.instance.Taken.{Taken}
 use Rattle.owner_streams.specs.declared.steps.Again.{Again}

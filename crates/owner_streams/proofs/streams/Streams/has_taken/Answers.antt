@@ -1,7 +1,7 @@
 use Rattle.std.proofs.Common.{◌≡◌, ◌∙◌, ℕ, arith}
 use Rattle.std.specs.Prelude.{IsTrue}
 use Rattle.std.specs.FinSet as sets
-use Rattle.owner_streams.specs.Steps.{have_taken}
+use Rattle.owner_streams.specs.Voters.{have_taken}
 use Rattle.owner_streams.proofs.Looking.{have_taken_is}
 use Rattle.owner_streams.proofs.Owners.{is_owners, is_kept, by_owner}
 use Rattle.owner_streams.proofs.streams.Streams.has_taken.Goals as goal

@@ -1,5 +1,5 @@
 use Rattle.std.proofs.Common.{◌<◌, ◌∙◌, sym, ap, subst}
-use Rattle.owner_streams.specs.Steps.{have_taken}
+use Rattle.owner_streams.specs.Voters.{have_taken}
 use Rattle.role_node.specs.Histories.{packets}
 use Rattle.role_node.proofs.TakenLemmas.{taken_outlook}
 use Rattle.role_node.proofs.state.State.has_taken.Goals as goal
