@@ -3,7 +3,7 @@ use Rattle.std.proofs.Common.{◌≡◌, ℕ, zero, suc, ◌+◌, ◌-◌, ◌<�
 use Rattle.std.proofs.Common.{true, false, not, ◌&&◌, ◌||◌, ◌⊎◌, inr, cond, ◌==◌}
 use Rattle.std.proofs.Common.{eq-eqb}
 use Rattle.std.proofs.lemmas.Bool.{eqb-true}
-use Rattle.std.proofs.Common.{min, List, [], ◌∷◌, ◌++◌, length, get_or, set, take, drop}
+use Rattle.std.proofs.Common.{List, [], ◌∷◌, ◌++◌, length, get_or, set, take, drop}
 use Rattle.std.proofs.Common.{refl, sym, ap, ◌∙◌, subst, arith}
 use Rattle.std.specs.Prelude.{vec_len, vec_capacity}
 use Rattle.std.specs.declared.cmp.Ordering.{Ordering}
@@ -13,7 +13,7 @@ use Rattle.std.specs.Ordering.{eq_by_cmp}
 use Rattle.std.specs.List.{AllByRecursion, flat_map, remove}
 use Rattle.std.specs.List.Sorted.{IsStrictlySortedBy}
 use Rattle.std.specs.Cmp.{IsTotalOrder}
-use Rattle.rbac_state.specs.inside.Blocks.{IsRoomy, AreBlocks, block_size, items_in, has_none, without_empty, tidied}
+use Rattle.rbac_state.specs.inside.Blocks.{IsRoomy, AreBlocks, items_in, has_none, without_empty, tidied}
 use Rattle.rbac_state.specs.inside.Relations.{is_among}
 use Rattle.rbac_state.proofs.EachLemmas.{among_part, members_with_part, members_without_part, ascends_with_part}
 use Rattle.rbac_state.proofs.EachLemmas.{or_either, and_second, each_at, each_map, ascends_first, ascends_second}
@@ -216,14 +216,13 @@ module _ {X Z : Type 0} where
     here_roomy room are = subst (IsRoomy room) (sym at) (each_at (IsRoomy room) bs i b within are.roomy)
 
     pub are_blocks_put : vec_len b ≤ vec_len y → vec_len y ≤ vec_len b + 1 → (room : ℕ) → 0 < room →
-        AreBlocks room bs → AreBlocks (min room (block_size - vec_len y)) (set bs i y)
+        AreBlocks room bs → AreBlocks (room - 1) (set bs i y)
     are_blocks_put grows by_one room some are =
         let was : IsRoomy room b = here_roomy room are in
         let long : length (set bs i y) ≡ length bs = length_same bs i y in
-        let free : ℕ = min room (block_size - vec_len y) in
         record {
           roomy =
-              each_set (IsRoomy free) bs i y (each_map (IsRoomy room) (IsRoomy free)
+              each_set (IsRoomy (room - 1)) bs i y (each_map (IsRoomy room) (IsRoomy (room - 1))
               (λ c r. record { len = omega (arith, r.len); capacity = r.capacity }) bs are.roomy)
               (record { len = omega (arith, was.len); capacity = omega (arith, was.capacity) });
           some = λ _. omega arith;
@@ -231,10 +230,6 @@ module _ {X Z : Type 0} where
               let had : IsFilled b = subst IsFilled (sym at) (later_at IsFilled bs i b within are.filled later) in
               omega (arith, b.ok.0, y.ok.0));
         }
-
-    pub put_by_one : vec_len y ≤ vec_len b + 1 → (room : ℕ) → 0 < room → AreBlocks room bs →
-        room ≤ block_size - vec_len y + 1
-    put_by_one by_one room some are = let was : IsRoomy room b = here_roomy room are in omega (arith, was.len)
 
     pub are_blocks_taken : vec_len y ≤ vec_len b → (room : ℕ) → AreBlocks room bs → AreBlocks room (tidied i (set bs
         i y))

@@ -1,7 +1,7 @@
 //! Long lists in ascending order without repeats, in blocks of bounded size: an item that is put or
 //! taken away moves those of one block.
 
-ghost use Rattle.std.specs.Prelude.{◌≡◌, ℕ, ◌<◌, ◌≤◌, ◌-◌, ◌+◌, ◌||◌, ◌&&◌, not, min, length, take, drop, OnOk, OnErr};
+ghost use Rattle.std.specs.Prelude.{◌≡◌, ℕ, ◌<◌, ◌≤◌, ◌-◌, ◌+◌, ◌||◌, ◌&&◌, not, length, take, drop, OnOk, OnErr};
 ghost use Rattle.std.specs.Prelude.{IfOk, filter, vec_len, vec_capacity};
 ghost use Rattle.std.specs.List.{AllByRecursion};
 ghost use Rattle.std.specs.List.Sorted.{IsStrictlySortedBy};
@@ -27,21 +27,17 @@ pub fn has<T: Ord>(blocks: &[Vec<T>], item: &T) -> bool
     place < blocks.len() && sorted::has(&blocks[place], item)
 }
 
-/// Puts the item in its place, unless it is there. It takes no memory. So many places are free in its block then.
-pub fn put<T: Ord + Drop>(blocks: &mut Vec<Vec<T>>, item: T) -> usize
+/// Puts the item in its place, unless it is there. It takes no memory.
+pub fn put<T: Ord + Drop>(blocks: &mut Vec<Vec<T>>, item: T)
     requires room { AreBlocks 1 blocks.old.items }
     requires ascending { IsStrictlySortedBy T.cmp (items_in blocks.old.items) }
     ensures ascending { IsStrictlySortedBy T.cmp (items_in blocks.new.items) }
     ensures members { (q : T) → is_among T.cmp (items_in blocks.new.items) q
         ≡ (eq_by_cmp T.cmp q item || is_among T.cmp (items_in blocks.old.items) q) }
-    ensures room { (room : ℕ) → 0 < room → AreBlocks room blocks.old.items
-        → AreBlocks (min room result) blocks.new.items }
-    ensures least { (room : ℕ) → 0 < room → AreBlocks room blocks.old.items → room ≤ result + 1 }
+    ensures room { (room : ℕ) → 0 < room → AreBlocks room blocks.old.items → AreBlocks (room - 1) blocks.new.items }
 {
     let place = place_of(blocks, &item);
-    let block = &mut blocks[place];
-    sorted::put(block, item);
-    BLOCK - block.len()
+    sorted::put(&mut blocks[place], item);
 }
 
 /// Takes the item away, if it is there.

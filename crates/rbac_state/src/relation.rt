@@ -88,9 +88,9 @@ impl<A: Ord + Copy + Drop, B: Ord + Copy + Drop> Relation<A, B> {
             ≡ ((eq_by_cmp A.cmp a first && eq_by_cmp B.cmp b second) || relates A.cmp B.cmp self.old a b) }
         ensures room { room_of self.old ≤ room_of self.new + 1 }
     {
-        let first_free = blocks::put(&mut self.by_first, (first, second));
-        let second_free = blocks::put(&mut self.by_second, (second, first));
-        self.room = self.room.min(first_free).min(second_free);
+        blocks::put(&mut self.by_first, (first, second));
+        blocks::put(&mut self.by_second, (second, first));
+        self.room -= 1;
     }
 
     /// Takes the pair away, if it is there.

@@ -128,7 +128,7 @@ fn end_behind<A: Ord, B: Ord>(blocks: &[Vec<(A, B)>], first: &A, reached: usize)
     behind
 }
 
-/// How many pairs of this first there are.
+/// How many pairs of this first there are. It only chooses a way, of two with one result.
 fn count<A: Ord, B: Ord>(run: &[Vec<(A, B)>], first: &A) -> usize
     requires { IsStrictlySortedBy (pair_cmp A.cmp B.cmp) (items_in run.now) }
 {
@@ -139,7 +139,8 @@ fn count<A: Ord, B: Ord>(run: &[Vec<(A, B)>], first: &A) -> usize
     count
 }
 
-/// Whether the blocks have so many pairs, which it sees as soon as it has counted them.
+/// Whether the blocks have so many pairs, which it sees as soon as it has counted them. It only chooses a way, as
+/// `count` does.
 fn have<T>(blocks: &[Vec<T>], least: usize) -> bool {
     let mut pairs = 0usize;
     for block in blocks {

@@ -148,6 +148,7 @@ pub fn first_granting(
         && relates permission_cmp nat_cmp granted.now permission role) roles.now }
 {
     match roles {
+        [] => None,
         [role] => if_granting(assigned, granted, user, *role, permission),
         _ => first_of_many(assigned, granted, user, roles, permission),
     }

@@ -1,17 +1,17 @@
 use Rattle.std.proofs.Common.{arith}
-use Rattle.rbac_state.proofs.PlaceLemmas.{block_ascends, ascends_put, members_put, are_blocks_put, put_by_one}
+use Rattle.rbac_state.proofs.PlaceLemmas.{block_ascends, ascends_put, members_put, are_blocks_put}
 use Rattle.rbac_state.proofs.blocks.put.Goals as goal
 
 pub put-requires-clause-ascending : goal.put-requires-clause-ascending
 put-requires-clause-ascending g c =
-    block_ascends (λ b. b.items) c.args.blocks.now.items c.place_of-place.result c.index_mut-block.result.now
-    c.index_mut-block.ensures.value (rw (c.deref.ensures.value) at (c.place_of-place.ensures.within
+    block_ascends (λ b. b.items) c.args.blocks.now.items c.place_of-place.result c.index_mut.result.now
+    c.index_mut.ensures.value (rw (c.deref.ensures.value) at (c.place_of-place.ensures.within
     (rw (c.deref.ensures.value) (c.requires.room.some (omega arith))))) g.T.Ord.cmp c.requires.ascending
 
 pub returns-clause-ascending : goal.returns-clause-ascending
 returns-clause-ascending g c =
-    ascends_put (λ b. b.items) c.args.blocks.now.items c.place_of-place.result c.index_mut-block.result.now
-    c.index_mut-block.ensures.value (rw (c.deref.ensures.value) at (c.place_of-place.ensures.within
+    ascends_put (λ b. b.items) c.args.blocks.now.items c.place_of-place.result c.index_mut.result.now
+    c.index_mut.ensures.value (rw (c.deref.ensures.value) at (c.place_of-place.ensures.within
     (rw (c.deref.ensures.value) (c.requires.room.some (omega arith))))) g.met.T.Ord.total c.args.item
     (rw (c.deref.ensures.value) at c.place_of-place.ensures.below)
     (rw (c.deref.ensures.value) at c.place_of-place.ensures.above)
@@ -19,8 +19,8 @@ returns-clause-ascending g c =
 
 pub returns-clause-members : goal.returns-clause-members
 returns-clause-members g c q =
-    members_put (λ b. b.items) c.args.blocks.now.items c.place_of-place.result c.index_mut-block.result.now
-    c.index_mut-block.ensures.value (rw (c.deref.ensures.value) at (c.place_of-place.ensures.within
+    members_put (λ b. b.items) c.args.blocks.now.items c.place_of-place.result c.index_mut.result.now
+    c.index_mut.ensures.value (rw (c.deref.ensures.value) at (c.place_of-place.ensures.within
     (rw (c.deref.ensures.value) (c.requires.room.some (omega arith))))) g.met.T.Ord.total c.args.item
     (rw (c.deref.ensures.value) at c.place_of-place.ensures.below)
     (rw (c.deref.ensures.value) at c.place_of-place.ensures.above)
@@ -28,16 +28,7 @@ returns-clause-members g c q =
 
 pub returns-clause-room : goal.returns-clause-room
 returns-clause-room g c =
-    rw (c.len.ensures)
-    (are_blocks_put c.args.blocks.now.items c.place_of-place.result c.index_mut-block.result.now c.put.new.items
-    c.index_mut-block.ensures.value (rw (c.deref.ensures.value) at (c.place_of-place.ensures.within
+    are_blocks_put c.args.blocks.now.items c.place_of-place.result c.index_mut.result.now c.put.new.items
+    c.index_mut.ensures.value (rw (c.deref.ensures.value) at (c.place_of-place.ensures.within
     (rw (c.deref.ensures.value) (c.requires.room.some (omega arith))))) c.put.ensures.capacity c.put.ensures.grows
-    c.put.ensures.by_one)
-
-pub returns-clause-least : goal.returns-clause-least
-returns-clause-least g c =
-    rw (c.len.ensures)
-    (put_by_one c.args.blocks.now.items c.place_of-place.result c.index_mut-block.result.now c.put.new.items
-    c.index_mut-block.ensures.value (rw (c.deref.ensures.value) at (c.place_of-place.ensures.within
-    (rw (c.deref.ensures.value) (c.requires.room.some (omega arith))))) c.put.ensures.capacity
-    c.put.ensures.by_one)
+    c.put.ensures.by_one
