@@ -231,6 +231,19 @@ left_after members sent rest done count is =
     ap (λ xs. list_all (has_taken_all xs) members) cut
     ∙ taken_parts members (take count rest) (drop (done + count) sent)
 
+-- where the end of it was not taken, all was not
+pub not_at_the_end : (members : Members) (sent : List Sent) (done : ℕ)
+    → list_all (has_taken_all (drop done sent)) members ≡ false → list_all (has_taken_all sent) members ≡ false
+not_at_the_end members sent done not =
+    let cut : sent ≡ take done sent ++ drop done sent = sym (take-append-drop done sent) in
+    ap (λ xs. list_all (has_taken_all xs) members) cut
+    ∙ taken_parts members (take done sent) (drop done sent)
+    ∙ and_false _ _ not
+  where
+    and_false : (a b : Bool) → b ≡ false → (a && b) ≡ false
+    and_false true b e = e
+    and_false false b e = refl
+
 -- What was sent in a world.
 
 fair_message : (config : ConfigValue) (liars : Nodes) (run : Run) → IsClusterRun config liars run → (s : Sent)

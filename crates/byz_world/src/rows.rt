@@ -1,7 +1,7 @@
 //! Whether all that was sent was taken, row by row: most messages of the pool differ from their neighbours by their
 //! sender alone, and of a row each node is asked once.
 
-ghost use Rattle.std.specs.Prelude.{◌≡◌, ◌<◌, false, length, slice_get, All, Some};
+ghost use Rattle.std.specs.Prelude.{◌≡◌, ◌-◌, ◌<◌, false, length, drop, slice_get, All, Some};
 ghost use Rattle.std.specs.List.{list_all};
 ghost use Rattle.byz_world.specs.Pools.{Sent};
 ghost use Rattle.byz_world.specs.inside.Kept.{has_taken_all};
@@ -25,6 +25,9 @@ pub(crate) fn have_taken_all(members: &[Option<Node>], sent: &[(NodeName, Messag
     requires { All (AreFairTo sent.now) members.now }
     ensures { result ≡ list_all (has_taken_all sent.now) members.now }
 {
+    if !have_taken_last(members, sent) {
+        return false;
+    }
     let mut done = 0;
     while done < sent.len() {
         let rest = &sent[done..];
@@ -35,6 +38,21 @@ pub(crate) fn have_taken_all(members: &[Option<Node>], sent: &[(NodeName, Messag
         done += row.count;
     }
     true
+}
+
+/// Whether the members have taken what was sent last, if anything was: where a node lacks something, it mostly lacks
+/// that.
+fn have_taken_last(members: &[Option<Node>], sent: &[(NodeName, Message)]) -> bool
+    ensures { result ≡ list_all (has_taken_all (drop (length sent.now - 1) sent.now)) members.now }
+{
+    have_taken(members, &sent[sent.len().saturating_sub(1)..])
+}
+
+/// Whether the members have taken these messages.
+fn have_taken(members: &[Option<Node>], these: &[(NodeName, Message)]) -> bool
+    ensures { result ≡ list_all (has_taken_all these.now) members.now }
+{
+    members.iter().all(|member| has_taken_all(member, these))
 }
 
 /// The first row, which is as long as may be.

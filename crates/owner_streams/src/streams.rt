@@ -138,8 +138,9 @@ impl Streams {
     }
 
     /// Whether each of these nodes' message of that kind was taken at a place of the owner's stream, which is not
-    /// beyond the window: then [`take`](Self::take) would answer of each that it changes nothing. There must be one
-    /// node at least for that, and the owner must be of these sizes. Takes no memory.
+    /// beyond the window: then [`take`](Self::take) would answer of each that it changes nothing. Of a SEND, whether
+    /// the owner's was, whatever the names. There must be one node at least for that, and the owner must be of these
+    /// sizes. Takes no memory.
     #[inline(always)]
     pub fn has_taken(&self, kind: Kind, owner: NodeName, place: Place, names: &NodeSet) -> bool
         requires { owner < self.now.sizes.nodes }

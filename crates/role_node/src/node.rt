@@ -114,8 +114,8 @@ impl Node {
     }
 
     /// Whether each of these nodes' message of that kind was taken at a place of the owner's stream: then
-    /// [`apply`](Self::apply) would answer of each that it is idle. There must be one node at least for that, and
-    /// the owner must be of the node's sizes. It takes no memory.
+    /// [`apply`](Self::apply) would answer of each that it is idle. Of a SEND, whether the owner's was, whatever the
+    /// names. There must be one node at least for that, and the owner must be of the node's sizes. It takes no memory.
     #[inline(always)]
     pub fn has_taken(&self, kind: Kind, owner: NodeName, place: Place, names: &NodeSet) -> bool
         requires { owner < self.now.config.roles.sizes.nodes }

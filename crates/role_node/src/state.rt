@@ -105,7 +105,8 @@ impl State {
         Ok(self.streams.look(packet)?)
     }
 
-    /// Whether each of these nodes' message of that kind was taken at a place of the owner's stream, of one at least.
+    /// Whether each of these nodes' message of that kind was taken at a place of the owner's stream, of one at least:
+    /// of a SEND, whether the owner's was, whatever the names.
     #[inline(always)]
     pub(crate) fn has_taken(
         &self,

@@ -12,5 +12,5 @@ loop-count-preserved c =
     let message : Message = (get_or sent 0 c.index-sent-0-2.result).1 in
     subst (λ (names : Nodes). IsFirstRow sent (record { message = message; senders = names; count = n + 1 }))
     (sym c.insert-fresh-in-loop-count.ensures.set)
-    (row_goes_on sent message c.loop-count.senders n c.index-sent-count.result c.index-sent-count-in-loop-count.result
+    (row_goes_on sent message c.loop-count.senders n c.index-sent-count.result _
     c.loop-count.invariant c.loop-count-test.true (sym c.is_alike.ensures ∙ c.if-is_alike.true))

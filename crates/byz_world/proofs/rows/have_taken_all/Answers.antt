@@ -3,7 +3,7 @@ use Rattle.std.specs.List.{list_all}
 use Rattle.std.proofs.lemmas.List.{drop_all}
 use Rattle.byz_world.specs.Pools.{Sent}
 use Rattle.byz_world.specs.inside.Kept.{has_taken_all}
-use Rattle.byz_world.proofs.RowTaking.{rest_is, rows_for, left_after, nothing_left}
+use Rattle.byz_world.proofs.RowTaking.{rest_is, rows_for, left_after, nothing_left, not_at_the_end}
 use Rattle.byz_world.proofs.rows.have_taken_all.Goals as goal
 
 pub have_taken_row-requires : goal.have_taken_row-requires
@@ -12,6 +12,13 @@ have_taken_row-requires c =
     let done = c.loop-done.done in
     rows_for c.args.members.now done sent (take (length sent - done) (drop done sent)) c.first_row-row.result
     (rest_is sent done) c.first_row-row.ensures.first c.requires
+
+pub returns-then-not-have_taken_last : goal.returns-then-not-have_taken_last
+returns-then-not-have_taken_last c =
+    let sent = c.args.sent.now in
+    let members = c.args.members.now in
+    sym (not_at_the_end members sent (length sent - 1)
+    (sym c.have_taken_last.ensures ∙ c.if-not-have_taken_last.true))
 
 pub returns-then-not-have_taken_row : goal.returns-then-not-have_taken_row
 returns-then-not-have_taken_row c =
