@@ -22,6 +22,7 @@ use Rattle.serde_json.specs.Data.{number, string, unsigned}
 use Rattle.serde_json.specs.Read.{of_json, converted}
 use Rattle.serde_json.proofs.Numbers.{number_of-decimal}
 use Rattle.client_lines.specs.inside.Compact.{is_plain, tokens_from, IsQuoted, EndsValue}
+use Rattle.client_lines.proofs.BlankLemmas.{AreBlanks, lexemes_kept, tokens_kept, word_ends_before}
 
 -- ---- texts
 
@@ -86,15 +87,18 @@ key_first after_comma name ls e = refl
 key_first after_key name ls e = absurd (false≢true e)
 
 -- a text before a colon is a name
-pub name_before_colon : (line : List ℕ) (at : ℕ) (name : List ℕ) (end : ℕ) → IsQuoted line at name end
-    → end < length line
-    → get_or line end 0 ≡ 58 → (place : Place) → may_begin place ≡ true
-    → read_key (tokens_from place line at) ≡ Some (Some name, tokens_from fresh line (end + 1))
+pub name_before_colon : (line : List ℕ) (at : ℕ) (name : List ℕ) (end colon' value' : ℕ) → IsQuoted line at name end
+    → AreBlanks line end colon' → colon' < length line → get_or line colon' 0 ≡ 58
+    → AreBlanks line (colon' + 1) value' → (place : Place) → may_begin place ≡ true
+    → read_key (tokens_from place line at) ≡ Some (Some name, tokens_from fresh line value')
 unfolding lex
-name_before_colon line at name end text within e place may =
+name_before_colon line at name end colon' value' text before within e behind place may =
+    let lexed : lex between (drop end line) ≡ colon ∷ lex between (drop (colon' + 1) line) =
+    lexemes_kept line end colon' before ∙ ap (lex between) (byte_at line colon' 58 within e) in
     ap (λ ls. read_key (punctuate place ls))
-    (text.lexed ∙ ap (λ (l : List ℕ). token (Token.string name) ∷ lex between l) (byte_at line end 58 within e))
-    ∙ key_first place name (lex between (drop (end + 1) line)) may
+    (text.lexed ∙ ap (λ (ls : List Lexeme). token (Token.string name) ∷ ls) lexed)
+    ∙ key_first place name (lex between (drop (colon' + 1) line)) may
+    ∙ ap (λ ts. Some (Some name, ts)) (tokens_kept fresh line (colon' + 1) value' behind)
 
 -- ---- values
 
@@ -110,29 +114,33 @@ ends_there : (behind : List ℕ) → (rest : List ℕ) × ((behind ≡ 44 ∷ re
 ends_there behind (rest, inl e) = rw e refl
 ends_there behind (rest, inr e) = rw e refl
 
-number_first : (n : ℕ) (behind : List ℕ) → n < 2 ^ 64 → (rest : List ℕ) × ((behind ≡ 44 ∷ rest) ⊎ (behind ≡ 125 ∷ rest))
+number_first : (n : ℕ) (behind : List ℕ) → n < 2 ^ 64 → ends_word behind ≡ true
     → punctuate fresh (lex between (decimal n ++ behind))
     ≡ Token.number (decimal n) ∷ punctuate after_value (lex between behind)
 unfolding punctuate
-number_first n behind h ends =
-    ap (punctuate fresh) (lex-number (decimal n) behind (IsNumber-decimal n h) (ends_there behind ends))
+number_first n behind h ends = ap (punctuate fresh) (lex-number (decimal n) behind (IsNumber-decimal n h) ends)
 
--- a text that ends is a value
-pub text_value : (line : List ℕ) (at : ℕ) (s : List ℕ) (end : ℕ) → IsQuoted line at s end → EndsValue line end
+-- a text that ends behind its blanks is a value
+pub text_value : (line : List ℕ) (at : ℕ) (s : List ℕ) (last end : ℕ) → IsQuoted line at s last
+    → AreBlanks line last end → EndsValue line end
     → converted of_json (value 126 (tokens_from fresh line at)) ≡ Some (string s, tokens_from after_value line end)
-text_value line at s end text ends =
+text_value line at s last end text blanks ends =
     let is : tokens_from fresh line at ≡ Token.string s ∷ tokens_from after_value line end =
-    ap (punctuate fresh) text.lexed ∙ text_first s (drop end line) ends in
+    ap (punctuate fresh)
+    (text.lexed ∙ ap (λ (ls : List Lexeme). token (Token.string s) ∷ ls) (lexemes_kept line last end blanks))
+    ∙ text_first s (drop end line) ends in
     ap (converted of_json) (ap (value 126) is ∙ value_is 126 _)
 
 -- and so is a number
-pub number_value : (line : List ℕ) (at n end : ℕ) → n < 2 ^ 64 → drop at line ≡ decimal n ++ drop end line
-    → EndsValue line end
+pub number_value : (line : List ℕ) (at n last end : ℕ) → n < 2 ^ 64 → drop at line ≡ decimal n ++ drop last line
+    → AreBlanks line last end → EndsValue line end
     → converted of_json (value 126 (tokens_from fresh line at))
     ≡ Some (number (unsigned n), tokens_from after_value line end)
-number_value line at n end h digits ends =
+number_value line at n last end h digits blanks ends =
+    let word = word_ends_before line last end blanks (ends_there (drop end line) ends) in
     let is : tokens_from fresh line at ≡ Token.number (decimal n) ∷ tokens_from after_value line end =
-    ap (λ (l : List ℕ). punctuate fresh (lex between l)) digits ∙ number_first n (drop end line) h ends in
+    ap (λ (l : List ℕ). punctuate fresh (lex between l)) digits ∙ number_first n (drop last line) h word
+    ∙ ap (λ ts. Token.number (decimal n) ∷ ts) (tokens_kept after_value line last end blanks) in
     ap (converted of_json) (ap (value 126) is ∙ value_is 126 _) ∙ rw (number_of-decimal n h) refl
 
 -- one digit more
@@ -147,20 +155,24 @@ decimal_more n c some small low high =
 
 -- ---- between and behind the members
 
--- a comma is passed
-pub comma_passed : (line : List ℕ) (end : ℕ) → end < length line → get_or line end 0 ≡ 44
-    → tokens_from after_value line end ≡ tokens_from after_comma line (end + 1)
+-- a comma is passed, and the blanks behind it
+pub comma_passed : (line : List ℕ) (end at : ℕ) → end < length line → get_or line end 0 ≡ 44
+    → AreBlanks line (end + 1) at → tokens_from after_value line end ≡ tokens_from after_comma line at
 unfolding lex punctuate
-comma_passed line end within e =
+comma_passed line end at within e blanks =
     ap (λ (l : List ℕ). punctuate after_value (lex between l)) (byte_at line end 44 within e)
+    ∙ tokens_kept after_comma line (end + 1) at blanks
 
--- the object ends with the line
-pub object_over : (line : List ℕ) (end : ℕ) → end + 1 ≡ length line → get_or line end 0 ≡ 125
-    → read_key (tokens_from after_value line end) ≡ Some (None, [])
+-- the object ends, and the line with it or with the blanks behind it
+pub object_over : (line : List ℕ) (end : ℕ) → end < length line → get_or line end 0 ≡ 125
+    → AreBlanks line (end + 1) (length line) → read_key (tokens_from after_value line end) ≡ Some (None, [])
 unfolding lex punctuate
-object_over line end last e =
-    ap (λ (l : List ℕ). read_key (punctuate after_value (lex between l)))
-    (byte_at line end 125 (omega arith) e ∙ ap (λ (l : List ℕ). 125 ∷ l) (drop_all (end + 1) line (omega arith)))
+object_over line end within e blanks =
+    let none : tokens_from after_value line (end + 1) ≡ [] =
+    tokens_kept after_value line (end + 1) (length line) blanks
+    ∙ ap (λ (l : List ℕ). punctuate after_value (lex between l)) (drop_all (length line) line (omega arith)) in
+    ap (λ (l : List ℕ). read_key (punctuate after_value (lex between l))) (byte_at line end 125 within e)
+    ∙ ap (λ ts. Some (None, ts)) none
 
 -- the object begins with the line
 pub object_begun : (line : List ℕ) → get_or line 0 0 ≡ 123

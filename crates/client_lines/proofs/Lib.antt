@@ -2,5 +2,6 @@ pub mod JsonLemmas
 pub mod LineLemmas
 pub mod ObjectReading
 pub mod Joins
+pub mod BlankLemmas
 pub mod CompactLemmas
 pub mod ItemLemmas

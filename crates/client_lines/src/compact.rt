@@ -1,10 +1,11 @@
-//! Reading a line as most clients write it: an object of texts in small letters and of short whole numbers, with no
-//! space. It takes no memory.
+//! Reading a line as most clients write it: an object of texts in small letters and of short whole numbers, with or
+//! without blanks between its parts and behind it. It takes no memory.
 
 ghost use Rattle.std.specs.Prelude.{◌≡◌, ◌+◌, ◌≤◌, ◌<◌, ◌++◌, [], length, drop, decimal, Some, IfSome};
 ghost use Rattle.std.specs.List.{prefix_len};
 ghost use Rattle.json.specs.Json.{value, members};
 ghost use Rattle.json.specs.Lex.{fresh};
+ghost use Rattle.json.specs.Word.{is_space};
 ghost use Rattle.serde_json.specs.Data.{Members, no_members, object};
 ghost use Rattle.serde_json.specs.Read.{of_members, converted, read};
 ghost use Rattle.client_lines.specs.inside.Compact.{tokens_from, is_plain, IsQuoted, IsName, IsValue};
@@ -40,7 +41,7 @@ fn members_line<'a>(text: &'a str) -> Option<Line<'a>>
 {
     let bytes = text.as_bytes();
     let mut line = Line::new();
-    let mut at = 1;
+    let mut at = blanks_end(bytes, 1);
     'members: loop {
         let (name, value) = name_at(text, at)?;
         let (scalar, end) = scalar_at(text, value)?;
@@ -49,13 +50,13 @@ fn members_line<'a>(text: &'a str) -> Option<Line<'a>>
             return None;
         }
         if bytes[end] != b',' {
-            return if bytes[end] == b'}' && end + 1 == bytes.len() {
+            return if bytes[end] == b'}' && blanks_end(bytes, end + 1) == bytes.len() {
                 Some(line)
             } else {
                 None
             };
         }
-        at = end + 1;
+        at = blanks_end(bytes, end + 1);
     }
 }
 
@@ -66,23 +67,25 @@ fn name_at<'a>(text: &'a str, at: usize) -> Option<(&'a str, usize)>
 {
     let (name, end) = text_at(text, at)?;
     let bytes = text.as_bytes();
-    if end < bytes.len() && bytes[end] == b':' {
-        Some((name, end + 1))
+    let colon = blanks_end(bytes, end);
+    if colon < bytes.len() && bytes[colon] == b':' {
+        Some((name, blanks_end(bytes, colon + 1)))
     } else {
         None
     }
 }
 
-/// The value that begins there, and the place behind it.
+/// The value that begins there, and the place behind it and its blanks.
 #[inline(always)]
 fn scalar_at<'a>(text: &'a str, at: usize) -> Option<(Scalar<'a>, usize)>
     ensures { IfSome result (λ r. IsValue text.now at r.0 r.1) }
 {
+    let bytes = text.as_bytes();
     if let Some((text, end)) = text_at(text, at) {
-        return Some((Scalar::Text(text), end));
+        return Some((Scalar::Text(text), blanks_end(bytes, end)));
     }
-    let (number, end) = number_at(text.as_bytes(), at)?;
-    Some((Scalar::Whole(number), end))
+    let (number, end) = number_at(bytes, at)?;
+    Some((Scalar::Whole(number), blanks_end(bytes, end)))
 }
 
 /// The text of plain bytes in quotes that begins there, and the place behind it.
@@ -114,6 +117,27 @@ fn plain_end(bytes: &[u8], from: usize) -> usize
         end += 1;
     }
     end
+}
+
+/// The first place from there on that has no blank, or the length.
+#[inline(always)]
+fn blanks_end(bytes: &[u8], from: usize) -> usize
+    ensures value { result ≡ from + prefix_len is_space (drop from bytes.now) }
+    ensures bound { from ≤ length bytes.now → result ≤ length bytes.now }
+{
+    let mut end = from;
+    while end < bytes.len() && is_blank(bytes[end]) {
+        end += 1;
+    }
+    end
+}
+
+/// Whether a byte is blank: a space, a tab, or an end of a line, which JSON passes over between its parts.
+#[inline(always)]
+fn is_blank(byte: u8) -> bool
+    ensures { result ≡ is_space byte }
+{
+    byte <= b' ' && matches!(byte, b' ' | b'\t' | b'\n' | b'\r')
 }
 
 /// The number of at most 19 digits that begins there, and the place behind it.

@@ -108,6 +108,57 @@ fn a_line_has_at_most_4096_bytes(rt: HostRuntime) -> Result<(), Fail> {
     Ok(())
 }
 
+const CHECK: Request = Request::Ask(Question::Check {
+    session: 1,
+    user: 7,
+    operation: 5,
+    object: 9,
+});
+
+/// The second line is as Python's `json.dumps` writes it; the others have blanks at other places.
+#[test]
+fn blanks_between_the_parts_change_nothing(rt: HostRuntime) {
+    let cases: [&[u8]; 9] = [
+        b"{\"op\":\"check\",\"session\":1,\"user\":7,\"operation\":5,\"object\":9}",
+        b"{\"op\": \"check\", \"session\": 1, \"user\": 7, \"operation\": 5, \"object\": 9}",
+        b"{\t\"op\":\"check\",\"session\":1,\"user\":7,\"operation\":5,\"object\":9}",
+        b"{\"op\" :\"check\",\"session\"\n:1,\"user\":7,\"operation\":5,\"object\":9}",
+        b"{\"op\":\"check\" ,\"session\":1  ,\"user\":7,\"operation\":5,\"object\":9}",
+        b"{\"op\":\"check\",\"session\":1,\"user\":7,\"operation\":5,\"object\":9\r\n}",
+        b"{\"op\":\"check\",\"session\":1,\"user\":7,\"operation\":5,\"object\":9}\r",
+        b"{ \"op\" : \"check\" , \"session\" : 1 , \"user\" : 7 , \"operation\" : 5 , \"object\" : 9 } \t",
+        b" { \"op\": \"check\", \"session\": 1, \"user\": 7, \"operation\": 5, \"object\": 9 }",
+    ];
+    for (row, line) in cases.iter().enumerate() {
+        let came = read(rt.alloc(), line);
+        assert!(rt; came == Ok(CHECK), "row {row}: {came:?}");
+    }
+}
+
+#[test]
+fn blanks_elsewhere_and_other_bytes_are_refused(rt: HostRuntime) {
+    let cases: [(&[u8], LineFault); 11] = [
+        (b"{\"op\":\x0c\"stop\"}", LineFault::NotJson),
+        (b"{\"op\":\"stop\"\x0b}", LineFault::NotJson),
+        (b"{\"op\":\"stop\"}\x00", LineFault::NotJson),
+        (b"{\"op\":\"stop\"} \x1f", LineFault::NotJson),
+        (b"{\"op\":\"stop\"} 0", LineFault::NotJson),
+        (b"{\"op\":\"stop\", }", LineFault::NotJson),
+        (b"{\"op\": \"stop\" ", LineFault::NotJson),
+        (b"{\"op\":\"open\",\"user\":7 7}", LineFault::NotJson),
+        (b"{\"op\":\"open\",\"user\":- 7}", LineFault::NotJson),
+        (b"{\"op \":\"stop\"}", LineFault::NoOp),
+        (b"{ }", LineFault::NoOp),
+    ];
+    for (row, (line, fault)) in cases.iter().enumerate() {
+        let came = read(rt.alloc(), line);
+        assert!(rt;
+            came == Err(*fault),
+            "row {row}: {fault:?} is due, not {came:?}"
+        );
+    }
+}
+
 /// Whether a line is read whose ignored member has so many nested lists.
 fn is_read_with(rt: &HostRuntime, lists: usize) -> Result<bool, Fail> {
     let mut line = b"{\"op\":\"stop\",\"x\":".to_vec(rt.alloc())?;

@@ -6,22 +6,28 @@ use Rattle.client_lines.proofs.compact.scalar_at.Goals as goal
 pub returns-in-Some : goal.returns-in-Some
 returns-in-Some c =
     let text = c.in-Some.ensures in
+    let same = c.as_bytes-bytes.ensures.value in
+    let blanks = rw same at c.blanks_end.ensures.value in
+    let within = rw same at c.blanks_end.ensures.bound in
     record {
-      forward = text.forward;
-      within = text.within;
-      is = λ ends. (string c.in-Some.text.now, text_value _ _ _ _ text ends, refl);
+      forward = omega (arith, text.forward);
+      within = within text.within;
+      is = λ ends. (string c.in-Some.text.now, text_value _ _ _ _ _ text blanks ends, refl);
     }
 
 pub returns : goal.returns
 returns c =
-    let digits = rw c.as_bytes.ensures.value at c.in_ok-number.ensures.digits in
+    let same = c.as_bytes-bytes.ensures.value in
+    let digits = rw same at c.in_ok-number.ensures.digits in
+    let blanks = rw same at c.blanks_end-2.ensures.value in
+    let within = rw same at c.blanks_end-2.ensures.bound in
     let n = c.in_ok-number.number in
     record {
-      forward = c.in_ok-number.ensures.forward;
-      within = rw c.as_bytes.ensures.value at c.in_ok-number.ensures.within;
+      forward = omega (arith, c.in_ok-number.ensures.forward);
+      within = within (rw same at c.in_ok-number.ensures.within);
       is = λ ends. (
         number (unsigned n),
-        number_value c.args.text.now c.args.at n c.in_ok-number.end (omega arith) digits ends,
+        number_value c.args.text.now c.args.at n c.in_ok-number.end _ (omega arith) digits blanks ends,
         refl,
       );
     }
