@@ -1,7 +1,7 @@
 //! Reading a line as most clients write it: an object of texts in small letters and of short whole numbers, with or
 //! without blanks between its parts and behind it. It takes no memory.
 
-ghost use Rattle.std.specs.Prelude.{◌≡◌, ◌+◌, ◌≤◌, ◌<◌, ◌++◌, [], length, drop, decimal, Some, IfSome};
+ghost use Rattle.std.specs.Prelude.{◌≡◌, ◌+◌, ◌≤◌, ◌<◌, ◌++◌, [], length, drop, decimal, false, Some, IfSome};
 ghost use Rattle.std.specs.List.{prefix_len};
 ghost use Rattle.json.specs.Json.{value, members};
 ghost use Rattle.json.specs.Lex.{fresh};
@@ -41,7 +41,7 @@ fn members_line<'a>(text: &'a str) -> Option<Line<'a>>
 {
     let bytes = text.as_bytes();
     let mut line = Line::new();
-    let mut at = blanks_end(bytes, 1);
+    let mut at = blanks_end_before(b'"', bytes, 1);
     'members: loop {
         let (name, value) = name_at(text, at)?;
         let (scalar, end) = scalar_at(text, value)?;
@@ -56,7 +56,7 @@ fn members_line<'a>(text: &'a str) -> Option<Line<'a>>
                 None
             };
         }
-        at = blanks_end(bytes, end + 1);
+        at = blanks_end_before(b'"', bytes, end + 1);
     }
 }
 
@@ -67,7 +67,7 @@ fn name_at<'a>(text: &'a str, at: usize) -> Option<(&'a str, usize)>
 {
     let (name, end) = text_at(text, at)?;
     let bytes = text.as_bytes();
-    let colon = blanks_end(bytes, end);
+    let colon = blanks_end_before(b':', bytes, end);
     if colon < bytes.len() && bytes[colon] == b':' {
         Some((name, blanks_end(bytes, colon + 1)))
     } else {
@@ -82,10 +82,10 @@ fn scalar_at<'a>(text: &'a str, at: usize) -> Option<(Scalar<'a>, usize)>
 {
     let bytes = text.as_bytes();
     if let Some((text, end)) = text_at(text, at) {
-        return Some((Scalar::Text(text), blanks_end(bytes, end)));
+        return Some((Scalar::Text(text), blanks_end_before(b',', bytes, end)));
     }
     let (number, end) = number_at(bytes, at)?;
-    Some((Scalar::Whole(number), blanks_end(bytes, end)))
+    Some((Scalar::Whole(number), blanks_end_before(b',', bytes, end)))
 }
 
 /// The text of plain bytes in quotes that begins there, and the place behind it.
@@ -117,6 +117,19 @@ fn plain_end(bytes: &[u8], from: usize) -> usize
         end += 1;
     }
     end
+}
+
+/// What [`blanks_end`] gives, by one compare where the byte that is due stands there, which is no blank.
+#[inline(always)]
+fn blanks_end_before(due: u8, bytes: &[u8], from: usize) -> usize
+    requires { is_space due ≡ false }
+    ensures value { result ≡ from + prefix_len is_space (drop from bytes.now) }
+    ensures bound { from ≤ length bytes.now → result ≤ length bytes.now }
+{
+    if from < bytes.len() && bytes[from] == due {
+        return from;
+    }
+    blanks_end(bytes, from)
 }
 
 /// The first place from there on that has no blank, or the length.

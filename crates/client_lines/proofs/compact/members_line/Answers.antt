@@ -14,8 +14,8 @@ pub members-init : goal.members-init
 members-init c =
     let line = c.args.text.now in
     let ts = tokens_from fresh line 1 in
-    let at = c.blanks_end-at.result in
-    let begun = tokens_kept fresh line 1 at (rw c.as_bytes-bytes.ensures.value at c.blanks_end-at.ensures.value) in
+    let at = c.blanks_end_before-at.result in
+    let begun = tokens_kept fresh line 1 at (rw c.as_bytes-bytes.ensures.value at c.blanks_end_before-at.ensures.value) in
     record {
       place = fresh;
       turns = length ts;
@@ -36,7 +36,7 @@ members-preserved c =
     let ends : EndsValue line end = (drop (end + 1) line, inl (byte_at line end 44 within comma)) in
     let value = c.in_ok-scalar.ensures.is ends in
     let key = c.in_ok-name.ensures.key before.place before.begins in
-    let blanks = rw c.as_bytes-bytes.ensures.value at c.blanks_end-at-in-members.ensures.value in
+    let blanks = rw c.as_bytes-bytes.ensures.value at c.blanks_end_before-at-in-members.ensures.value in
     let passed = comma_passed line end _ within comma blanks in
     let ts = tokens_from before.place line c.members.at in
     let rest = tokens_from fresh line c.in_ok-name.value in

@@ -7,8 +7,8 @@ pub returns-in-Some : goal.returns-in-Some
 returns-in-Some c =
     let text = c.in-Some.ensures in
     let same = c.as_bytes-bytes.ensures.value in
-    let blanks = rw same at c.blanks_end.ensures.value in
-    let within = rw same at c.blanks_end.ensures.bound in
+    let blanks = rw same at c.blanks_end_before.ensures.value in
+    let within = rw same at c.blanks_end_before.ensures.bound in
     record {
       forward = omega (arith, text.forward);
       within = within text.within;
@@ -19,8 +19,8 @@ pub returns : goal.returns
 returns c =
     let same = c.as_bytes-bytes.ensures.value in
     let digits = rw same at c.in_ok-number.ensures.digits in
-    let blanks = rw same at c.blanks_end-2.ensures.value in
-    let within = rw same at c.blanks_end-2.ensures.bound in
+    let blanks = rw same at c.blanks_end_before-2.ensures.value in
+    let within = rw same at c.blanks_end_before-2.ensures.bound in
     let n = c.in_ok-number.number in
     record {
       forward = omega (arith, c.in_ok-number.ensures.forward);
