@@ -15,7 +15,8 @@ members-init c =
     let line = c.args.text.now in
     let ts = tokens_from fresh line 1 in
     let at = c.blanks_end_before-at.result in
-    let begun = tokens_kept fresh line 1 at (rw c.as_bytes-bytes.ensures.value at c.blanks_end_before-at.ensures.value) in
+    let blanks = rw c.as_bytes-bytes.ensures.value at c.blanks_end_before-at.ensures.value in
+    let begun = tokens_kept fresh line 1 at blanks in
     record {
       place = fresh;
       turns = length ts;
