@@ -16,16 +16,19 @@ use crate::line::{Line, Scalar};
 /// From here on bytes are plain: the small letters, the underscore and all that need no escape and sort behind it.
 const FIRST_PLAIN: u8 = b'_';
 
+/// Longer lines hold what no operation has, in which an index of all bytes finds its way quicker.
+const MOST_BYTES: usize = 256;
+
 /// From here on one more digit may make a number too large.
 const LARGE_NUMBER: u64 = 1_000_000_000_000_000_000;
 
-/// What a line says, if it is such an object and has a member; `None` says nothing of the line.
+/// What a line says, if it is such an object, of at most 256 bytes, and has a member; `None` says nothing of the line.
 pub fn compact_line<'a>(text: &'a str) -> Option<Line<'a>>
     ensures { IfSome result (λ line.
         (ms : Members) × (read text.now ≡ Some (object ms)) × Says line (object ms)) }
 {
     let bytes = text.as_bytes();
-    if bytes.is_empty() || bytes[0] != b'{' {
+    if bytes.is_empty() || bytes[0] != b'{' || bytes.len() > MOST_BYTES {
         return None;
     }
     members_line(text)
