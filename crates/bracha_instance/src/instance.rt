@@ -339,8 +339,8 @@ impl Instance {
         }
     }
 
-    /// Whether each of these nodes' message of that kind was taken, of one node at least: of a SEND, whether the
-    /// owner's was, whatever the names. Takes no memory.
+    /// Whether each of these nodes' message of that kind was taken: of a SEND, whether the owner's was, whatever the
+    /// names. Takes no memory.
     #[inline(always)]
     pub fn all_voted(&self, kind: Kind, names: &NodeSet) -> bool
         ensures { result ≡ have_voted self.now kind names.now }

@@ -243,8 +243,8 @@ impl OwnerStream {
         }
     }
 
-    /// Whether each of these nodes' message of that kind was taken at a place, of one node at least: of a SEND,
-    /// whether the owner's was, whatever the names.
+    /// Whether each of these nodes' message of that kind was taken at a place: of a SEND, whether the owner's was,
+    /// whatever the names. There must be one node at least for that.
     #[inline(always)]
     pub(crate) fn all_voted(&self, kind: Kind, place: Place, names: &NodeSet) -> bool
         ensures { result ≡ all_voted_in (held self.now place) kind names.now }

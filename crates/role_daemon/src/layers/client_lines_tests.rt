@@ -115,10 +115,11 @@ const CHECK: Request = Request::Ask(Question::Check {
     object: 9,
 });
 
-/// The second line is as Python's `json.dumps` writes it; the others have blanks at other places.
+/// The second line is as Python's `json.dumps` writes it; others have blanks at other places, or a member twice, of
+/// which the last counts.
 #[test]
 fn blanks_between_the_parts_change_nothing(rt: HostRuntime) {
-    let cases: [&[u8]; 9] = [
+    let cases: [&[u8]; 11] = [
         b"{\"op\":\"check\",\"session\":1,\"user\":7,\"operation\":5,\"object\":9}",
         b"{\"op\": \"check\", \"session\": 1, \"user\": 7, \"operation\": 5, \"object\": 9}",
         b"{\t\"op\":\"check\",\"session\":1,\"user\":7,\"operation\":5,\"object\":9}",
@@ -128,11 +129,30 @@ fn blanks_between_the_parts_change_nothing(rt: HostRuntime) {
         b"{\"op\":\"check\",\"session\":1,\"user\":7,\"operation\":5,\"object\":9}\r",
         b"{ \"op\" : \"check\" , \"session\" : 1 , \"user\" : 7 , \"operation\" : 5 , \"object\" : 9 } \t",
         b" { \"op\": \"check\", \"session\": 1, \"user\": 7, \"operation\": 5, \"object\": 9 }",
+        b"{\"op\":\"check\",\"session\":1,\"user\":8,\"operation\":5,\"object\":9,\"user\":7}",
+        b"{\"op\": \"stop\", \"session\": 1, \"user\": 7, \"operation\": 5, \"object\": 9, \"op\": \"check\"}",
     ];
     for (row, line) in cases.iter().enumerate() {
         let came = read(rt.alloc(), line);
         assert!(rt; came == Ok(CHECK), "row {row}: {came:?}");
     }
+}
+
+/// A plain line of at most 256 bytes is read in another way than a longer one.
+#[test]
+fn a_line_is_read_at_each_length(rt: HostRuntime) -> Result<(), Fail> {
+    let plain =
+        b"{\"op\": \"check\", \"session\": 1, \"user\": 7, \"operation\": 5, \"object\": 9}";
+    for length in [128, 255, 256, 257, 1024, 4096] {
+        let mut line = plain.to_vec(rt.alloc())?;
+        line.resize(length, b' ')?;
+        let came = read(rt.alloc(), &line);
+        assert!(rt; came == Ok(CHECK), "{length} bytes: {came:?}");
+    }
+    let mut line = plain.to_vec(rt.alloc())?;
+    line.resize(4097, b' ')?;
+    assert!(rt; read(rt.alloc(), &line) == Err(LineFault::NotJson));
+    Ok(())
 }
 
 #[test]

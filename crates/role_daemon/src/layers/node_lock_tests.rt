@@ -161,7 +161,7 @@ fn close_at_last<L: Ledger>(
     Ok(node)
 }
 
-/// The three receipts are true in any order; with the first one altered, left out or doubled they are not.
+/// The three receipts are true in either order; with the first one altered, left out or doubled they are not.
 fn audit_three(
     rt: &impl Abort,
     alloc: Global,
