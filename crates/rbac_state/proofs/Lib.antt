@@ -1,6 +1,8 @@
+pub mod NumberLemmas
 pub mod Members
 pub mod OneListing
 pub mod PairLemmas
+pub mod SearchLemmas
 pub mod SortedLemmas
 pub mod RangeLemmas
 pub mod EachLemmas
@@ -10,6 +12,7 @@ pub mod PlaceLemmas
 pub mod SplitLemmas
 pub mod KeepLemmas
 pub mod RelationLemmas
+pub mod GrantLemmas
 pub mod TurnedLemmas
 pub mod FirstLemmas
 pub mod FoundLemmas

@@ -1,5 +1,5 @@
 -- The members of the listings that the review functions make.
-use Rattle.std.proofs.Common.{◌≡◌, ℕ, Bool, ◌==◌, ◌<◌, ◌+◌, inl, inr, List, [], ◌∷◌, ◌++◌}
+use Rattle.std.proofs.Common.{◌≡◌, ℕ, Bool, ◌==◌, ◌<◌, ◌+◌, inl, inr, true≢false, List, [], ◌∷◌, ◌++◌}
 use Rattle.std.proofs.Common.{length, get_or, take, refl, sym, ap, ◌∙◌, subst, filter, map}
 use Rattle.std.specs.Prelude.{IsTrue, ◌↔◌, Contains}
 use Rattle.std.specs.declared.cmp.Ordering.{Ordering}
@@ -7,6 +7,7 @@ use Rattle.std.specs.List.{flat_map}
 use Rattle.std.specs.Ordering.{eq_by_cmp, nat_cmp}
 use Rattle.std.specs.Cmp.{nat_eq_equiv}
 use Rattle.std.specs.FinSet as set
+use Rattle.std.proofs.lemmas.Bool.{cases_lt}
 use Rattle.std.proofs.lemmas.Cmp.{nat_cmp_total}
 use Rattle.std.proofs.lemmas.List.{take_more, flat_map_more}
 use Rattle.std.proofs.lemmas.List.Elements.{Contains-append_left, Contains-append_right, Contains-append_cases}
@@ -17,10 +18,14 @@ use Rattle.rbac_state.specs.declared.relation.Relation.{Relation}
 use Rattle.rbac_state.specs.Listings.{IsListing}
 use Rattle.rbac_state.specs.Policies.{PolicyValue, assignment_cmp, permission_cmp}
 use Rattle.rbac_state.specs.Policies.{grant_cmp, assigned_in, granted_in, RoleMay}
-use Rattle.rbac_state.specs.inside.Relations.{pair_cmp, is_among, IsKeptBothWays}
+use Rattle.rbac_state.specs.inside.Packed.{packed, permission_of, grant_of}
+use Rattle.rbac_state.specs.inside.Pairs.{number_cmp}
+use Rattle.rbac_state.specs.inside.Relations.{is_among, IsKeptBothWays}
 use Rattle.rbac_state.proofs.Members.{contains_head, contains_more, contains_cases}
-use Rattle.rbac_state.proofs.Members.{contains_none, picked_from, picked_into}
-use Rattle.rbac_state.proofs.PairLemmas.{assignments_total, grants_total, permissions_total, permissions_exact}
+use Rattle.rbac_state.proofs.Members.{contains_none, picked_from, picked_into, mapped_from, mapped_into}
+use Rattle.rbac_state.proofs.PairLemmas.{assignments_total, grants_total}
+use Rattle.rbac_state.proofs.GrantLemmas.{grant_is, grant_not, small_object, packed_again, permission_again}
+use Rattle.rbac_state.proofs.GrantLemmas.{permissions_ascend}
 use Rattle.rbac_state.proofs.RelationLemmas.{seconds_ascend, seconds_members}
 
 -- a listing of a set is one of the same set said in other words
@@ -62,11 +67,11 @@ joined_more f xs i d old new within was is =
     ∙ flat_map_more f [] (take i xs) (get_or xs i d)
     ∙ ap (flat_map f) (sym (take_more xs i d within))
 
-module _ (value : PolicyValue) (users : Relation ℕ ℕ)
+module _ {k : ℕ} (value : PolicyValue) (users : Relation k)
     (is : set.from_list {R = assignment_cmp} (items_in users.by_first.items) ≡ value.assignments)
-    (kept : IsKeptBothWays nat_cmp nat_cmp users) where
+    (kept : IsKeptBothWays users) where
   pub assigned_is : (user role : ℕ) →
-      is_among assignment_cmp (items_in users.by_first.items) (user, role) ≡ assigned_in value user role
+      is_among number_cmp (items_in users.by_first.items) (user, role) ≡ assigned_in value user role
   assigned_is user role =
       sym (set.contains-from_list assignments_total (items_in users.by_first.items) (user, role))
       ∙ ap (λ a. set.contains a (user, role)) is
@@ -93,87 +98,108 @@ module _ (value : PolicyValue) (users : Relation ℕ ℕ)
         (iff_same _ _ (kept.same user role ∙ assigned_is user role));
   }
 
-module _ (value : PolicyValue) (grants : Relation (ℕ × ℕ) ℕ)
-    (is : set.from_list {R = grant_cmp} (items_in grants.by_first.items) ≡ value.grants)
-    (kept : IsKeptBothWays permission_cmp nat_cmp grants) where
-  pub may_is : (p : ℕ × ℕ) (role : ℕ) →
-      is_among grant_cmp (items_in grants.by_first.items) (p, role) ≡ granted_in value p.0 p.1 role
-  may_is p role =
-      sym (set.contains-from_list grants_total (items_in grants.by_first.items) (p, role))
+module _ {k : ℕ} (value : PolicyValue) (grants : Relation k)
+    (is : set.from_list {R = grant_cmp} (map grant_of (items_in grants.by_first.items)) ≡ value.grants)
+    (kept : IsKeptBothWays grants) where
+  among_is : (p : ℕ × ℕ) (role : ℕ) →
+      is_among grant_cmp (map grant_of (items_in grants.by_first.items)) (p, role) ≡ granted_in value p.0 p.1 role
+  among_is p role =
+      sym (set.contains-from_list grants_total (map grant_of (items_in grants.by_first.items)) (p, role))
       ∙ ap (λ g. set.contains g (p, role)) is
 
-  pub granted_is : (p : ℕ × ℕ) (role : ℕ) →
-      is_among (pair_cmp nat_cmp permission_cmp) (items_in grants.by_second.items) (role, p) ≡ granted_in value p.0
-      p.1 role
-  granted_is p role = kept.same p role ∙ may_is p role
+  pub may_is : (p : ℕ × ℕ) (role : ℕ) → p.1 < 4294967296 →
+      is_among number_cmp (items_in grants.by_first.items) (packed p, role) ≡ granted_in value p.0 p.1 role
+  may_is p role small = sym (grant_is (items_in grants.by_first.items) p role small) ∙ among_is p role
 
-  abbrev of_role : ℕ → List (ℕ × (ℕ × ℕ))
+  granted_is : (p : ℕ × ℕ) (role : ℕ) → p.1 < 4294967296 →
+      is_among number_cmp (items_in grants.by_second.items) (role, packed p) ≡ granted_in value p.0 p.1 role
+  granted_is p role small = kept.same (packed p) role ∙ may_is p role small
+
+  abbrev of_role : ℕ → List (ℕ × ℕ)
   of_role role = filter (λ g. eq_by_cmp nat_cmp role g.0) (items_in grants.by_second.items)
 
+  of_role_among : (role n : ℕ) → Contains (map (λ g. g.1) (of_role role)) n
+      ↔ IsTrue (is_among number_cmp (items_in grants.by_second.items) (role, n))
+  of_role_among role n =
+      seconds_members nat_cmp_total nat_cmp_total exact_unsigned exact_unsigned (items_in grants.by_second.items) role n
+
   role_may : (role : ℕ) (p : ℕ × ℕ) →
-      Contains (map (λ g. g.1) (of_role role)) p ↔ IsTrue (granted_in value p.0 p.1 role)
-  role_may role p =
-      iff_trans
-      (seconds_members nat_cmp_total permissions_total exact_unsigned permissions_exact (items_in
-      grants.by_second.items) role p)
-      (iff_same _ _ (granted_is p role))
+      Contains (map (λ g. permission_of g.1) (of_role role)) p ↔ IsTrue (granted_in value p.0 p.1 role)
+  role_may role p = (
+    λ h.
+        let g = mapped_from (λ (g : ℕ × ℕ). permission_of g.1) (of_role role) p h in
+        let n : ℕ = g.0.1 in
+        let among = (of_role_among role n).0 (mapped_into (λ (g : ℕ × ℕ). g.1) (of_role role) g.0 g.1) in
+        subst (λ q. IsTrue (granted_in value q.0 q.1 role)) g.2
+        (sym (granted_is (permission_of n) role (small_object n)) ∙ ap (λ m. is_among number_cmp (items_in
+        grants.by_second.items) (role, m)) (packed_again n) ∙ among),
+    λ h.
+        let small : p.1 < 4294967296 = small_of p role h in
+        let m = mapped_from (λ (g : ℕ × ℕ). g.1) (of_role role) (packed p)
+        ((of_role_among role (packed p)).1 (granted_is p role small ∙ h)) in
+        subst (Contains (map (λ g. permission_of g.1) (of_role role)))
+        (ap permission_of m.2 ∙ permission_again p small)
+        (mapped_into (λ (g : ℕ × ℕ). permission_of g.1) (of_role role) m.0 m.1),
+  )
+    where
+      small_of : (p : ℕ × ℕ) (role : ℕ) → IsTrue (granted_in value p.0 p.1 role) → p.1 < 4294967296
+      small_of p role h =
+          elim (cases_lt p.1 4294967296) [
+            | inl small ↦ small
+            | inr large ↦
+                absurd (true≢false (sym h ∙ sym (among_is p role)
+                ∙ grant_not (items_in grants.by_first.items) p role large))
+          ]
 
   pub permissions_listing : (role : ℕ) → IsListing permission_cmp (λ p. IsTrue (granted_in value p.0 p.1 role))
-      (map (λ g. g.1) (of_role role))
+      (map (λ g. permission_of g.1) (of_role role))
   permissions_listing role = record {
-    ascending = seconds_ascend permission_cmp nat_cmp_total role (items_in grants.by_second.items) kept.by_second;
+    ascending =
+        permissions_ascend (of_role role)
+        (seconds_ascend nat_cmp nat_cmp_total role (items_in grants.by_second.items) kept.by_second);
     exact = role_may role;
   }
 
   -- of some role of these
   pub permissions_members : (roles : List ℕ) (p : ℕ × ℕ) →
-      Contains (flat_map (λ role. map (λ g. g.1) (of_role role)) roles) p
+      Contains (flat_map (λ role. map (λ g. permission_of g.1) (of_role role)) roles) p
       ↔ ((role : ℕ) × Contains roles role × RoleMay value p.0 p.1 role)
   permissions_members roles p =
-      iff_trans (contains_flat_map (λ role. map (λ g. g.1) (of_role role)) roles p) (
+      iff_trans (contains_flat_map (λ role. map (λ g. permission_of g.1) (of_role role)) roles p) (
         λ (role, within, h). (role, within, (role_may role p).0 h),
         λ (role, within, h). (role, within, (role_may role p).1 h),
       )
 
   operation_may : (object role operation : ℕ) →
-      Contains (map (λ g. g.1.0) (filter (λ g. g.1.1 == object) (of_role role))) operation
+      Contains (map (λ g. (permission_of g.1).0) (filter (λ g. (permission_of g.1).1 == object) (of_role role)))
+      operation
       ↔ IsTrue (granted_in value operation object role)
   operation_may object role operation = (
     λ h.
-        let g = picked_from (λ (g : ℕ × (ℕ × ℕ)). g.1.1 == object) (λ g. g.1.0) (of_role role) operation h in
-        let is : g.0.1 ≡ (operation, object) = λ i. (g.3 i, exact_unsigned_eq g.0.1.1 object g.2 i) in
+        let g = picked_from (λ (g : ℕ × ℕ). (permission_of g.1).1 == object) (λ g. (permission_of g.1).0)
+        (of_role role) operation h in
+        let is : permission_of g.0.1 ≡ (operation, object) =
+        λ i. (g.3 i, exact_unsigned_eq (permission_of g.0.1).1 object g.2 i) in
         (role_may role (operation, object)).0
-        (subst (Contains (map (λ g. g.1) (of_role role))) is (contains_map (of_role role) g.0 g.1)),
+        (subst (Contains (map (λ g. permission_of g.1) (of_role role))) is
+        (mapped_into (λ (g : ℕ × ℕ). permission_of g.1) (of_role role) g.0 g.1)),
     λ h.
-        let g = contains_from_map (of_role role) (operation, object) ((role_may role (operation, object)).1 h) in
-        subst (Contains (map (λ g. g.1.0) (filter (λ g. g.1.1 == object) (of_role role)))) (ap (λ p. p.0) g.2)
-        (picked_into (λ (g : ℕ × (ℕ × ℕ)). g.1.1 == object) (λ g. g.1.0) (of_role role) g.0 g.1
-        (ap (λ p. p.1 == object) g.2 ∙ nat_eq_equiv.refl object)),
+        let g = mapped_from (λ (g : ℕ × ℕ). permission_of g.1) (of_role role) (operation, object)
+        ((role_may role (operation, object)).1 h) in
+        subst (Contains (map (λ g. (permission_of g.1).0) (filter (λ g. (permission_of g.1).1 == object)
+        (of_role role)))) (ap (λ p. p.0) g.2)
+        (picked_into (λ (g : ℕ × ℕ). (permission_of g.1).1 == object) (λ g. (permission_of g.1).0) (of_role role) g.0
+        g.1 (ap (λ p. p.1 == object) g.2 ∙ nat_eq_equiv.refl object)),
   )
-    where
-      contains_map : (gs : List (ℕ × (ℕ × ℕ))) (g : ℕ × (ℕ × ℕ)) → Contains gs g → Contains (map (λ g. g.1) gs) g.1
-      contains_map [] g within = contains_none g _ within
-      contains_map (x ∷ gs) g within = elim (contains_cases x gs g within) [
-        | inl here ↦ contains_head x.1 (map (λ g. g.1) gs) g.1 (ap (λ g. g.1) here)
-        | inr later ↦ contains_more x.1 (map (λ g. g.1) gs) g.1 (contains_map gs g later)
-      ]
-
-      contains_from_map : (gs : List (ℕ × (ℕ × ℕ))) (p : ℕ × ℕ) → Contains (map (λ g. g.1) gs) p →
-          ((g : ℕ × (ℕ × ℕ)) × Contains gs g × (g.1 ≡ p))
-      contains_from_map [] p h = contains_none p _ h
-      contains_from_map (x ∷ gs) p h = elim (contains_cases x.1 (map (λ g. g.1) gs) p h) [
-        | inl here ↦ (x, contains_head x gs x refl, here)
-        | inr later ↦
-            let g : (g : ℕ × (ℕ × ℕ)) × Contains gs g × (g.1 ≡ p) = contains_from_map gs p later in
-            (g.0, contains_more x gs g.0 g.1, g.2)
-      ]
 
   pub operations_members : (object : ℕ) (roles : List ℕ) (operation : ℕ) →
-      Contains (flat_map (λ role. map (λ g. g.1.0) (filter (λ g. g.1.1 == object) (of_role role))) roles) operation
+      Contains (flat_map (λ role. map (λ g. (permission_of g.1).0) (filter (λ g. (permission_of g.1).1 == object)
+      (of_role role))) roles) operation
       ↔ ((role : ℕ) × Contains roles role × RoleMay value operation object role)
   operations_members object roles operation =
       iff_trans
-      (contains_flat_map (λ role. map (λ g. g.1.0) (filter (λ g. g.1.1 == object) (of_role role))) roles operation) (
+      (contains_flat_map (λ role. map (λ g. (permission_of g.1).0) (filter (λ g. (permission_of g.1).1 == object)
+      (of_role role))) roles operation) (
         λ (role, within, h). (role, within, (operation_may object role operation).0 h),
         λ (role, within, h). (role, within, (operation_may object role operation).1 h),
       )

@@ -53,6 +53,24 @@ filter_every p (x ∷ xs) every =
     ap (λ b. cond b (x ∷ filter p xs) (filter p xs)) (All-head (λ x. p x ≡ true) x xs every)
     ∙ ap (λ l. x ∷ l) (filter_every p xs (All-tail (λ x. p x ≡ true) x xs every))
 
+-- the members of a mapped list
+pub mapped_from : {X Y : Type 0} (f : X → Y) (xs : List X) (y : Y) → Contains (map f xs) y
+    → (x : X) × Contains xs x × (f x ≡ y)
+mapped_from f [] y h = contains_none y _ h
+mapped_from f (x ∷ xs) y h =
+    elim (contains_cases (f x) (map f xs) y h) [
+      | inl here ↦ (x, contains_head x xs x refl, here)
+      | inr later ↦ let z = mapped_from f xs y later in (z.0, contains_more x xs z.0 z.1, z.2)
+    ]
+
+pub mapped_into : {X Y : Type 0} (f : X → Y) (xs : List X) (x : X) → Contains xs x → Contains (map f xs) (f x)
+mapped_into f [] x within = contains_none x _ within
+mapped_into f (z ∷ xs) x within =
+    elim (contains_cases z xs x within) [
+      | inl here ↦ contains_head (f z) (map f xs) (f x) (ap f here)
+      | inr later ↦ contains_more (f z) (map f xs) (f x) (mapped_into f xs x later)
+    ]
+
 module _ {X Y : Type 0} (p : X → Bool) (f : X → Y) where
   -- y comes of an item that passes
   abbrev pub Picked : List X → Y → Type 0

@@ -1,5 +1,5 @@
 -- Permissions as numbers: a listing of the numbers is one of the permissions.
-use Rattle.std.proofs.Common.{◌≡◌, ℕ, ◌+◌, ◌*◌, ◌/◌, ◌%◌, ◌<◌, ◌^◌, inl, inr, List, [], ◌∷◌}
+use Rattle.std.proofs.Common.{◌≡◌, ℕ, ◌+◌, ◌*◌, ◌/◌, ◌%◌, ◌<◌, ◌^◌, List, [], ◌∷◌}
 use Rattle.std.proofs.Common.{map, refl, sym, ap, ◌∙◌, subst, arith}
 use Rattle.std.specs.Prelude.{All, Contains}
 use Rattle.std.specs.declared.cmp.Ordering.TheVariants.{Less, Equal, Greater}
@@ -12,7 +12,7 @@ use Rattle.std.proofs.lemmas.List.Elements.{at_from_Contains}
 use Rattle.rbac_state.specs.Policies.{permission_cmp}
 use Rattle.rbac_state.specs.Listings.{IsListing}
 use Rattle.rbac_state.specs.inside.Packed.{packed, unpacked}
-use Rattle.rbac_state.proofs.Members.{contains_head, contains_more, contains_cases, contains_none}
+use Rattle.rbac_state.proofs.Members.{contains_head, contains_more, mapped_from, mapped_into}
 
 abbrev pub Fits : ℕ × ℕ → Type 0
 Fits p = (p.0 < 2 ^ 16) × (p.1 < 2 ^ 32)
@@ -38,23 +38,6 @@ less_then a b c d small large less =
       | Equal ↦ λ same. less_cmp b d (omega arith)
       | Greater ↦ λ above. absurd (omega arith)
     ] (ranked a c (nat_cmp a c) refl)
-
-pub mapped_from : {X Y : Type 0} (f : X → Y) (xs : List X) (y : Y) → Contains (map f xs) y
-    → (x : X) × Contains xs x × (f x ≡ y)
-mapped_from f [] y h = contains_none y _ h
-mapped_from f (x ∷ xs) y h =
-    elim (contains_cases (f x) (map f xs) y h) [
-      | inl here ↦ (x, contains_head x xs x refl, here)
-      | inr later ↦ let z = mapped_from f xs y later in (z.0, contains_more x xs z.0 z.1, z.2)
-    ]
-
-pub mapped_into : {X Y : Type 0} (f : X → Y) (xs : List X) (x : X) → Contains xs x → Contains (map f xs) (f x)
-mapped_into f [] x within = contains_none x _ within
-mapped_into f (z ∷ xs) x within =
-    elim (contains_cases z xs x within) [
-      | inl here ↦ contains_head (f z) (map f xs) (f x) (ap f here)
-      | inr later ↦ contains_more (f z) (map f xs) (f x) (mapped_into f xs x later)
-    ]
 
 -- the number of a permission that fits
 abbrev IsNumber : ℕ → Type 0

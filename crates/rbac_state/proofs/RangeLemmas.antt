@@ -11,7 +11,7 @@ use Rattle.std.proofs.lemmas.List.{take-append-drop, length-take-le, length-drop
 use Rattle.std.proofs.lemmas.List.Elements.{filter-append}
 use Rattle.std.proofs.lemmas.List.Sorted.{searchable_from_sorted}
 use Rattle.std.proofs.lemmas.Map.Keys.{Less-from_sorted}
-use Rattle.rbac_state.specs.inside.Relations.{pair_cmp}
+use Rattle.rbac_state.specs.inside.Pairs.{pair_cmp}
 use Rattle.rbac_state.proofs.Members.{filter_none, filter_every}
 
 then_less : (u v : Ordering) → ordering_then u v ≡ Less → is_lt (ordering_reverse u) ≡ false

@@ -1,20 +1,21 @@
 -- A relation that is kept both ways: what a pair put or taken away leaves, and what its parts list.
-use Rattle.std.proofs.Common.{◌≡◌, Bool, true, false, not, ◌&&◌, cond, List, [], ◌∷◌, refl, sym, ap, ◌∙◌}
+use Rattle.std.proofs.Common.{◌≡◌, ℕ, Bool, true, false, not, ◌&&◌, cond, List, [], ◌∷◌, refl, sym, ap, ◌∙◌}
 use Rattle.std.proofs.Common.{subst, filter, map}
 use Rattle.std.specs.Prelude.{IsTrue, ◌↔◌, Contains}
 use Rattle.std.specs.declared.cmp.Ordering.{Ordering}
 use Rattle.std.specs.declared.cmp.Ordering.TheVariants.{Less, Equal, Greater}
-use Rattle.std.specs.Ordering.{eq_by_cmp, is_eq, ordering_then}
+use Rattle.std.specs.Ordering.{eq_by_cmp, is_eq, ordering_then, nat_cmp}
 use Rattle.std.specs.List.{AllByRecursion}
 use Rattle.std.specs.List.Sorted.{IsStrictlySortedBy}
 use Rattle.std.specs.Cmp.{IsTotalOrder, Equal-is}
-use Rattle.std.proofs.lemmas.Cmp.{eq_by_cmp_equiv, then_total, on_total}
+use Rattle.std.proofs.lemmas.Cmp.{eq_by_cmp_equiv, then_total, on_total, nat_cmp_total}
 use Rattle.std.proofs.lemmas.List.Kept.{IsStrictlySortedBy-filter}
 use Rattle.std.proofs.lemmas.Map.Lookups.{CmpEqualImpliesEq, exact_pairs}
 use Rattle.std.proofs.lemmas.Map.Views.{any-filter_same, Contains-from_any, list_any-from_Contains, tells_apart}
 use Rattle.rbac_state.specs.inside.Blocks.{AreBlocks, items_in}
-use Rattle.rbac_state.specs.inside.Relations.{pair_cmp, is_among, relates, IsKeptBothWays}
+use Rattle.rbac_state.specs.inside.Relations.{is_among, relates, IsKeptBothWays}
 use Rattle.rbac_state.specs.declared.relation.Relation.{Relation}
+use Rattle.rbac_state.specs.inside.Pairs.{number_cmp, pair_cmp}
 use Rattle.rbac_state.proofs.Members.{picked_from, picked_into}
 
 pub pair_tied : (u v : Ordering) → is_eq (ordering_then u v) ≡ (is_eq u && is_eq v)
@@ -93,23 +94,23 @@ module _ {A B : Type 0} (R : A → A → Ordering) {S : B → B → Ordering} (o
       any-filter_same (eq_by_cmp (pair_cmp S R) (b, a)) (λ p. not (eq_by_cmp S p.0 second)) (not (eq_by_cmp S b second))
       (λ p e. alike b second p.0 (first_true _ _ (sym (pair_tied (S b p.0) (R a p.1)) ∙ e))) ps
 
-  -- a relation without the pairs of a second
-  pub kept_without : (old new : Relation A B) (second : B) → IsKeptBothWays R S old →
-      IsStrictlySortedBy (pair_cmp R S) (items_in new.by_first.items) →
-      ((a : A) (b : B) → relates R S new a b ≡ (not (eq_by_cmp S b second) && relates R S old a b)) →
-      (items_in new.by_second.items) ≡ filter (λ p. not (eq_by_cmp S p.0 second)) (items_in old.by_second.items) →
-      AreBlocks new.room new.by_first.items → AreBlocks new.room new.by_second.items → IsKeptBothWays R S new
-  kept_without old new second kept up members by_second first_blocks second_blocks = record {
-    first_blocks = first_blocks;
-    second_blocks = second_blocks;
-    by_first = up;
-    by_second = subst (IsStrictlySortedBy (pair_cmp S R)) (sym by_second)
-        (IsStrictlySortedBy-filter (pair_cmp S R) _ _ kept.by_second);
-    same = λ a b.
-        ap (λ l. is_among (pair_cmp S R) l (b, a)) by_second ∙ among_turned_others second (items_in
-        old.by_second.items) a b
-        ∙ ap (λ x. not (eq_by_cmp S b second) && x) (kept.same a b) ∙ sym (members a b);
-  }
+-- a relation without the pairs of a second
+pub kept_without : {k : ℕ} (old new : Relation k) (second : ℕ) → IsKeptBothWays old →
+    IsStrictlySortedBy number_cmp (items_in new.by_first.items) →
+    ((a b : ℕ) → relates new a b ≡ (not (eq_by_cmp nat_cmp b second) && relates old a b)) →
+    (items_in new.by_second.items) ≡ filter (λ p. not (eq_by_cmp nat_cmp p.0 second)) (items_in old.by_second.items) →
+    AreBlocks new.room new.by_first.items → AreBlocks new.room new.by_second.items → IsKeptBothWays new
+kept_without old new second kept up members by_second first_blocks second_blocks = record {
+  first_blocks = first_blocks;
+  second_blocks = second_blocks;
+  by_first = up;
+  by_second =
+      subst (IsStrictlySortedBy number_cmp) (sym by_second) (IsStrictlySortedBy-filter number_cmp _ _ kept.by_second);
+  same = λ a b.
+      ap (λ l. is_among number_cmp l (b, a)) by_second
+      ∙ among_turned_others nat_cmp nat_cmp_total second (items_in old.by_second.items) a b
+      ∙ ap (λ x. not (eq_by_cmp nat_cmp b second) && x) (kept.same a b) ∙ sym (members a b);
+}
 
 module _ {A B : Type 0} {R : A → A → Ordering} {S : B → B → Ordering} (o : IsTotalOrder R) (ob : IsTotalOrder S)
     (exact : CmpEqualImpliesEq R) (exact_second : CmpEqualImpliesEq S) where

@@ -11,7 +11,7 @@ use Rattle.std.proofs.lemmas.List.{length-drop}
 use Rattle.std.proofs.lemmas.List.Elements.{filter-append}
 use Rattle.std.proofs.lemmas.List.Kept.{IsStrictlySortedBy-filter}
 use Rattle.rbac_state.specs.inside.Blocks.{begins}
-use Rattle.rbac_state.specs.inside.Relations.{pair_cmp}
+use Rattle.rbac_state.specs.inside.Pairs.{pair_cmp}
 use Rattle.rbac_state.proofs.EachLemmas.{each_map, each_drop, filter_nothing}
 use Rattle.rbac_state.proofs.BlockLemmas.{before_all, from_place, begins_parted, passes_at, drop_later}
 use Rattle.rbac_state.proofs.KeepLemmas.{filter_twice}

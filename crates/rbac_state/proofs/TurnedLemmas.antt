@@ -1,19 +1,21 @@
 -- A list of pairs in blocks, from which the pairs of another list are taken, turned.
 use Rattle.std.proofs.Common.{◌≡◌, ℕ, ◌+◌, ◌<◌, ◌≤◌, Bool, true, false, not, ◌&&◌, ◌||◌, List, [], ◌∷◌, ◌++◌}
-use Rattle.std.proofs.Common.{length, get_or, drop, filter, refl, sym, ap, ◌∙◌}
+use Rattle.std.proofs.Common.{cond, length, get_or, drop, filter, refl, sym, ap, ◌∙◌}
 use Rattle.std.specs.declared.cmp.Ordering.{Ordering}
 use Rattle.std.specs.declared.vec.Vec.{Vec}
-use Rattle.std.specs.Ordering.{eq_by_cmp}
-use Rattle.std.specs.List.{flat_map}
+use Rattle.std.specs.Ordering.{eq_by_cmp, nat_cmp}
+use Rattle.std.specs.List.{AllByRecursion, flat_map}
 use Rattle.std.specs.List.Sorted.{IsStrictlySortedBy}
 use Rattle.std.specs.Cmp.{IsTotalOrder}
 use Rattle.std.proofs.lemmas.Cmp.{eq_by_cmp_equiv}
 use Rattle.std.proofs.lemmas.List.{drop_more}
 use Rattle.std.proofs.lemmas.List.Elements.{filter-append}
 use Rattle.std.proofs.lemmas.List.Folds.{list_any-append}
-use Rattle.std.proofs.lemmas.Map.Views.{any-filter_same}
+use Rattle.std.proofs.lemmas.Map.Lookups.{exact_unsigned}
+use Rattle.std.proofs.lemmas.Map.Views.{any-filter_same, tells_apart}
 use Rattle.rbac_state.specs.inside.Blocks.{AreBlocks, items_in}
-use Rattle.rbac_state.specs.inside.Relations.{pair_cmp, is_among}
+use Rattle.rbac_state.specs.inside.Relations.{is_among}
+use Rattle.rbac_state.specs.inside.Pairs.{pair_cmp}
 use Rattle.rbac_state.proofs.RelationLemmas.{turned, pair_tied, first_true}
 
 -- from the old list these pairs were taken, turned
@@ -125,3 +127,15 @@ module _ {A B : Type 0} (R : A → A → Ordering) {S : B → B → Ordering} (o
       ∙ ap (λ x. eq_by_cmp S b second && x) both in
       is ∙ ap (λ x. not x && is_among (pair_cmp R S) old (a, b)) alike
       ∙ and_known (eq_by_cmp S b second) (is_among (pair_cmp R S) old (a, b))
+
+-- pairs of one first have it
+pub alike_here : (first : ℕ) (ps : List (ℕ × ℕ)) →
+    AllByRecursion (λ p. p.0 ≡ first) (filter (λ p. eq_by_cmp nat_cmp first p.0) ps)
+alike_here first [] = tt
+alike_here first (p ∷ ps) =
+    elim (eq_by_cmp nat_cmp first p.0) as (λ b. eq_by_cmp nat_cmp first p.0 ≡ b →
+    AllByRecursion (λ q. q.0 ≡ first) (cond b (p ∷ filter (λ q. eq_by_cmp nat_cmp first q.0) ps)
+    (filter (λ q. eq_by_cmp nat_cmp first q.0) ps))) [
+      | true ↦ λ e. (sym (tells_apart exact_unsigned first p.0 e), alike_here first ps)
+      | false ↦ λ _. alike_here first ps
+    ] refl

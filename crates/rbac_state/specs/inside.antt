@@ -1,4 +1,6 @@
+pub mod Pairs
 pub mod Blocks
 pub mod Packed
 pub mod Relations
 pub mod Runs
+pub mod Searches

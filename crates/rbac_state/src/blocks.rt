@@ -5,11 +5,12 @@ ghost use Rattle.std.specs.Prelude.{◌≡◌, ℕ, ◌<◌, ◌≤◌, ◌-◌,
 ghost use Rattle.std.specs.Prelude.{IfOk, filter, vec_len, vec_capacity};
 ghost use Rattle.std.specs.List.{AllByRecursion};
 ghost use Rattle.std.specs.List.Sorted.{IsStrictlySortedBy};
-ghost use Rattle.std.specs.Ordering.{eq_by_cmp, is_le};
+ghost use Rattle.std.specs.Ordering.{eq_by_cmp, is_le, nat_cmp};
 ghost use Rattle.std.specs.declared.cmp.Ordering.TheVariants.{Less};
 ghost use Rattle.rbac_state.specs.inside.Blocks.{AreBlocks, IsSplit, block_size, items_in, begins, tidied};
 ghost use Rattle.rbac_state.specs.inside.Relations.{is_among};
 
+use crate::pair::Pair;
 use crate::sorted;
 use std::alloc::{AllocError, Global};
 use std::cmp::Ord;
@@ -181,10 +182,10 @@ fn upper_part<T: Copy + Drop>(alloc: Global, items: &[T], from: usize) -> Result
 }
 
 /// Takes away all pairs of this second. It takes no memory.
-pub fn take_away_second<A: Drop, B: Ord + Copy + Drop>(blocks: &mut Vec<Vec<(A, B)>>, second: B)
+pub fn take_away_second<const LIMIT: u64>(blocks: &mut Vec<Vec<Pair<LIMIT>>>, second: u64)
     requires { AreBlocks 0 blocks.old.items }
     ensures items { items_in blocks.new.items
-        ≡ filter (λ p. not (eq_by_cmp B.cmp p.1 second)) (items_in blocks.old.items) }
+        ≡ filter (λ p. not (eq_by_cmp nat_cmp p.1 second)) (items_in blocks.old.items) }
     ensures room { (room : ℕ) → AreBlocks room blocks.old.items → AreBlocks room blocks.new.items }
 {
     let mut place = blocks.len();

@@ -6,9 +6,12 @@ mod blocks;
 pub mod laws;
 mod listing;
 mod packed;
+mod pair;
 mod policy;
 mod relation;
 mod run;
+mod search;
+mod second;
 mod select;
 mod sorted;
 

@@ -1,4 +1,4 @@
-//! Permissions as one number each, which has their order and is quicker to sort.
+//! Permissions as one number each, which has their order: a relation keeps it, and it is quicker to sort.
 
 ghost use Rattle.std.specs.Prelude.{◌≡◌, ◌+◌, ◌*◌, ◌/◌, ◌%◌, ◌<◌, ◌^◌, map, All, Contains, IfOk};
 ghost use Rattle.rbac_state.specs.Policies.{permission_cmp};
@@ -67,7 +67,7 @@ fn unpack_all(alloc: Global, numbers: &[u64]) -> Result<Vec<Permission>, AllocEr
 }
 
 /// The number of a permission.
-fn pack(permission: Permission) -> u64
+pub fn pack(permission: Permission) -> u64
     ensures { result ≡ packed permission }
 {
     u64::from(permission.0) * 4_294_967_296 + u64::from(permission.1)

@@ -7,7 +7,7 @@ ghost use Rattle.rbac_state.specs.Policies.{UserMay, least_room, IsBlank, SameRe
 ghost use Rattle.rbac_state.specs.Listings.{IsListing};
 
 use crate::listing::ascending;
-use crate::packed::ascending_permissions;
+use crate::packed::{ascending_permissions, pack};
 use crate::relation::Relation;
 use crate::select;
 use quorum_sizes::NodeName;
@@ -18,6 +18,18 @@ use std::marker::Model;
 /// An operation and an object.
 pub type Permission = (u16, u32);
 
+/// A user's number is below this.
+const USERS: u64 = 4_294_967_296;
+
+/// A permission's number is below this.
+pub const PERMISSIONS: u64 = 281_474_976_710_656;
+
+/// Users, each with a role.
+pub type Users = Relation<USERS>;
+
+/// Permissions by their numbers, each with a role.
+pub type Grants = Relation<PERMISSIONS>;
+
 /// So many commands can be applied after room was made.
 const LEAST_ROOM: usize = 64;
 
@@ -26,14 +38,12 @@ const LEAST_ROOM: usize = 64;
 #[derive(Drop, Debug)]
 pub struct Policy {
     roles: RoleTable,
-    /// Users, each with a role.
-    assigned: Relation<u32, u16>,
-    /// Permissions, each with a role.
-    granted: Relation<Permission, u16>,
+    assigned: Users,
+    granted: Grants,
 }
 
 impl Model for Policy {
-    ghost use Rattle.std.specs.Prelude.{min};
+    ghost use Rattle.std.specs.Prelude.{min, map};
     ghost use Rattle.std.specs.FinSet as set;
     ghost use Rattle.rbac_state.specs.Policies.{PolicyValue, policy_code};
 
@@ -42,12 +52,13 @@ impl Model for Policy {
     ghost coded = { policy_code };
 
     ghost use Rattle.rbac_state.specs.inside.Blocks.{items_in};
+    ghost use Rattle.rbac_state.specs.inside.Packed.{grant_of};
     ghost use Rattle.rbac_state.specs.inside.Relations.{AreKept, room_of};
 
     ghost view = { λ a. record {
       table = a.roles;
       assignments = set.from_list (items_in a.assigned.by_first.items);
-      grants = set.from_list (items_in a.granted.by_first.items);
+      grants = set.from_list (map grant_of (items_in a.granted.by_first.items));
       room = min (room_of a.assigned) (room_of a.granted);
     } };
 
@@ -103,18 +114,18 @@ impl Policy {
             return;
         }
         match command {
-            Command::Assign { user, role } => self.assigned.put(user, role),
-            Command::Deassign { user, role } => self.assigned.take_away(user, role),
+            Command::Assign { user, role } => self.assigned.put(user as u64, role),
+            Command::Deassign { user, role } => self.assigned.take_away(user as u64, role),
             Command::Grant {
                 role,
                 operation,
                 object,
-            } => self.granted.put((operation, object), role),
+            } => self.granted.put(pack((operation, object)), role),
             Command::Revoke {
                 role,
                 operation,
                 object,
-            } => self.granted.take_away((operation, object), role),
+            } => self.granted.take_away(pack((operation, object)), role),
             Command::Clear { role } => {
                 self.assigned.take_away_second(role);
                 self.granted.take_away_second(role);
@@ -133,14 +144,14 @@ impl Policy {
     pub fn is_assigned(&self, user: u32, role: u16) -> bool
         ensures { result ≡ assigned_in self.now user role }
     {
-        self.assigned.has(user, role)
+        self.assigned.has(user as u64, role)
     }
 
     /// Whether the role may do the operation on the object.
     pub fn is_granted(&self, role: u16, operation: u16, object: u32) -> bool
         ensures { result ≡ granted_in self.now operation object role }
     {
-        self.granted.has((operation, object), role)
+        self.granted.has(pack((operation, object)), role)
     }
 
     /// The first of these roles that the user has and that may do the operation on the object.
@@ -157,9 +168,9 @@ impl Policy {
         select::first_granting(
             &self.assigned,
             &self.granted,
-            user,
+            user as u64,
             roles,
-            (operation, object),
+            pack((operation, object)),
         )
     }
 
@@ -172,7 +183,7 @@ impl Policy {
         ensures { IfOk result (λ users.
             IsListing nat_cmp (λ user. HasRole self.now user role) users.items) }
     {
-        select::seconds(self.alloc(), self.assigned.with_second(), role)
+        select::seconds(self.alloc(), self.assigned.with_second(), role as u64)
     }
 
     /// The roles that the user has, in ascending order.
@@ -184,7 +195,7 @@ impl Policy {
         ensures { IfOk result (λ roles.
             IsListing nat_cmp (λ role. HasRole self.now user role) roles.items) }
     {
-        select::seconds(self.alloc(), self.assigned.with_first(), user)
+        select::seconds(self.alloc(), self.assigned.with_first(), user as u64)
     }
 
     /// What the role may do, in ascending order of the operation and then of the object.
@@ -196,7 +207,7 @@ impl Policy {
         ensures { IfOk result (λ permissions.
             IsListing permission_cmp (λ p. RoleMay self.now p.0 p.1 role) permissions.items) }
     {
-        select::seconds(self.alloc(), self.granted.with_second(), role)
+        select::seconds(self.alloc(), self.granted.with_second(), role as u64)
     }
 
     /// What some role of the user may do, in ascending order of the operation and then of the object.

@@ -1,30 +1,31 @@
 //! A relation that is looked up from either side.
 
-ghost use Rattle.std.specs.Prelude.{◌≡◌, ◌<◌, ◌≤◌, ◌+◌, ◌*◌, ◌||◌, ◌&&◌, not, [], filter, OnOk, OnErr};
-ghost use Rattle.std.specs.Ordering.{eq_by_cmp};
+ghost use Rattle.std.specs.Prelude.{◌≡◌, ◌<◌, ◌≤◌, ◌+◌, ◌*◌, ◌||◌, ◌&&◌, ℕ, not, [], filter, OnOk, OnErr};
+ghost use Rattle.std.specs.Ordering.{eq_by_cmp, nat_cmp};
 ghost use Rattle.rbac_state.specs.inside.Blocks.{block_size, items_in};
+ghost use Rattle.rbac_state.specs.inside.Pairs.{most_firsts};
 ghost use Rattle.rbac_state.specs.inside.Relations.{IsKeptBothWays, SamePairs, relates, room_of};
 ghost use Rattle.rbac_state.specs.inside.Runs.{AreAlike};
 
 use crate::blocks;
+use crate::pair::{Pair, ROLES};
 use crate::run::{self, Alike};
 use std::alloc::{AllocError, Global};
-use std::cmp::Ord;
 
-/// A finite relation. Its pairs are kept twice, in ascending order by either side, so that a look-up
-/// from either side is a binary search, and in blocks, so that a change moves few of them.
+/// A finite relation of numbers below `FIRSTS` with roles. Its pairs are kept twice, in ascending order by either side,
+/// so that a look-up from either side is a search, and in blocks, so that a change moves few of them.
 #[derive(Drop, Debug)]
-pub struct Relation<A, B> {
-    by_first: Vec<Vec<(A, B)>>,
-    by_second: Vec<Vec<(B, A)>>,
+pub struct Relation<const FIRSTS: u64> {
+    by_first: Vec<Vec<Pair<ROLES>>>,
+    by_second: Vec<Vec<Pair<FIRSTS>>>,
     /// So many places, or more, are free in each block.
     room: usize,
 }
 
-impl<A: Ord + Copy + Drop, B: Ord + Copy + Drop> Relation<A, B> {
+impl<const FIRSTS: u64> Relation<FIRSTS> {
     /// The relation of no pairs. It takes no memory.
     pub fn new(alloc: Global) -> Self
-        ensures kept { IsKeptBothWays A.cmp B.cmp result }
+        ensures kept { IsKeptBothWays result }
         ensures blank { items_in result.by_first.items ≡ [] }
     {
         Relation {
@@ -43,8 +44,8 @@ impl<A: Ord + Copy + Drop, B: Ord + Copy + Drop> Relation<A, B> {
     #[inline(always)]
     pub fn make_room(&mut self, least: usize) -> Result<(), AllocError>
         requires few { 4 * least ≤ block_size }
-        requires kept { IsKeptBothWays A.cmp B.cmp self.old }
-        ensures kept { IsKeptBothWays A.cmp B.cmp self.new }
+        requires kept { IsKeptBothWays self.old }
+        ensures kept { IsKeptBothWays self.new }
         ensures ok { OnOk result (least ≤ room_of self.new) }
         ensures full { OnErr result (room_of self.old < least) }
         ensures more { room_of self.old ≤ room_of self.new }
@@ -60,8 +61,8 @@ impl<A: Ord + Copy + Drop, B: Ord + Copy + Drop> Relation<A, B> {
     fn free(&mut self, room: usize) -> Result<(), AllocError>
         requires few { 2 * room ≤ block_size }
         requires more { room_of self.old ≤ room }
-        requires kept { IsKeptBothWays A.cmp B.cmp self.old }
-        ensures kept { IsKeptBothWays A.cmp B.cmp self.new }
+        requires kept { IsKeptBothWays self.old }
+        ensures kept { IsKeptBothWays self.new }
         ensures ok { OnOk result (room_of self.new ≡ room) }
         ensures err { OnErr result (room_of self.new ≡ room_of self.old) }
         ensures same { SamePairs self.old self.new }
@@ -80,70 +81,76 @@ impl<A: Ord + Copy + Drop, B: Ord + Copy + Drop> Relation<A, B> {
     }
 
     /// Puts the pair, unless it is there. It takes no memory.
-    pub fn put(&mut self, first: A, second: B)
+    pub fn put(&mut self, first: u64, second: u16)
+        requires below { first < FIRSTS }
+        requires few { FIRSTS ≤ most_firsts }
         requires room { 0 < room_of self.old }
-        requires kept { IsKeptBothWays A.cmp B.cmp self.old }
-        ensures kept { IsKeptBothWays A.cmp B.cmp self.new }
-        ensures members { (a : A) (b : B) → relates A.cmp B.cmp self.new a b
-            ≡ ((eq_by_cmp A.cmp a first && eq_by_cmp B.cmp b second) || relates A.cmp B.cmp self.old a b) }
+        requires kept { IsKeptBothWays self.old }
+        ensures kept { IsKeptBothWays self.new }
+        ensures members { (a b : ℕ) → relates self.new a b
+            ≡ ((eq_by_cmp nat_cmp a first && eq_by_cmp nat_cmp b second) || relates self.old a b) }
         ensures room { room_of self.old ≤ room_of self.new + 1 }
     {
-        blocks::put(&mut self.by_first, (first, second));
-        blocks::put(&mut self.by_second, (second, first));
+        blocks::put(&mut self.by_first, Pair::new(first, second as u64));
+        blocks::put(&mut self.by_second, Pair::new(second as u64, first));
         self.room -= 1;
     }
 
     /// Takes the pair away, if it is there.
-    pub fn take_away(&mut self, first: A, second: B)
-        requires { IsKeptBothWays A.cmp B.cmp self.old }
-        ensures kept { IsKeptBothWays A.cmp B.cmp self.new }
-        ensures members { (a : A) (b : B) → relates A.cmp B.cmp self.new a b
-            ≡ (not (eq_by_cmp A.cmp a first && eq_by_cmp B.cmp b second) && relates A.cmp B.cmp self.old a b) }
+    pub fn take_away(&mut self, first: u64, second: u16)
+        requires below { first < FIRSTS }
+        requires few { FIRSTS ≤ most_firsts }
+        requires kept { IsKeptBothWays self.old }
+        ensures kept { IsKeptBothWays self.new }
+        ensures members { (a b : ℕ) → relates self.new a b
+            ≡ (not (eq_by_cmp nat_cmp a first && eq_by_cmp nat_cmp b second) && relates self.old a b) }
         ensures room { room_of self.old ≤ room_of self.new }
     {
-        blocks::take_away(&mut self.by_first, &(first, second));
-        blocks::take_away(&mut self.by_second, &(second, first));
+        blocks::take_away(&mut self.by_first, &Pair::new(first, second as u64));
+        blocks::take_away(&mut self.by_second, &Pair::new(second as u64, first));
     }
 
     /// Takes away all pairs of this second. It takes no memory.
-    pub fn take_away_second(&mut self, second: B)
-        requires { IsKeptBothWays A.cmp B.cmp self.old }
-        ensures kept { IsKeptBothWays A.cmp B.cmp self.new }
-        ensures members { (a : A) (b : B) → relates A.cmp B.cmp self.new a b
-            ≡ (not (eq_by_cmp B.cmp b second) && relates A.cmp B.cmp self.old a b) }
+    pub fn take_away_second(&mut self, second: u16)
+        requires few { FIRSTS ≤ most_firsts }
+        requires kept { IsKeptBothWays self.old }
+        ensures kept { IsKeptBothWays self.new }
+        ensures members { (a b : ℕ) → relates self.new a b
+            ≡ (not (eq_by_cmp nat_cmp b second) && relates self.old a b) }
         ensures room { room_of self.old ≤ room_of self.new }
     {
         run::take_away_second(&mut self.by_first, &self.by_second, second);
-        run::take_away_first(&mut self.by_second, second);
+        run::take_away_first(&mut self.by_second, second as u64);
     }
 
     /// Whether the pair is in the relation.
-    pub fn has(&self, first: A, second: B) -> bool
-        requires { IsKeptBothWays A.cmp B.cmp self.now }
-        ensures { result ≡ relates A.cmp B.cmp self.now first second }
+    pub fn has(&self, first: u64, second: u16) -> bool
+        requires below { first < most_firsts }
+        requires kept { IsKeptBothWays self.now }
+        ensures { result ≡ relates self.now first second }
     {
-        blocks::has(&self.by_first, &(first, second))
+        blocks::has(&self.by_first, &Pair::new(first, second as u64))
     }
 
     /// Where the pairs of this first lie.
-    pub fn of_first(&self, first: A) -> Alike<'_, A, B>
-        requires { IsKeptBothWays A.cmp B.cmp self.now }
-        ensures { AreAlike A.cmp B.cmp first (items_in self.now.by_first.items) result }
+    pub fn of_first(&self, first: u64) -> Alike<'_, ROLES>
+        requires { IsKeptBothWays self.now }
+        ensures { AreAlike first (items_in self.now.by_first.items) result }
     {
-        Alike::find(&self.by_first, &first)
+        Alike::find(&self.by_first, first)
     }
 
     /// The blocks of the pairs, in ascending order, in which those of this first lie.
-    pub fn with_first(&self) -> &[Vec<(A, B)>]
-        requires { IsKeptBothWays A.cmp B.cmp self.now }
+    pub fn with_first(&self) -> &[Vec<Pair<ROLES>>]
+        requires { IsKeptBothWays self.now }
         ensures { result.now ≡ self.now.by_first.items }
     {
         &self.by_first
     }
 
     /// The blocks of the pairs turned, in ascending order, in which those of this second lie.
-    pub fn with_second(&self) -> &[Vec<(B, A)>]
-        requires { IsKeptBothWays A.cmp B.cmp self.now }
+    pub fn with_second(&self) -> &[Vec<Pair<FIRSTS>>]
+        requires { IsKeptBothWays self.now }
         ensures { result.now ≡ self.now.by_second.items }
     {
         &self.by_second

@@ -3,16 +3,16 @@
 ghost use Rattle.std.specs.Prelude.{◌≡◌, ◌≤◌, ◌<◌, [], ℕ, ◌&&◌, not, length, take, drop, filter, IsTrue};
 ghost use Rattle.std.specs.List.{AllByRecursion};
 ghost use Rattle.std.specs.List.Sorted.{IsStrictlySortedBy};
-ghost use Rattle.std.specs.Ordering.{eq_by_cmp, is_le, is_lt};
+ghost use Rattle.std.specs.Ordering.{eq_by_cmp, is_le, is_lt, nat_cmp};
 ghost use Rattle.std.specs.declared.cmp.Ordering.TheVariants.{Less};
 ghost use Rattle.rbac_state.specs.inside.Blocks.{AreBlocks, items_in, begins};
-ghost use Rattle.rbac_state.specs.inside.Relations.{pair_cmp};
+ghost use Rattle.rbac_state.specs.inside.Pairs.{number_cmp, most_firsts};
 ghost use Rattle.rbac_state.specs.inside.Relations.{is_among};
 ghost use Rattle.rbac_state.specs.inside.Runs.{AreAlike, IsFilled, pairs_in};
 
 use crate::blocks::{self, drop_if_empty, later};
+use crate::pair::{Pair, ROLES};
 use crate::sorted;
-use std::cmp::Ord;
 
 /// One pair is searched and taken away in the time in which a pass goes over so many.
 const PASSED_A_SEARCH: usize = 256;
@@ -20,17 +20,17 @@ const PASSED_A_SEARCH: usize = 256;
 /// Where the pairs of one first lie: in a part of one block, which has no others, or in blocks behind one another,
 /// which may begin and end with others.
 #[derive(Clone, Copy)]
-pub enum Alike<'a, A, B> {
-    Part(&'a [(A, B)]),
-    Blocks(&'a [Vec<(A, B)>]),
+pub enum Alike<'a, const LIMIT: u64> {
+    Part(&'a [Pair<LIMIT>]),
+    Blocks(&'a [Vec<Pair<LIMIT>>]),
 }
 
-impl<'a, A: Ord + Copy, B: Ord + Copy> Alike<'a, A, B> {
+impl<'a, const LIMIT: u64> Alike<'a, LIMIT> {
     /// Where the pairs of this first lie.
-    pub fn find(blocks: &'a [Vec<(A, B)>], first: &A) -> Alike<'a, A, B>
-        requires ascending { IsStrictlySortedBy (pair_cmp A.cmp B.cmp) (items_in blocks.now) }
+    pub fn find(blocks: &'a [Vec<Pair<LIMIT>>], first: u64) -> Alike<'a, LIMIT>
+        requires ascending { IsStrictlySortedBy number_cmp (items_in blocks.now) }
         requires filled { AllByRecursion (λ b. 0 < length b.items) (drop 1 blocks.now) }
-        ensures { AreAlike A.cmp B.cmp first.now (items_in blocks.now) result }
+        ensures { AreAlike first (items_in blocks.now) result }
     {
         match run_of(blocks, first) {
             [block] => Alike::Part(sorted::beginning_with(block, first)),
@@ -49,10 +49,10 @@ impl<'a, A: Ord + Copy, B: Ord + Copy> Alike<'a, A, B> {
     }
 
     /// Whether the pair is there.
-    pub fn has(&self, pair: &(A, B)) -> bool
-        requires ascending { IsStrictlySortedBy (pair_cmp A.cmp B.cmp) (pairs_in self.now) }
+    pub fn has(&self, pair: &Pair<LIMIT>) -> bool
+        requires ascending { IsStrictlySortedBy number_cmp (pairs_in self.now) }
         requires filled { IsFilled self.now }
-        ensures { result ≡ is_among (pair_cmp A.cmp B.cmp) (pairs_in self.now) pair.now }
+        ensures { result ≡ is_among number_cmp (pairs_in self.now) pair.now }
     {
         match self {
             Alike::Part(pairs) => sorted::has(pairs, pair),
@@ -62,12 +62,12 @@ impl<'a, A: Ord + Copy, B: Ord + Copy> Alike<'a, A, B> {
 }
 
 /// The blocks in which the pairs of this first lie, which others may begin and end.
-pub fn run_of<'a, A: Ord, B: Ord>(blocks: &'a [Vec<(A, B)>], first: &A) -> &'a [Vec<(A, B)>]
-    requires ascending { IsStrictlySortedBy (pair_cmp A.cmp B.cmp) (items_in blocks.now) }
+pub fn run_of<const LIMIT: u64>(blocks: &[Vec<Pair<LIMIT>>], first: u64) -> &[Vec<Pair<LIMIT>>]
+    requires ascending { IsStrictlySortedBy number_cmp (items_in blocks.now) }
     requires filled { AllByRecursion (λ b. 0 < length b.items) (drop 1 blocks.now) }
-    ensures same { filter (λ p. eq_by_cmp A.cmp first.now p.0) (items_in result.now)
-        ≡ filter (λ p. eq_by_cmp A.cmp first.now p.0) (items_in blocks.now) }
-    ensures ascending { IsStrictlySortedBy (pair_cmp A.cmp B.cmp) (items_in result.now) }
+    ensures same { filter (λ p. eq_by_cmp nat_cmp first p.0) (items_in result.now)
+        ≡ filter (λ p. eq_by_cmp nat_cmp first p.0) (items_in blocks.now) }
+    ensures ascending { IsStrictlySortedBy number_cmp (items_in result.now) }
     ensures filled { AllByRecursion (λ b. 0 < length b.items) (drop 1 result.now) }
 {
     let start = start_of(blocks, first);
@@ -76,24 +76,28 @@ pub fn run_of<'a, A: Ord, B: Ord>(blocks: &'a [Vec<(A, B)>], first: &A) -> &'a [
 }
 
 /// The place of the first block in which pairs of this first may lie: all before it are of a lower first.
-pub fn start_of<A: Ord, B: Ord>(blocks: &[Vec<(A, B)>], first: &A) -> usize
-    requires ascending { IsStrictlySortedBy (pair_cmp A.cmp B.cmp) (items_in blocks.now) }
+pub fn start_of<const LIMIT: u64>(blocks: &[Vec<Pair<LIMIT>>], first: u64) -> usize
+    requires ascending { IsStrictlySortedBy number_cmp (items_in blocks.now) }
     requires filled { AllByRecursion (λ b. 0 < length b.items) (drop 1 blocks.now) }
     ensures within { result ≤ length blocks.now }
-    ensures below { AllByRecursion (λ p. A.cmp p.0 first.now ≡ Less) (items_in (take result blocks.now)) }
+    ensures below { AllByRecursion (λ p. nat_cmp p.0 first ≡ Less) (items_in (take result blocks.now)) }
 {
-    later(blocks).partition_point(|block| begins_before(block, first))
+    later(blocks).partition_point(
+        |block: &Vec<Pair<LIMIT>>| -> bool
+            ensures { result ≡ begins (λ p. is_lt (nat_cmp p.0 first)) block.now.items }
+        { begins_before(block, first) },
+    )
 }
 
 /// The place behind the last block in which pairs of this first may lie, from this place on: all behind it are of a
 /// higher first.
-pub fn end_of<A: Ord, B: Ord>(blocks: &[Vec<(A, B)>], first: &A, start: usize) -> usize
-    requires ascending { IsStrictlySortedBy (pair_cmp A.cmp B.cmp) (items_in blocks.now) }
+pub fn end_of<const LIMIT: u64>(blocks: &[Vec<Pair<LIMIT>>], first: u64, start: usize) -> usize
+    requires ascending { IsStrictlySortedBy number_cmp (items_in blocks.now) }
     requires filled { AllByRecursion (λ b. 0 < length b.items) (drop 1 blocks.now) }
     requires within { start ≤ length blocks.now }
     ensures onward { start ≤ result }
     ensures within { result ≤ length blocks.now }
-    ensures above { AllByRecursion (λ p. A.cmp first.now p.0 ≡ Less) (items_in (drop result blocks.now)) }
+    ensures above { AllByRecursion (λ p. nat_cmp first p.0 ≡ Less) (items_in (drop result blocks.now)) }
 {
     if start == blocks.len() {
         return start;
@@ -107,13 +111,13 @@ pub fn end_of<A: Ord, B: Ord>(blocks: &[Vec<(A, B)>], first: &A, start: usize) -
 }
 
 /// As `end_of`, for pairs that reach the block at this place: by halving, however many blocks they fill.
-fn end_behind<A: Ord, B: Ord>(blocks: &[Vec<(A, B)>], first: &A, reached: usize) -> usize
-    requires ascending { IsStrictlySortedBy (pair_cmp A.cmp B.cmp) (items_in blocks.now) }
+fn end_behind<const LIMIT: u64>(blocks: &[Vec<Pair<LIMIT>>], first: u64, reached: usize) -> usize
+    requires ascending { IsStrictlySortedBy number_cmp (items_in blocks.now) }
     requires filled { AllByRecursion (λ b. 0 < length b.items) (drop 1 blocks.now) }
     requires within { reached < length blocks.now }
     ensures onward { reached < result }
     ensures within { result ≤ length blocks.now }
-    ensures above { AllByRecursion (λ p. A.cmp first.now p.0 ≡ Less) (items_in (drop result blocks.now)) }
+    ensures above { AllByRecursion (λ p. nat_cmp first p.0 ≡ Less) (items_in (drop result blocks.now)) }
 {
     let mut end = reached + 1;
     let mut behind = blocks.len();
@@ -129,8 +133,8 @@ fn end_behind<A: Ord, B: Ord>(blocks: &[Vec<(A, B)>], first: &A, reached: usize)
 }
 
 /// How many pairs of this first there are. It only chooses a way, of two with one result.
-fn count<A: Ord, B: Ord>(run: &[Vec<(A, B)>], first: &A) -> usize
-    requires { IsStrictlySortedBy (pair_cmp A.cmp B.cmp) (items_in run.now) }
+fn count<const LIMIT: u64>(run: &[Vec<Pair<LIMIT>>], first: u64) -> usize
+    requires ascending { IsStrictlySortedBy number_cmp (items_in run.now) }
 {
     let mut count = 0usize;
     for block in run {
@@ -153,15 +157,15 @@ fn have<T>(blocks: &[Vec<T>], least: usize) -> bool {
 }
 
 /// Takes away all pairs of this first. It takes no memory.
-pub fn take_away_first<A: Ord + Copy + Drop, B: Ord + Drop>(blocks: &mut Vec<Vec<(A, B)>>, first: A)
+pub fn take_away_first<const LIMIT: u64>(blocks: &mut Vec<Vec<Pair<LIMIT>>>, first: u64)
     requires blocks { AreBlocks 0 blocks.old.items }
-    requires ascending { IsStrictlySortedBy (pair_cmp A.cmp B.cmp) (items_in blocks.old.items) }
+    requires ascending { IsStrictlySortedBy number_cmp (items_in blocks.old.items) }
     ensures items { items_in blocks.new.items
-        ≡ filter (λ p. not (eq_by_cmp A.cmp p.0 first)) (items_in blocks.old.items) }
+        ≡ filter (λ p. not (eq_by_cmp nat_cmp p.0 first)) (items_in blocks.old.items) }
     ensures room { (room : ℕ) → AreBlocks room blocks.old.items → AreBlocks room blocks.new.items }
 {
-    let start = start_of(blocks, &first);
-    let mut place = end_of(blocks, &first, start);
+    let start = start_of(blocks, first);
+    let mut place = end_of(blocks, first, start);
     while place > start {
         place -= 1;
         sorted::take_away_first(&mut blocks[place], first);
@@ -171,90 +175,98 @@ pub fn take_away_first<A: Ord + Copy + Drop, B: Ord + Drop>(blocks: &mut Vec<Vec
 
 /// Takes away all pairs of this second: each by a search where they are few beside all pairs, and else in one pass.
 /// The other list has the same pairs turned. It takes no memory.
-pub fn take_away_second<A: Ord + Copy + Drop, B: Ord + Copy + Drop>(
-    blocks: &mut Vec<Vec<(A, B)>>,
-    turned: &[Vec<(B, A)>],
-    second: B,
+pub fn take_away_second<const FIRSTS: u64>(
+    blocks: &mut Vec<Vec<Pair<ROLES>>>,
+    turned: &[Vec<Pair<FIRSTS>>],
+    second: u16,
 )
+    requires few { FIRSTS ≤ most_firsts }
     requires blocks { AreBlocks 0 blocks.old.items }
-    requires ascending { IsStrictlySortedBy (pair_cmp A.cmp B.cmp) (items_in blocks.old.items) }
-    requires turned { IsStrictlySortedBy (pair_cmp B.cmp A.cmp) (items_in turned.now) }
+    requires ascending { IsStrictlySortedBy number_cmp (items_in blocks.old.items) }
+    requires turned { IsStrictlySortedBy number_cmp (items_in turned.now) }
     requires filled { AllByRecursion (λ b. 0 < length b.items) (drop 1 turned.now) }
-    requires same { (a : A) (b : B) → is_among (pair_cmp B.cmp A.cmp) (items_in turned.now) (b, a)
-        ≡ is_among (pair_cmp A.cmp B.cmp) (items_in blocks.old.items) (a, b) }
-    ensures ascending { IsStrictlySortedBy (pair_cmp A.cmp B.cmp) (items_in blocks.new.items) }
-    ensures members { (a : A) (b : B) → is_among (pair_cmp A.cmp B.cmp) (items_in blocks.new.items) (a, b)
-        ≡ (not (eq_by_cmp B.cmp b second) && is_among (pair_cmp A.cmp B.cmp) (items_in blocks.old.items) (a, b)) }
+    requires same { (a b : ℕ) → is_among number_cmp (items_in turned.now) (b, a)
+        ≡ is_among number_cmp (items_in blocks.old.items) (a, b) }
+    ensures ascending { IsStrictlySortedBy number_cmp (items_in blocks.new.items) }
+    ensures members { (a b : ℕ) → is_among number_cmp (items_in blocks.new.items) (a, b)
+        ≡ (not (eq_by_cmp nat_cmp b second) && is_among number_cmp (items_in blocks.old.items) (a, b)) }
     ensures room { (room : ℕ) → AreBlocks room blocks.old.items → AreBlocks room blocks.new.items }
 {
-    let run = run_of(turned, &second);
-    let passed = count(run, &second).saturating_mul(PASSED_A_SEARCH);
+    let run = run_of(turned, second as u64);
+    let passed = count(run, second as u64).saturating_mul(PASSED_A_SEARCH);
     if have(blocks, passed) {
         take_away_turned(blocks, run, second);
     } else {
-        blocks::take_away_second(blocks, second);
+        blocks::take_away_second(blocks, second as u64);
     }
 }
 
 /// Takes away the pairs of this first, turned, from a list of pairs in blocks. It takes no memory.
-fn take_away_turned<A: Ord + Copy + Drop, B: Ord + Copy + Drop>(
-    blocks: &mut Vec<Vec<(A, B)>>,
-    run: &[Vec<(B, A)>],
-    first: B,
+fn take_away_turned<const FIRSTS: u64>(
+    blocks: &mut Vec<Vec<Pair<ROLES>>>,
+    run: &[Vec<Pair<FIRSTS>>],
+    first: u16,
 )
-    requires turned { IsStrictlySortedBy (pair_cmp B.cmp A.cmp) (items_in run.now) }
+    requires few { FIRSTS ≤ most_firsts }
+    requires turned { IsStrictlySortedBy number_cmp (items_in run.now) }
     requires blocks { AreBlocks 0 blocks.old.items }
-    requires ascending { IsStrictlySortedBy (pair_cmp A.cmp B.cmp) (items_in blocks.old.items) }
-    ensures ascending { IsStrictlySortedBy (pair_cmp A.cmp B.cmp) (items_in blocks.new.items) }
-    ensures members { (q : A × B) → is_among (pair_cmp A.cmp B.cmp) (items_in blocks.new.items) q
-        ≡ (not (is_among (pair_cmp B.cmp A.cmp) (filter (λ p. eq_by_cmp B.cmp first p.0) (items_in run.now)) (q.1, q.0))
-        && is_among (pair_cmp A.cmp B.cmp) (items_in blocks.old.items) q) }
+    requires ascending { IsStrictlySortedBy number_cmp (items_in blocks.old.items) }
+    ensures ascending { IsStrictlySortedBy number_cmp (items_in blocks.new.items) }
+    ensures members { (q : ℕ × ℕ) → is_among number_cmp (items_in blocks.new.items) q
+        ≡ (not (is_among number_cmp (filter (λ p. eq_by_cmp nat_cmp first p.0) (items_in run.now)) (q.1, q.0))
+        && is_among number_cmp (items_in blocks.old.items) q) }
     ensures room { (room : ℕ) → AreBlocks room blocks.old.items → AreBlocks room blocks.new.items }
 {
     let mut place = run.len();
     while place > 0 {
         place -= 1;
-        take_away_each(blocks, sorted::beginning_with(&run[place], &first));
+        take_away_each(
+            blocks,
+            sorted::beginning_with(&run[place], first as u64),
+            first,
+        );
     }
 }
 
-/// Takes away each of these pairs, turned: the last first, so that few blocks stand behind one that gets empty.
-fn take_away_each<A: Ord + Copy + Drop, B: Ord + Copy + Drop>(
-    blocks: &mut Vec<Vec<(A, B)>>,
-    pairs: &[(B, A)],
+/// Takes away each of these pairs of one first, turned. It begins with the last of them, so that few blocks stand
+/// behind one that gets empty.
+fn take_away_each<const FIRSTS: u64>(
+    blocks: &mut Vec<Vec<Pair<ROLES>>>,
+    pairs: &[Pair<FIRSTS>],
+    first: u16,
 )
+    requires few { FIRSTS ≤ most_firsts }
+    requires alike { AllByRecursion (λ p. p.0 ≡ first) pairs.now }
     requires blocks { AreBlocks 0 blocks.old.items }
-    requires ascending { IsStrictlySortedBy (pair_cmp A.cmp B.cmp) (items_in blocks.old.items) }
-    ensures ascending { IsStrictlySortedBy (pair_cmp A.cmp B.cmp) (items_in blocks.new.items) }
-    ensures members { (q : A × B) → is_among (pair_cmp A.cmp B.cmp) (items_in blocks.new.items) q
-        ≡ (not (is_among (pair_cmp B.cmp A.cmp) pairs.now (q.1, q.0))
-        && is_among (pair_cmp A.cmp B.cmp) (items_in blocks.old.items) q) }
+    requires ascending { IsStrictlySortedBy number_cmp (items_in blocks.old.items) }
+    ensures ascending { IsStrictlySortedBy number_cmp (items_in blocks.new.items) }
+    ensures members { (q : ℕ × ℕ) → is_among number_cmp (items_in blocks.new.items) q
+        ≡ (not (is_among number_cmp pairs.now (q.1, q.0)) && is_among number_cmp (items_in blocks.old.items) q) }
     ensures room { (room : ℕ) → AreBlocks room blocks.old.items → AreBlocks room blocks.new.items }
 {
     let mut place = pairs.len();
     while place > 0 {
         place -= 1;
-        let pair = pairs[place];
-        blocks::take_away(blocks, &(pair.1, pair.0));
+        blocks::take_away(blocks, &Pair::new(pairs[place].second(), first as u64));
     }
 }
 
 /// Whether the block begins with a pair of a lower first.
-fn begins_before<A: Ord, B>(block: &[(A, B)], first: &A) -> bool
-    ensures { result ≡ begins (λ p. is_lt (A.cmp p.0 first.now)) block.now }
+fn begins_before<const LIMIT: u64>(block: &[Pair<LIMIT>], first: u64) -> bool
+    ensures { result ≡ begins (λ p. is_lt (nat_cmp p.0 first)) block.now }
 {
     match block.first() {
-        Some(pair) => pair.0.cmp(first).is_lt(),
+        Some(pair) => pair.first().cmp(&first).is_lt(),
         None => false,
     }
 }
 
 /// Whether the block begins with a pair of this first or of a lower one.
-fn begins_upto<A: Ord, B>(block: &[(A, B)], first: &A) -> bool
-    ensures { result ≡ begins (λ p. is_le (A.cmp p.0 first.now)) block.now }
+fn begins_upto<const LIMIT: u64>(block: &[Pair<LIMIT>], first: u64) -> bool
+    ensures { result ≡ begins (λ p. is_le (nat_cmp p.0 first)) block.now }
 {
     match block.first() {
-        Some(pair) => pair.0.cmp(first).is_le(),
+        Some(pair) => pair.first().cmp(&first).is_le(),
         None => false,
     }
 }

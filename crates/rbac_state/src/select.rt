@@ -1,63 +1,67 @@
 //! What the review functions look for, in the order in which it is kept.
 
-ghost use Rattle.std.specs.Prelude.{◌≡◌, ◌<◌, ◌==◌, ◌&&◌, ◌++◌, length, drop, map, filter, find, IfOk, OnOk};
+ghost use Rattle.std.specs.Prelude.{◌≡◌, ◌<◌, ◌≤◌, ◌==◌, ◌&&◌, ◌++◌, length, drop, map, filter, find, IfOk, OnOk};
 ghost use Rattle.std.specs.Prelude.{if◌then◌else◌, Some, None};
 ghost use Rattle.std.specs.Ordering.{eq_by_cmp, nat_cmp};
 ghost use Rattle.std.specs.List.{AllByRecursion, flat_map};
 ghost use Rattle.std.specs.List.Sorted.{IsStrictlySortedBy};
-ghost use Rattle.rbac_state.specs.Policies.{permission_cmp};
 ghost use Rattle.rbac_state.specs.inside.Blocks.{items_in};
-ghost use Rattle.rbac_state.specs.inside.Relations.{IsKeptBothWays, pair_cmp, relates};
+ghost use Rattle.rbac_state.specs.inside.Packed.{permission_of};
+ghost use Rattle.rbac_state.specs.inside.Pairs.{number_cmp, most_firsts};
+ghost use Rattle.rbac_state.specs.inside.Relations.{IsKeptBothWays, relates};
 
-use crate::policy::Permission;
-use crate::relation::Relation;
+use crate::pair::Pair;
+use crate::policy::{Grants, PERMISSIONS, Permission, Users};
 use crate::run::run_of;
+use crate::second::Second;
 use crate::sorted;
 use std::alloc::{AllocError, Global};
-use std::cmp::Ord;
 
-/// The second of each pair of this first.
-pub fn seconds<A: Ord + Copy + Drop, B: Ord + Copy + Drop>(
+/// What the second of each pair of this first stands for.
+pub fn seconds<const LIMIT: u64, B: Second>(
     alloc: Global,
-    blocks: &[Vec<(A, B)>],
-    first: A,
+    blocks: &[Vec<Pair<LIMIT>>],
+    first: u64,
 ) -> Result<Vec<B>, AllocError>
-    requires ascending { IsStrictlySortedBy (pair_cmp A.cmp B.cmp) (items_in blocks.now) }
+    requires few { LIMIT ≤ B.limit }
+    requires ascending { IsStrictlySortedBy number_cmp (items_in blocks.now) }
     requires filled { AllByRecursion (λ b. 0 < length b.items) (drop 1 blocks.now) }
     ensures { IfOk result (λ seconds. seconds.items
-        ≡ map (λ p. p.1) (filter (λ p. eq_by_cmp A.cmp first p.0) (items_in blocks.now))) }
+        ≡ map (λ p. B.of p.1) (filter (λ p. eq_by_cmp nat_cmp first p.0) (items_in blocks.now))) }
 {
     let mut seconds = Vec::new(alloc);
     add_seconds(&mut seconds, blocks, first)?;
     Ok(seconds)
 }
 
-/// Adds the second of each pair of this first.
-fn add_seconds<A: Ord + Copy + Drop, B: Ord + Copy + Drop>(
+/// Adds what the second of each pair of this first stands for.
+fn add_seconds<const LIMIT: u64, B: Second>(
     seconds: &mut Vec<B>,
-    blocks: &[Vec<(A, B)>],
-    first: A,
+    blocks: &[Vec<Pair<LIMIT>>],
+    first: u64,
 ) -> Result<(), AllocError>
-    requires ascending { IsStrictlySortedBy (pair_cmp A.cmp B.cmp) (items_in blocks.now) }
+    requires few { LIMIT ≤ B.limit }
+    requires ascending { IsStrictlySortedBy number_cmp (items_in blocks.now) }
     requires filled { AllByRecursion (λ b. 0 < length b.items) (drop 1 blocks.now) }
     ensures { OnOk result (seconds.new.items ≡ seconds.old.items
-        ++ map (λ p. p.1) (filter (λ p. eq_by_cmp A.cmp first p.0) (items_in blocks.now))) }
+        ++ map (λ p. B.of p.1) (filter (λ p. eq_by_cmp nat_cmp first p.0) (items_in blocks.now))) }
 {
-    let alike = run_of(blocks, &first);
+    let alike = run_of(blocks, first);
     for block in alike {
-        add_each_second(seconds, sorted::beginning_with(block, &first))?;
+        add_each_second(seconds, sorted::beginning_with(block, first))?;
     }
     Ok(())
 }
 
-fn add_each_second<A, B: Copy + Drop>(
+fn add_each_second<const LIMIT: u64, B: Second>(
     seconds: &mut Vec<B>,
-    pairs: &[(A, B)],
+    pairs: &[Pair<LIMIT>],
 ) -> Result<(), AllocError>
-    ensures { OnOk result (seconds.new.items ≡ seconds.old.items ++ map (λ p. p.1) pairs.now) }
+    requires few { LIMIT ≤ B.limit }
+    ensures { OnOk result (seconds.new.items ≡ seconds.old.items ++ map (λ p. B.of p.1) pairs.now) }
 {
     for pair in pairs {
-        seconds.push(pair.1)?;
+        seconds.push(B::of_number(pair.second()))?;
     }
     Ok(())
 }
@@ -65,17 +69,17 @@ fn add_each_second<A, B: Copy + Drop>(
 /// The permissions of each of these roles.
 pub fn permissions(
     alloc: Global,
-    granted: &Relation<Permission, u16>,
+    granted: &Grants,
     roles: &[u16],
 ) -> Result<Vec<Permission>, AllocError>
-    requires { IsKeptBothWays permission_cmp nat_cmp granted.now }
+    requires { IsKeptBothWays granted.now }
     ensures { IfOk result (λ permissions. permissions.items ≡ flat_map
-        (λ role. map (λ g. g.1) (filter (λ g. eq_by_cmp nat_cmp role g.0) (items_in granted.now.by_second.items)))
-        roles.now) }
+        (λ role. map (λ g. permission_of g.1)
+        (filter (λ g. eq_by_cmp nat_cmp role g.0) (items_in granted.now.by_second.items))) roles.now) }
 {
     let mut permissions = Vec::new(alloc);
     for role in roles {
-        add_seconds(&mut permissions, granted.with_second(), *role)?;
+        add_seconds(&mut permissions, granted.with_second(), *role as u64)?;
     }
     Ok(permissions)
 }
@@ -83,13 +87,13 @@ pub fn permissions(
 /// The operations on the object that each of these roles may do.
 pub fn operations(
     alloc: Global,
-    granted: &Relation<Permission, u16>,
+    granted: &Grants,
     roles: &[u16],
     object: u32,
 ) -> Result<Vec<u16>, AllocError>
-    requires { IsKeptBothWays permission_cmp nat_cmp granted.now }
+    requires { IsKeptBothWays granted.now }
     ensures { IfOk result (λ operations. operations.items ≡ flat_map
-        (λ role. map (λ g. g.1.0) (filter (λ g. g.1.1 == object)
+        (λ role. map (λ g. (permission_of g.1).0) (filter (λ g. (permission_of g.1).1 == object)
         (filter (λ g. eq_by_cmp nat_cmp role g.0) (items_in granted.now.by_second.items)))) roles.now) }
 {
     let mut operations = Vec::new(alloc);
@@ -102,70 +106,82 @@ pub fn operations(
 /// Adds the operations on the object that this role may do.
 fn add_operations(
     operations: &mut Vec<u16>,
-    blocks: &[Vec<(u16, Permission)>],
+    blocks: &[Vec<Pair<PERMISSIONS>>],
     role: u16,
     object: u32,
 ) -> Result<(), AllocError>
-    requires ascending { IsStrictlySortedBy (pair_cmp nat_cmp permission_cmp) (items_in blocks.now) }
+    requires ascending { IsStrictlySortedBy number_cmp (items_in blocks.now) }
     requires filled { AllByRecursion (λ b. 0 < length b.items) (drop 1 blocks.now) }
-    ensures { OnOk result (operations.new.items ≡ operations.old.items ++ map (λ g. g.1.0)
-        (filter (λ g. g.1.1 == object) (filter (λ g. eq_by_cmp nat_cmp role g.0) (items_in blocks.now)))) }
+    ensures { OnOk result (operations.new.items ≡ operations.old.items ++ map (λ g. (permission_of g.1).0)
+        (filter (λ g. (permission_of g.1).1 == object)
+        (filter (λ g. eq_by_cmp nat_cmp role g.0) (items_in blocks.now)))) }
 {
-    let alike = run_of(blocks, &role);
+    let alike = run_of(blocks, role as u64);
     for block in alike {
-        add_each_operation(operations, sorted::beginning_with(block, &role), object)?;
+        let grants = sorted::beginning_with(block, role as u64);
+        add_each_operation(operations, grants, object)?;
     }
     Ok(())
 }
 
 fn add_each_operation(
     operations: &mut Vec<u16>,
-    grants: &[(u16, Permission)],
+    grants: &[Pair<PERMISSIONS>],
     object: u32,
 ) -> Result<(), AllocError>
-    ensures { OnOk result (operations.new.items
-        ≡ operations.old.items ++ map (λ g. g.1.0) (filter (λ g. g.1.1 == object) grants.now)) }
+    ensures { OnOk result (operations.new.items ≡ operations.old.items
+        ++ map (λ g. (permission_of g.1).0) (filter (λ g. (permission_of g.1).1 == object) grants.now)) }
 {
     for grant in grants {
-        if grant.1.1 == object {
-            operations.push(grant.1.0)?;
+        let permission = Permission::of_number(grant.second());
+        if permission.1 == object {
+            operations.push(permission.0)?;
         }
     }
     Ok(())
 }
 
-/// The first of these roles that the user has and that has the permission.
+/// The first of these roles that the user has and that has the permission of this number.
 pub fn first_granting(
-    assigned: &Relation<u32, u16>,
-    granted: &Relation<Permission, u16>,
-    user: u32,
+    assigned: &Users,
+    granted: &Grants,
+    user: u64,
     roles: &[u16],
-    permission: Permission,
+    permission: u64,
 ) -> Option<u16>
-    requires users { IsKeptBothWays nat_cmp nat_cmp assigned.now }
-    requires permissions { IsKeptBothWays permission_cmp nat_cmp granted.now }
-    ensures { result ≡ find (λ role. relates nat_cmp nat_cmp assigned.now user role
-        && relates permission_cmp nat_cmp granted.now permission role) roles.now }
+    requires user { user < most_firsts }
+    requires permission { permission < most_firsts }
+    requires users { IsKeptBothWays assigned.now }
+    requires permissions { IsKeptBothWays granted.now }
+    ensures { result ≡ find (λ role. relates assigned.now user role
+        && relates granted.now permission role) roles.now }
 {
-    match roles {
-        [] => None,
-        [role] => if_granting(assigned, granted, user, *role, permission),
-        _ => first_of_many(assigned, granted, user, roles, permission),
+    let Some((first, rest)) = roles.split_first() else {
+        return None;
+    };
+    if let Some(role) = if_granting(assigned, granted, user, *first, permission) {
+        return Some(role);
     }
+    if rest.is_empty() {
+        return None;
+    }
+    first_of_many(assigned, granted, user, rest, permission)
 }
 
 /// The role, if the user has it and it has the permission.
 fn if_granting(
-    assigned: &Relation<u32, u16>,
-    granted: &Relation<Permission, u16>,
-    user: u32,
+    assigned: &Users,
+    granted: &Grants,
+    user: u64,
     role: u16,
-    permission: Permission,
+    permission: u64,
 ) -> Option<u16>
-    requires users { IsKeptBothWays nat_cmp nat_cmp assigned.now }
-    requires permissions { IsKeptBothWays permission_cmp nat_cmp granted.now }
-    ensures { result ≡ (if relates nat_cmp nat_cmp assigned.now user role
-        && relates permission_cmp nat_cmp granted.now permission role then Some role else None) }
+    requires user { user < most_firsts }
+    requires permission { permission < most_firsts }
+    requires users { IsKeptBothWays assigned.now }
+    requires permissions { IsKeptBothWays granted.now }
+    ensures { result ≡ (if relates assigned.now user role
+        && relates granted.now permission role then Some role else None) }
 {
     if granted.has(permission, role) && assigned.has(user, role) {
         Some(role)
@@ -176,23 +192,25 @@ fn if_granting(
 
 /// As `first_granting`: the roles that have the permission are found once for all of these.
 fn first_of_many(
-    assigned: &Relation<u32, u16>,
-    granted: &Relation<Permission, u16>,
-    user: u32,
+    assigned: &Users,
+    granted: &Grants,
+    user: u64,
     roles: &[u16],
-    permission: Permission,
+    permission: u64,
 ) -> Option<u16>
-    requires users { IsKeptBothWays nat_cmp nat_cmp assigned.now }
-    requires permissions { IsKeptBothWays permission_cmp nat_cmp granted.now }
-    ensures { result ≡ find (λ role. relates nat_cmp nat_cmp assigned.now user role
-        && relates permission_cmp nat_cmp granted.now permission role) roles.now }
+    requires user { user < most_firsts }
+    requires permission { permission < most_firsts }
+    requires users { IsKeptBothWays assigned.now }
+    requires permissions { IsKeptBothWays granted.now }
+    ensures { result ≡ find (λ role. relates assigned.now user role
+        && relates granted.now permission role) roles.now }
 {
     let grants = granted.of_first(permission);
     if grants.is_empty() {
         return None;
     }
     for role in roles {
-        if grants.has(&(permission, *role)) && assigned.has(user, *role) {
+        if grants.has(&Pair::new(permission, *role as u64)) && assigned.has(user, *role) {
             return Some(*role);
         }
     }

@@ -1,18 +1,40 @@
-//! Lists in ascending order without repeats: a look-up is a binary search.
+//! Lists in ascending order without repeats: a look-up is a search, or a look at each of a few.
 
 ghost use Rattle.std.specs.Prelude.{◌≡◌, ◌<◌, ◌≤◌, ◌+◌, ◌||◌, ◌&&◌, not, filter, insert, vec_len, vec_capacity};
 ghost use Rattle.std.specs.List.Sorted.{IsStrictlySortedBy};
-ghost use Rattle.std.specs.Ordering.{eq_by_cmp};
-ghost use Rattle.rbac_state.specs.inside.Relations.{pair_cmp, is_among};
+ghost use Rattle.std.specs.Ordering.{eq_by_cmp, is_eq, is_lt, nat_cmp};
+ghost use Rattle.rbac_state.specs.inside.Pairs.{number_cmp};
+ghost use Rattle.rbac_state.specs.inside.Relations.{is_among};
 
+use crate::pair::Pair;
+use crate::search::{Predicate, find, place, place_near};
 use std::cmp::Ord;
+
+/// So many items are quicker looked at one by one.
+const FEW: usize = 8;
 
 /// Whether the item is in the list.
 pub fn has<T: Ord>(items: &[T], item: &T) -> bool
     requires { IsStrictlySortedBy T.cmp items.now }
     ensures { result ≡ is_among T.cmp items.now item.now }
 {
-    items.binary_search(item).is_ok()
+    if items.len() <= FEW {
+        is_one_of(items, item)
+    } else {
+        find(items, item).is_ok()
+    }
+}
+
+/// As `has`, by a look at each.
+fn is_one_of<T: Ord>(items: &[T], item: &T) -> bool
+    ensures { result ≡ is_among T.cmp items.now item.now }
+{
+    for one in items {
+        if item.cmp(one).is_eq() {
+            return true;
+        }
+    }
+    false
 }
 
 /// Puts the item in its place, unless it is there.
@@ -26,7 +48,7 @@ pub fn put<T: Ord + Drop>(items: &mut Vec<T>, item: T)
     ensures by_one { vec_len items.new ≤ vec_len items.old + 1 }
     ensures capacity { vec_capacity items.old ≤ vec_capacity items.new }
 {
-    if let Err(place) = items.binary_search(&item) {
+    if let Err(place) = find(items, &item) {
         insert_within_capacity(items, place, item);
     }
 }
@@ -51,44 +73,71 @@ pub fn take_away<T: Ord + Drop>(items: &mut Vec<T>, item: &T)
     ensures shrinks { vec_len items.new ≤ vec_len items.old }
     ensures capacity { vec_capacity items.old ≤ vec_capacity items.new }
 {
-    if let Ok(place) = items.binary_search(item) {
+    if let Ok(place) = find(items, item) {
         let _gone = items.remove(place);
     }
 }
 
 /// Takes away all pairs of this second.
-pub fn take_away_second<A: Drop, B: Ord + Copy + Drop>(pairs: &mut Vec<(A, B)>, second: B)
-    ensures items { pairs.new.items ≡ filter (λ p. not (eq_by_cmp B.cmp p.1 second)) pairs.old.items }
+pub fn take_away_second<const LIMIT: u64>(pairs: &mut Vec<Pair<LIMIT>>, second: u64)
+    ensures items { pairs.new.items ≡ filter (λ p. not (eq_by_cmp nat_cmp p.1 second)) pairs.old.items }
     ensures shrinks { vec_len pairs.new ≤ vec_len pairs.old }
     ensures capacity { vec_capacity pairs.old ≤ vec_capacity pairs.new }
 {
     pairs.retain(
-        |pair: &(A, B)| -> bool
-            ensures { result ≡ not (eq_by_cmp B.cmp pair.now.1 second) }
-        { pair.1.cmp(&second).is_ne() },
+        |pair: &Pair<LIMIT>| -> bool
+            ensures { result ≡ not (eq_by_cmp nat_cmp pair.now.1 second) }
+        { pair.second().cmp(&second).is_ne() },
     );
 }
 
 /// Takes away all pairs of this first.
-pub fn take_away_first<A: Ord + Copy + Drop, B: Drop>(pairs: &mut Vec<(A, B)>, first: A)
-    ensures items { pairs.new.items ≡ filter (λ p. not (eq_by_cmp A.cmp p.0 first)) pairs.old.items }
+pub fn take_away_first<const LIMIT: u64>(pairs: &mut Vec<Pair<LIMIT>>, first: u64)
+    ensures items { pairs.new.items ≡ filter (λ p. not (eq_by_cmp nat_cmp p.0 first)) pairs.old.items }
     ensures shrinks { vec_len pairs.new ≤ vec_len pairs.old }
     ensures capacity { vec_capacity pairs.old ≤ vec_capacity pairs.new }
 {
     pairs.retain(
-        |pair: &(A, B)| -> bool
-            ensures { result ≡ not (eq_by_cmp A.cmp pair.now.0 first) }
-        { pair.0.cmp(&first).is_ne() },
+        |pair: &Pair<LIMIT>| -> bool
+            ensures { result ≡ not (eq_by_cmp nat_cmp pair.now.0 first) }
+        { pair.first().cmp(&first).is_ne() },
     );
 }
 
-/// The pairs that begin with this, which are one part of the list.
-pub fn beginning_with<'a, A: Ord, B: Ord>(pairs: &'a [(A, B)], first: &A) -> &'a [(A, B)]
-    requires { IsStrictlySortedBy (pair_cmp A.cmp B.cmp) pairs.now }
-    ensures { result.now ≡ filter (λ p. eq_by_cmp A.cmp first.now p.0) pairs.now }
+/// Pairs of a first below this one pass.
+#[derive(Drop)]
+struct FirstBelow(u64);
+
+impl<const LIMIT: u64> Predicate<Pair<LIMIT>> for FirstBelow {
+    ghost passes = { λ b p. is_lt (nat_cmp p.0 b.0) };
+
+    #[inline(always)]
+    fn passes(&self, pair: &Pair<LIMIT>) -> bool {
+        pair.first().cmp(&self.0).is_lt()
+    }
+}
+
+/// Pairs of this first pass.
+#[derive(Drop)]
+struct FirstIs(u64);
+
+impl<const LIMIT: u64> Predicate<Pair<LIMIT>> for FirstIs {
+    ghost passes = { λ b p. is_eq (nat_cmp p.0 b.0) };
+
+    #[inline(always)]
+    fn passes(&self, pair: &Pair<LIMIT>) -> bool {
+        pair.first().cmp(&self.0).is_eq()
+    }
+}
+
+/// The pairs that begin with this, which are one part of the list. It stands alone, as `find` does.
+#[inline(never)]
+pub fn beginning_with<const LIMIT: u64>(pairs: &[Pair<LIMIT>], first: u64) -> &[Pair<LIMIT>]
+    requires ascending { IsStrictlySortedBy number_cmp pairs.now }
+    ensures { result.now ≡ filter (λ p. eq_by_cmp nat_cmp first p.0) pairs.now }
 {
-    let start = pairs.partition_point(|p| p.0.cmp(first).is_lt());
+    let start = place(pairs, &FirstBelow(first));
     let rest = &pairs[start..];
-    let count = rest.partition_point(|p| p.0.cmp(first).is_eq());
+    let count = place_near(rest, &FirstIs(first));
     &rest[..count]
 }

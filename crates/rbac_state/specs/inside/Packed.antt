@@ -5,5 +5,14 @@ use Rattle.std.specs.Prelude.{ℕ, ◌+◌, ◌*◌, ◌/◌, ◌%◌}
 abbrev pub packed : ℕ × ℕ → ℕ
 packed p = p.0 * 4294967296 + p.1
 
+-- the permission of any number: one that a relation keeps has none of the digits that are cut off here
 abbrev pub unpacked : ℕ → ℕ × ℕ
 unpacked n = (n / 4294967296 % 65536, n % 4294967296)
+
+-- the permission of a number below 2 ^ 48
+abbrev pub permission_of : ℕ → ℕ × ℕ
+permission_of n = (n / 4294967296, n % 4294967296)
+
+-- a permission's number with a role, as the permission with the role
+abbrev pub grant_of : ℕ × ℕ → (ℕ × ℕ) × ℕ
+grant_of g = (permission_of g.0, g.1)

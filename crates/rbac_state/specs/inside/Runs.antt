@@ -1,26 +1,25 @@
 -- The pairs of one first as a look-up finds them: a part of one block, or some blocks behind one another.
-use Rattle.std.specs.Prelude.{◌≡◌, ◌<◌, List, length, drop, filter, ⊤}
+use Rattle.std.specs.Prelude.{◌≡◌, ◌<◌, ℕ, List, length, drop, filter, ⊤}
 use Rattle.std.specs.List.{AllByRecursion}
 use Rattle.std.specs.List.Sorted.{IsStrictlySortedBy}
-use Rattle.std.specs.Ordering.{eq_by_cmp}
-use Rattle.std.specs.declared.cmp.Ordering.{Ordering}
+use Rattle.std.specs.Ordering.{eq_by_cmp, nat_cmp}
 use Rattle.rbac_state.specs.inside.Blocks.{items_in}
-use Rattle.rbac_state.specs.inside.Relations.{pair_cmp}
+use Rattle.rbac_state.specs.inside.Pairs.{number_cmp}
 use Rattle.rbac_state.specs.declared.run.Alike.{Alike}
 use Rattle.rbac_state.specs.declared.run.Alike.TheVariants.{Part, Blocks}
 
-abbrev pub pairs_in : {A B : Type 0} → Alike A B → List (A × B)
+abbrev pub pairs_in : {k : ℕ} → Alike k → List (ℕ × ℕ)
 pairs_in (Part pairs) = pairs.now
 pairs_in (Blocks blocks) = items_in blocks.now
 
 -- only the first of the blocks may be empty
-abbrev pub IsFilled : {A B : Type 0} → Alike A B → Type 0
+abbrev pub IsFilled : {k : ℕ} → Alike k → Type 0
 IsFilled (Part pairs) = ⊤
 IsFilled (Blocks blocks) = AllByRecursion (λ b. 0 < length b.items) (drop 1 blocks.now)
 
 -- among the pairs that were found those of this first are the list's
-pub record AreAlike {A B : Type 0} (R : A → A → Ordering) (S : B → B → Ordering) (first : A) (pairs : List (A × B))
-    (found : Alike A B) : Type 0 where
-  pub same : filter (λ p. eq_by_cmp R first p.0) (pairs_in found) ≡ filter (λ p. eq_by_cmp R first p.0) pairs
-  pub ascending : IsStrictlySortedBy (pair_cmp R S) (pairs_in found)
+pub record AreAlike {k : ℕ} (first : ℕ) (pairs : List (ℕ × ℕ)) (found : Alike k) : Type 0 where
+  pub same : filter (λ p. eq_by_cmp nat_cmp first p.0) (pairs_in found)
+      ≡ filter (λ p. eq_by_cmp nat_cmp first p.0) pairs
+  pub ascending : IsStrictlySortedBy number_cmp (pairs_in found)
   pub filled : IsFilled found

@@ -1,11 +1,11 @@
 use Rattle.std.proofs.Common.{not, refl, ◌-◌}
-use Rattle.std.specs.Ordering.{eq_by_cmp}
+use Rattle.std.specs.Ordering.{eq_by_cmp, nat_cmp}
 use Rattle.rbac_state.proofs.KeepLemmas.{kept_all, kept_more}
 use Rattle.rbac_state.proofs.blocks.take_away_second.Goals as goal
 
 pub loop-place-preserved : goal.loop-place-preserved
 loop-place-preserved g c =
-    kept_more (λ p. not (eq_by_cmp g.B.Ord.cmp p.1 c.args.second)) c.args.blocks.now.items c.loop-place.blocks.items _
+    kept_more (λ p. not (eq_by_cmp nat_cmp p.1 c.args.second)) c.args.blocks.now.items c.loop-place.blocks.items _
     c.loop-place.place (c.loop-place.place - 1) c.index_mut.result.now c.take_away_second.new.pairs
     c.loop-place.invariant
     c.loop-place-test.true refl c.index_mut.ensures.value c.take_away_second.ensures.items
@@ -14,5 +14,5 @@ loop-place-preserved g c =
 
 pub returns-clause-items : goal.returns-clause-items
 returns-clause-items g c =
-    kept_all (λ p. not (eq_by_cmp g.B.Ord.cmp p.1 c.args.second)) c.loop-place.place c.args.blocks.now.items
+    kept_all (λ p. not (eq_by_cmp nat_cmp p.1 c.args.second)) c.loop-place.place c.args.blocks.now.items
     c.loop-place.blocks.items c.loop-place-test.false c.loop-place.invariant

@@ -1,11 +1,13 @@
-use Rattle.std.proofs.Common.{sym, subst}
+use Rattle.std.proofs.Common.{sym, subst, arith}
 use Rattle.std.specs.List.Sorted.{IsStrictlySortedBy}
-use Rattle.rbac_state.specs.inside.Relations.{pair_cmp}
+use Rattle.rbac_state.specs.inside.Pairs.{number_cmp}
 use Rattle.rbac_state.proofs.PlaceLemmas.{block_ascends}
 use Rattle.rbac_state.proofs.run.count.Goals as goal
 
 pub beginning_with-requires : goal.beginning_with-requires
-beginning_with-requires g c =
-    subst (IsStrictlySortedBy (pair_cmp g.A.Ord.cmp g.B.Ord.cmp)) (sym c.deref.ensures.value)
-    (block_ascends (λ b. b.items) c.args.run.now c.loop-block.block-index c.block-item.result c.block-item.is
-    c.loop-block-test.true (pair_cmp g.A.Ord.cmp g.B.Ord.cmp) c.requires)
+beginning_with-requires g c = (
+  omega arith,
+  subst (IsStrictlySortedBy number_cmp) (sym c.deref.ensures.value)
+      (block_ascends (λ b. b.items) c.args.run.now c.loop-block.block-index c.block-item.result c.block-item.is
+      c.loop-block-test.true number_cmp c.requires.ascending),
+)

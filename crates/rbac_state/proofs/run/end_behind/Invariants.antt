@@ -1,5 +1,5 @@
 use Rattle.std.proofs.Common.{◌≡◌, ◌-◌, ◌<◌, ◌≤◌, ℕ, Bool, false, List, length, drop, get_or}
-use Rattle.std.specs.Ordering.{is_le}
+use Rattle.std.specs.Ordering.{is_le, nat_cmp}
 use Rattle.rbac_state.specs.inside.Blocks.{begins}
 use Rattle.rbac_state.proofs.run.end_behind.Given as goal
 
@@ -12,7 +12,7 @@ pub record IsBehind {X : Type 0} (passes : X → Bool) (xs : List X) (reached en
 
 abbrev pub invariant-loop-end : goal.invariant-loop-end
 invariant-loop-end g l =
-    IsBehind (λ b. begins (λ p. is_le (g.A.Ord.cmp p.0 l.first)) b.items) l.blocks l.reached l.end l.behind
+    IsBehind (λ b. begins (λ p. is_le (nat_cmp p.0 l.first)) b.items) l.blocks l.reached l.end l.behind
 
 abbrev pub decreases-loop-end : goal.decreases-loop-end
 decreases-loop-end g l = l.behind - l.end

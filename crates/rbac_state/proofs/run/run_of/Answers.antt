@@ -1,9 +1,11 @@
 use Rattle.std.proofs.Common.{◌≡◌, ◌-◌, ◌+◌, drop, refl, sym, ap, ◌∙◌, subst, arith}
 use Rattle.std.specs.declared.cmp.Ordering.TheVariants.{Less}
 use Rattle.std.specs.List.{AllByRecursion}
+use Rattle.std.specs.Ordering.{nat_cmp}
 use Rattle.std.proofs.lemmas.List.{drop-drop}
+use Rattle.std.proofs.lemmas.Cmp.{nat_cmp_total}
 use Rattle.rbac_state.specs.inside.Blocks.{items_in}
-use Rattle.rbac_state.specs.inside.Relations.{pair_cmp}
+use Rattle.rbac_state.specs.inside.Pairs.{number_cmp}
 use Rattle.rbac_state.proofs.BlockLemmas.{ascends_drop, ascends_take}
 use Rattle.rbac_state.proofs.RunLemmas.{alike_in_run}
 use Rattle.rbac_state.proofs.run.run_of.Goals as goal
@@ -11,19 +13,19 @@ use Rattle.rbac_state.proofs.run.run_of.Goals as goal
 pub returns-clause-same : goal.returns-clause-same
 returns-clause-same g c =
     let blocks = c.args.blocks.now in
-    let first = c.args.first.now in
+    let first = c.args.first in
     let start = c.start_of-start.result in
     let end = c.end_of-end.result in
     let onward = c.end_of-end.ensures.onward in
     let e : start + (end - start) ≡ end = omega arith in
-    alike_in_run g.B.Ord.cmp g.met.A.Ord.total first (λ b. b.items) blocks _ start (end - start) refl
+    alike_in_run nat_cmp nat_cmp_total first (λ b. b.items) blocks _ start (end - start) refl
     c.start_of-start.ensures.below
-    (subst (λ l. AllByRecursion (λ p. g.A.Ord.cmp first p.0 ≡ Less) (items_in l))
+    (subst (λ l. AllByRecursion (λ p. nat_cmp first p.0 ≡ Less) (items_in l))
     (sym (drop-drop (end - start) start blocks ∙ ap (λ k. drop k blocks) e)) c.end_of-end.ensures.above)
 
 pub returns-clause-ascending : goal.returns-clause-ascending
 returns-clause-ascending g c =
-    let R = pair_cmp g.A.Ord.cmp g.B.Ord.cmp in
+    let R = number_cmp in
     let blocks = c.args.blocks.now in
     let start = c.start_of-start.result in
     ascends_take (λ b. b.items) R (drop start blocks) (c.end_of-end.result - start)

@@ -1,25 +1,28 @@
 use Rattle.std.proofs.Common.{sym, ap, ◌∙◌, subst}
 use Rattle.std.specs.List.Sorted.{IsStrictlySortedBy}
+use Rattle.std.specs.Ordering.{nat_cmp}
 use Rattle.std.proofs.lemmas.List.Kept.{IsStrictlySortedBy-filter}
+use Rattle.std.proofs.lemmas.Cmp.{nat_cmp_total}
 use Rattle.rbac_state.specs.inside.Blocks.{items_in}
-use Rattle.rbac_state.specs.inside.Relations.{pair_cmp, is_among}
+use Rattle.rbac_state.specs.inside.Relations.{is_among}
+use Rattle.rbac_state.specs.inside.Pairs.{number_cmp}
 use Rattle.rbac_state.proofs.RelationLemmas.{among_others}
 use Rattle.rbac_state.proofs.TurnedLemmas.{others_left}
 use Rattle.rbac_state.proofs.run.take_away_second.Goals as goal
 
 pub returns-then-have-clause-members : goal.returns-then-have-clause-members
 returns-then-have-clause-members g c a b =
-    others_left g.A.Ord.cmp g.met.B.Ord.total c.args.second (items_in c.args.turned.now)
+    others_left nat_cmp nat_cmp_total c.args.second (items_in c.args.turned.now)
     (items_in c.run_of-run.result.now) (items_in c.args.blocks.now.items) a b
-    (is_among (pair_cmp g.A.Ord.cmp g.B.Ord.cmp) (items_in c.take_away_turned.new.blocks.items) (a, b))
+    (is_among number_cmp (items_in c.take_away_turned.new.blocks.items) (a, b))
     c.run_of-run.ensures.same (c.requires.same a b) (c.take_away_turned.ensures.members (a, b))
 
 pub returns-else-have-clause-ascending : goal.returns-else-have-clause-ascending
 returns-else-have-clause-ascending g c =
-    subst (IsStrictlySortedBy (pair_cmp g.A.Ord.cmp g.B.Ord.cmp)) (sym c.take_away_second.ensures.items)
-    (IsStrictlySortedBy-filter (pair_cmp g.A.Ord.cmp g.B.Ord.cmp) _ _ c.requires.ascending)
+    subst (IsStrictlySortedBy number_cmp) (sym c.take_away_second.ensures.items)
+    (IsStrictlySortedBy-filter number_cmp _ _ c.requires.ascending)
 
 pub returns-else-have-clause-members : goal.returns-else-have-clause-members
 returns-else-have-clause-members g c a b =
-    ap (λ l. is_among (pair_cmp g.A.Ord.cmp g.B.Ord.cmp) l (a, b)) c.take_away_second.ensures.items
-    ∙ among_others g.A.Ord.cmp g.met.B.Ord.total c.args.second (items_in c.args.blocks.now.items) a b
+    ap (λ l. is_among number_cmp l (a, b)) c.take_away_second.ensures.items
+    ∙ among_others nat_cmp nat_cmp_total c.args.second (items_in c.args.blocks.now.items) a b

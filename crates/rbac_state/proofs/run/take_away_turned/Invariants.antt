@@ -1,13 +1,13 @@
 use Rattle.std.proofs.Common.{length, drop, filter}
-use Rattle.std.specs.Ordering.{eq_by_cmp}
+use Rattle.std.specs.Ordering.{eq_by_cmp, nat_cmp}
 use Rattle.rbac_state.specs.inside.Blocks.{items_in}
 use Rattle.rbac_state.proofs.TurnedLemmas.{IsTakenFrom}
 use Rattle.rbac_state.proofs.run.take_away_turned.Given as goal
 
 abbrev pub invariant-loop-place : goal.invariant-loop-place
 invariant-loop-place g l =
-    IsTakenFrom g.A.Ord.cmp g.B.Ord.cmp l.place (length l.run)
-    (filter (λ p. eq_by_cmp g.B.Ord.cmp l.first p.0) (items_in (drop l.place l.run)))
+    IsTakenFrom nat_cmp nat_cmp l.place (length l.run)
+    (filter (λ p. eq_by_cmp nat_cmp l.first p.0) (items_in (drop l.place l.run)))
     l.fn.blocks.items l.blocks.items
 
 abbrev pub decreases-loop-place : goal.decreases-loop-place

@@ -2,4 +2,5 @@ use Rattle.std.proofs.Common.{◌≡◌, ◌++◌, map, take}
 use Rattle.rbac_state.proofs.select.add_each_second.Given as goal
 
 abbrev pub invariant-loop-pair : goal.invariant-loop-pair
-invariant-loop-pair g l = l.seconds.items ≡ l.initial.seconds.items ++ map (λ p. p.1) (take l.pair-index l.pairs)
+invariant-loop-pair g l =
+    l.seconds.items ≡ l.initial.seconds.items ++ map (λ p. g.B.Second.of p.1) (take l.pair-index l.pairs)

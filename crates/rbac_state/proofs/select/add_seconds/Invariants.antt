@@ -1,5 +1,5 @@
 use Rattle.std.proofs.Common.{◌≡◌, ◌++◌, map, filter, take}
-use Rattle.std.specs.Ordering.{eq_by_cmp}
+use Rattle.std.specs.Ordering.{eq_by_cmp, nat_cmp}
 use Rattle.rbac_state.specs.inside.Blocks.{items_in}
 use Rattle.rbac_state.proofs.select.add_seconds.Given as goal
 
@@ -7,4 +7,5 @@ abbrev pub invariant-loop-block : goal.invariant-loop-block
 invariant-loop-block g l =
     l.seconds.items
     ≡ l.initial.seconds.items
-    ++ map (λ p. p.1) (filter (λ p. eq_by_cmp g.A.Ord.cmp l.first p.0) (items_in (take l.block-index l.alike)))
+    ++ map (λ p. g.B.Second.of p.1) (filter (λ p. eq_by_cmp nat_cmp l.first p.0)
+    (items_in (take l.block-index l.alike)))

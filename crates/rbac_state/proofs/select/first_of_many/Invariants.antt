@@ -1,12 +1,10 @@
 use Rattle.std.proofs.Common.{◌≡◌, ◌&&◌, None, take}
 use Rattle.std.specs.List.{find}
-use Rattle.std.specs.Ordering.{nat_cmp}
-use Rattle.rbac_state.specs.Policies.{permission_cmp}
 use Rattle.rbac_state.specs.inside.Relations.{relates}
 use Rattle.rbac_state.proofs.select.first_of_many.Given as goal
 
 abbrev pub invariant-loop-role : goal.invariant-loop-role
 invariant-loop-role l =
-    find (λ role. relates nat_cmp nat_cmp l.assigned l.user role
-    && relates permission_cmp nat_cmp l.granted l.permission role) (take l.role-index l.roles)
+    find (λ role. relates l.assigned l.user role
+    && relates l.granted l.permission role) (take l.role-index l.roles)
     ≡ None

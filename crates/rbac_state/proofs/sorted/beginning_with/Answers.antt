@@ -1,25 +1,23 @@
-use Rattle.std.proofs.Common.{◌≡◌, ◌-◌, length, take, drop, rules}
+use Rattle.std.proofs.Common.{◌≡◌, ◌-◌, length, take, drop}
+use Rattle.std.specs.Ordering.{nat_cmp}
 use Rattle.std.proofs.lemmas.List.{take_rest}
-use Rattle.std.proofs.lemmas.List.Sorted.{IsPartitionPoint-from_clause}
-use Rattle.rbac_state.proofs.RangeLemmas.{is_before, is_level, before_parted, level_parted, range_is}
+use Rattle.std.proofs.lemmas.Cmp.{nat_cmp_total}
+use Rattle.rbac_state.proofs.RangeLemmas.{before_parted, level_parted, range_is}
 use Rattle.rbac_state.proofs.sorted.beginning_with.Goals as goal
 
 pub returns : goal.returns
 returns g c =
-    let o = g.met.A.Ord.total in
-    let R = g.A.Ord.cmp in
-    let S = g.B.Ord.cmp in
+    let o = nat_cmp_total in
+    let R = nat_cmp in
+    let S = nat_cmp in
     let pairs = c.args.pairs.now in
-    let first = c.args.first.now in
-    let start = c.partition_point-start.result in
+    let first = c.args.first in
+    let start = c.place-start.result in
     let rest = take (length pairs - start) (drop start pairs) in
-    let fits = c.partition_point-start.ensures.bound in
+    let fits = c.place-start.ensures.bound in
     let left : rest ≡ drop start pairs = take_rest pairs start in
-    let begins = IsPartitionPoint-from_clause (is_before R first) pairs start
-    c.partition_point-start.ensures.partitioned (before_parted S o pairs first c.requires)
-    (λ a r q k. search rules) in
-    let ends = IsPartitionPoint-from_clause (is_level R first) rest c.partition_point-count.result
-    c.partition_point-count.ensures.partitioned
-    (level_parted S o pairs rest first start c.requires fits left begins) (λ a r q k. search rules) in
-    range_is S o pairs rest first start c.requires fits left begins c.partition_point-count.result
-    c.partition_point-count.ensures.bound ends
+    let begins = c.place-start.ensures.place (before_parted S o pairs first c.requires.ascending) in
+    let ends =
+    c.place_near-count.ensures.place (level_parted S o pairs rest first start c.requires.ascending fits left begins) in
+    range_is S o pairs rest first start c.requires.ascending fits left begins c.place_near-count.result
+    c.place_near-count.ensures.bound ends

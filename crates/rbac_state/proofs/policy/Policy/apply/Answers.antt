@@ -1,8 +1,10 @@
-use Rattle.std.proofs.Common.{◌≡◌, true, refl, sym, ap, ◌∙◌}
+use Rattle.std.proofs.Common.{◌≡◌, true, refl, sym, ap, ◌∙◌, map, arith}
 use Rattle.role_commands.specs.Rules.{role_of}
 use Rattle.rbac_state.specs.inside.Blocks.{items_in}
+use Rattle.rbac_state.specs.inside.Packed.{grant_of}
 use Rattle.rbac_state.specs.Assignments.{owns}
 use Rattle.rbac_state.proofs.PairLemmas.{assigned-put, assigned-take_away, assigned-clear}
+use Rattle.rbac_state.proofs.GrantLemmas.{put_as_grant, taken_as_grant, cleared_as_grant}
 use Rattle.rbac_state.proofs.PairLemmas.{granted-put, granted-take_away, granted-clear}
 use Rattle.rbac_state.proofs.ApplyLemmas.{applied-Assign, applied-Deassign, applied-Grant, applied-Revoke}
 use Rattle.rbac_state.proofs.ApplyLemmas.{applied-Clear}
@@ -36,8 +38,11 @@ returns-in-Grant-clause-applied c =
     ∙ sym c.is_owned_by.ensures.value ∙ c.if-not-is_owned_by.false in
     rw (c.in-Grant.is, ← c.self.view_is)
     (applied-Grant c.args.owner c.in-Grant.role c.in-Grant.operation c.in-Grant.object _ _ owned refl refl
-    (λ operation object role. granted-put (items_in c.self.inside.granted.by_first.items) _ c.in-Grant.operation
-    c.in-Grant.object c.in-Grant.role operation object role (c.put-in-Grant.ensures.members (operation, object) role)))
+    (λ operation object role. granted-put (map grant_of (items_in c.self.inside.granted.by_first.items)) _
+    c.in-Grant.operation c.in-Grant.object c.in-Grant.role operation object role
+    (put_as_grant (items_in c.self.inside.granted.by_first.items) _ c.in-Grant.role
+    (c.in-Grant.operation, c.in-Grant.object) (omega arith)
+    (rw (c.pack.ensures) at c.put-in-Grant.ensures.members) (operation, object) role)))
 
 pub returns-in-Revoke-clause-applied : goal.returns-in-Revoke-clause-applied
 returns-in-Revoke-clause-applied c =
@@ -46,9 +51,11 @@ returns-in-Revoke-clause-applied c =
     ∙ sym c.is_owned_by.ensures.value ∙ c.if-not-is_owned_by.false in
     rw (c.in-Revoke.is, ← c.self.view_is)
     (applied-Revoke c.args.owner c.in-Revoke.role c.in-Revoke.operation c.in-Revoke.object _ _ owned refl refl
-    (λ operation object role. granted-take_away (items_in c.self.inside.granted.by_first.items) _ c.in-Revoke.operation
-    c.in-Revoke.object c.in-Revoke.role operation object role
-    (c.take_away-in-Revoke.ensures.members (operation, object) role)))
+    (λ operation object role. granted-take_away (map grant_of (items_in c.self.inside.granted.by_first.items)) _
+    c.in-Revoke.operation c.in-Revoke.object c.in-Revoke.role operation object role
+    (taken_as_grant (items_in c.self.inside.granted.by_first.items) _ c.in-Revoke.role
+    (c.in-Revoke.operation, c.in-Revoke.object) (omega arith)
+    (rw (c.pack-in-Revoke.ensures) at c.take_away-in-Revoke.ensures.members) (operation, object) role)))
 
 pub returns-in-Clear-clause-applied : goal.returns-in-Clear-clause-applied
 returns-in-Clear-clause-applied c =
@@ -59,6 +66,7 @@ returns-in-Clear-clause-applied c =
     (applied-Clear c.args.owner c.in-Clear.role _ _ owned refl
     (λ user role. assigned-clear (items_in c.self.inside.assigned.by_first.items) _ c.in-Clear.role user role
     (c.take_away_second.ensures.members user role))
-    (λ operation object role. granted-clear (items_in c.self.inside.granted.by_first.items) _ c.in-Clear.role
-    operation object role
-    (c.take_away_second-in-Clear.ensures.members (operation, object) role)))
+    (λ operation object role. granted-clear (map grant_of (items_in c.self.inside.granted.by_first.items)) _
+    c.in-Clear.role operation object role
+    (cleared_as_grant (items_in c.self.inside.granted.by_first.items) _ c.in-Clear.role
+    c.take_away_second-in-Clear.ensures.members (operation, object) role)))

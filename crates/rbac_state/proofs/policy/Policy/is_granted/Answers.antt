@@ -1,15 +1,11 @@
-use Rattle.std.proofs.Common.{sym, ap, ◌∙◌}
-use Rattle.std.specs.FinSet as set
-use Rattle.rbac_state.specs.inside.Blocks.{items_in}
-use Rattle.rbac_state.specs.Policies.{granted_in}
-use Rattle.rbac_state.proofs.PairLemmas.{grants_total}
+use Rattle.std.proofs.Common.{ap, ◌∙◌, arith}
+use Rattle.rbac_state.specs.inside.Relations.{relates}
+use Rattle.rbac_state.proofs.ListingLemmas.{may_is}
 use Rattle.rbac_state.proofs.policy.Policy.is_granted.Goals as goal
 
 pub returns : goal.returns
 returns c =
     c.has.ensures
-    ∙ sym (set.contains-from_list grants_total (items_in c.self.inside.granted.by_first.items) (
-      (c.args.operation, c.args.object),
-      c.args.role,
-    ))
-    ∙ ap (λ p. granted_in p c.args.operation c.args.object c.args.role) c.self.view_is
+    ∙ ap (λ n. relates c.self.inside.granted n c.args.role) c.pack.ensures
+    ∙ may_is c.args.self.now c.self.inside.granted (ap (λ v. v.grants) c.self.view_is) c.self.invariant.permissions
+    (c.args.operation, c.args.object) c.args.role (omega arith)

@@ -1,23 +1,24 @@
 use Rattle.std.proofs.Common.{◌≡◌, filter, sym, ap, ◌∙◌, arith}
-use Rattle.std.specs.Ordering.{eq_by_cmp}
+use Rattle.std.specs.Ordering.{eq_by_cmp, nat_cmp}
+use Rattle.std.proofs.lemmas.Cmp.{nat_cmp_total}
 use Rattle.rbac_state.specs.inside.Blocks.{items_in}
 use Rattle.rbac_state.proofs.RunLemmas.{one_block, picked_same, picked_ascend}
 use Rattle.rbac_state.proofs.run.Alike.find.Goals as goal
 
 pub returns-in-len1 : goal.returns-in-len1
 returns-in-len1 g c =
-    let o = g.met.A.Ord.total in
-    let first = c.args.first.now in
+    let o = nat_cmp_total in
+    let first = c.args.first in
     let found = c.beginning_with.result.now in
     let run = items_in c.run_of.result.now in
-    let is : found ≡ filter (λ p. eq_by_cmp g.A.Ord.cmp first p.0) run =
-    c.beginning_with.ensures ∙ ap (filter (λ p. eq_by_cmp g.A.Ord.cmp first p.0)) (c.deref.ensures.value
+    let is : found ≡ filter (λ p. eq_by_cmp nat_cmp first p.0) run =
+    c.beginning_with.ensures ∙ ap (filter (λ p. eq_by_cmp nat_cmp first p.0)) (c.deref.ensures.value
     ∙ sym (one_block (λ b. b.items) c.run_of.result.now c.block-item.result (omega arith) (omega arith)
     c.block-item.is)) in
     record {
-      same = picked_same g.B.Ord.cmp o first (items_in c.args.blocks.now) run found is c.run_of.ensures.same;
+      same = picked_same nat_cmp o first (items_in c.args.blocks.now) run found is c.run_of.ensures.same;
       ascending =
-          picked_ascend g.B.Ord.cmp o first (items_in c.args.blocks.now) run found is c.run_of.ensures.same
+          picked_ascend nat_cmp o first (items_in c.args.blocks.now) run found is c.run_of.ensures.same
           c.run_of.ensures.ascending;
       filled = tt;
     }
