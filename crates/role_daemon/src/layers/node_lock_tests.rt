@@ -161,7 +161,8 @@ fn close_at_last<L: Ledger>(
     Ok(node)
 }
 
-/// The three receipts are true in either order; with the first one altered, left out or doubled they are not.
+/// The three receipts are true as they came and from the last to the first; with the first one altered, left out or
+/// doubled they are not.
 fn audit_three(
     rt: &impl Abort,
     alloc: Global,

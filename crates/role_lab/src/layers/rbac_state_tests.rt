@@ -8,12 +8,13 @@ use std::fmt;
 use std::process::Abort;
 use std::test::Fail;
 
-/// Four nodes; roles 2 and 3 are of node 0, and role 9 is of node 1.
+/// Four nodes; roles 2 and 3 are of node 0, and roles 9 and 65,535 are of node 1.
 fn roles(alloc: Global) -> Result<RoleTable, Fail> {
     let mut roles = RoleTable::new(alloc, Sizes::new(4, 1)?);
     roles.add(2, 0)?;
     roles.add(3, 0)?;
     roles.add(9, 1)?;
+    roles.add(65_535, 1)?;
     Ok(roles)
 }
 
@@ -155,6 +156,22 @@ fn find_pairs(rt: &impl Abort, policy: &Policy) {
 fn pairs_are_found(rt: HostRuntime) -> Result<(), Fail> {
     find_pairs(&rt, &example(rt.alloc())?);
     Ok(())
+}
+
+static LARGEST: [Listing; 4] = [
+    Listing::Users(65_535, &[4_294_967_295]),
+    Listing::Roles(4_294_967_295, &[65_535]),
+    Listing::RolePermissions(65_535, &[(65_535, 4_294_967_295)]),
+    Listing::UserOperations(4_294_967_295, 4_294_967_295, &[65_535]),
+];
+
+#[test]
+fn the_largest_numbers(rt: HostRuntime) -> Result<(), Fail> {
+    let commands = [
+        (1, assign(4_294_967_295, 65_535)),
+        (1, grant(65_535, 65_535, 4_294_967_295)),
+    ];
+    list_all(&rt, &policy_after(rt.alloc(), &commands)?, &LARGEST)
 }
 
 static LEFT: [Listing; 3] = [
