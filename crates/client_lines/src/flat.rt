@@ -1,4 +1,4 @@
-//! Reading a line that is an object of texts, whole numbers, true, false and null, as clients write them. It takes no
+//! Reading a line that is an object of texts, whole numbers, true, false and null, however it is written. It takes no
 //! memory but the scratch, which is kept from line to line.
 
 ghost use Rattle.std.specs.Prelude.{◌≡◌, ◌<◌, ◌==◌, length, slice_index, false, Some, IfSome, IfOk};

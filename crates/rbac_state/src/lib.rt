@@ -13,6 +13,7 @@ mod run;
 mod search;
 mod second;
 mod select;
+mod shown;
 mod sorted;
 
 pub use laws::law_one_more;

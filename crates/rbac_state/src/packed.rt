@@ -74,7 +74,7 @@ pub fn pack(permission: Permission) -> u64
 }
 
 /// The permission of a number.
-fn unpack(number: u64) -> Permission
+pub fn unpack(number: u64) -> Permission
     ensures { result ≡ unpacked number }
 {
     (

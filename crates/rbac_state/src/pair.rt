@@ -12,7 +12,7 @@ use std::marker::Model;
 pub const ROLES: u64 = 65_536;
 
 /// A number and one below `LIMIT`, kept as one number.
-#[derive(Clone, Copy, Drop, Debug)]
+#[derive(Clone, Copy, Drop)]
 pub struct Pair<const LIMIT: u64> {
     number: u64,
 }

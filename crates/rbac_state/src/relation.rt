@@ -9,12 +9,15 @@ ghost use Rattle.rbac_state.specs.inside.Runs.{AreAlike};
 
 use crate::blocks;
 use crate::pair::{Pair, ROLES};
+use crate::policy::PERMISSIONS;
 use crate::run::{self, Alike};
+use crate::shown::{Permissions, ShownBlocks};
 use std::alloc::{AllocError, Global};
+use std::fmt;
 
 /// A finite relation of numbers below `FIRSTS` with roles. Its pairs are kept twice, in ascending order by either side,
 /// so that a look-up from either side is a search, and in blocks, so that a change moves few of them.
-#[derive(Drop, Debug)]
+#[derive(Drop)]
 pub struct Relation<const FIRSTS: u64> {
     by_first: Vec<Vec<Pair<ROLES>>>,
     by_second: Vec<Vec<Pair<FIRSTS>>>,
@@ -159,5 +162,28 @@ impl<const FIRSTS: u64> Relation<FIRSTS> {
     /// Where the lists have their memory from.
     pub fn alloc(&self) -> Global {
         *self.by_first.allocator()
+    }
+}
+
+impl<const FIRSTS: u64> fmt::Debug for Relation<FIRSTS> {
+    fn fmt<W: fmt::Write>(&self, f: &mut fmt::Formatter<W>) -> fmt::Result {
+        let (first, second) = if FIRSTS == PERMISSIONS {
+            (Permissions::First, Permissions::Second)
+        } else {
+            (Permissions::Nowhere, Permissions::Nowhere)
+        };
+        let by_first = ShownBlocks {
+            blocks: &self.by_first,
+            permissions: first,
+        };
+        let by_second = ShownBlocks {
+            blocks: &self.by_second,
+            permissions: second,
+        };
+        f.debug_struct("Relation")
+            .field("by_first", &by_first)
+            .field("by_second", &by_second)
+            .field("room", &self.room)
+            .finish()
     }
 }

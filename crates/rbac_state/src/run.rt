@@ -14,7 +14,7 @@ use crate::blocks::{self, drop_if_empty, later};
 use crate::pair::{Pair, ROLES};
 use crate::sorted;
 
-/// One pair is searched and taken away in the time in which a pass goes over so many.
+/// One pair is searched and taken away in about the time in which a pass goes over so many.
 const PASSED_A_SEARCH: usize = 256;
 
 /// Where the pairs of one first lie: in a part of one block, which has no others, or in blocks behind one another,

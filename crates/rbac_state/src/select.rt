@@ -1,7 +1,6 @@
 //! What the review functions look for, in the order in which it is kept.
 
 ghost use Rattle.std.specs.Prelude.{◌≡◌, ◌<◌, ◌≤◌, ◌==◌, ◌&&◌, ◌++◌, length, drop, map, filter, find, IfOk, OnOk};
-ghost use Rattle.std.specs.Prelude.{if◌then◌else◌, Some, None};
 ghost use Rattle.std.specs.Ordering.{eq_by_cmp, nat_cmp};
 ghost use Rattle.std.specs.List.{AllByRecursion, flat_map};
 ghost use Rattle.std.specs.List.Sorted.{IsStrictlySortedBy};
@@ -16,6 +15,9 @@ use crate::run::run_of;
 use crate::second::Second;
 use crate::sorted;
 use std::alloc::{AllocError, Global};
+
+/// Of up to so many roles each is asked about by itself, which is quicker; of more, the first alone is.
+const FEW: usize = 2;
 
 /// What the second of each pair of this first stands for.
 pub fn seconds<const LIMIT: u64, B: Second>(
@@ -156,10 +158,9 @@ pub fn first_granting(
     ensures { result ≡ find (λ role. relates assigned.now user role
         && relates granted.now permission role) roles.now }
 {
-    let Some((first, rest)) = roles.split_first() else {
-        return None;
-    };
-    if let Some(role) = if_granting(assigned, granted, user, *first, permission) {
+    let alone = if roles.len() <= FEW { roles.len() } else { 1 };
+    let (few, rest) = roles.split_at(alone);
+    if let Some(role) = first_of_few(assigned, granted, user, few, permission) {
         return Some(role);
     }
     if rest.is_empty() {
@@ -168,26 +169,27 @@ pub fn first_granting(
     first_of_many(assigned, granted, user, rest, permission)
 }
 
-/// The role, if the user has it and it has the permission.
-fn if_granting(
+/// As `first_granting`: each role is asked about by itself.
+fn first_of_few(
     assigned: &Users,
     granted: &Grants,
     user: u64,
-    role: u16,
+    roles: &[u16],
     permission: u64,
 ) -> Option<u16>
     requires user { user < most_firsts }
     requires permission { permission < most_firsts }
     requires users { IsKeptBothWays assigned.now }
     requires permissions { IsKeptBothWays granted.now }
-    ensures { result ≡ (if relates assigned.now user role
-        && relates granted.now permission role then Some role else None) }
+    ensures { result ≡ find (λ role. relates assigned.now user role
+        && relates granted.now permission role) roles.now }
 {
-    if granted.has(permission, role) && assigned.has(user, role) {
-        Some(role)
-    } else {
-        None
+    for role in roles {
+        if granted.has(permission, *role) && assigned.has(user, *role) {
+            return Some(*role);
+        }
     }
+    None
 }
 
 /// As `first_granting`: the roles that have the permission are found once for all of these.
