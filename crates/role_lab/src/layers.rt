@@ -5,6 +5,7 @@ mod byz_world_tests;
 mod link_frames_device_tests;
 mod link_frames_tests;
 mod owner_streams_tests;
+mod policy_text_tests;
 mod quorum_sizes_tests;
 mod rbac_state_tests;
 mod role_commands_tests;
