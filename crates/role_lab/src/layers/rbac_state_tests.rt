@@ -152,6 +152,12 @@ fn find_pairs(rt: &impl Abort, policy: &Policy) {
     assert!(rt; policy.first_granting(8, &[3, 2], 5, 9).is_none());
 }
 
+#[test]
+fn pairs_are_found(rt: HostRuntime) -> Result<(), Fail> {
+    find_pairs(&rt, &example(rt.alloc())?);
+    Ok(())
+}
+
 /// A user, roles, an operation and an object, and the first role that is due.
 type Asked = (u32, &'static [u16], u16, u32, Option<u16>);
 
