@@ -17,11 +17,11 @@ pub fn run(alloc: Global, seed: u32, share: u32) -> Result<Digest> {
     let mut sample = Sample::new(seed, 5);
     let mut digest = Digest::new();
     for order in 0..6 {
-        let mut history = History::new(alloc, &mut sample, part(COMMANDS, share))?;
+        let mut history = History::new(alloc, &mut sample, part(COMMANDS, share), &mut digest)?;
         let mut receipts = history.receipts(alloc)?;
         match order {
             3 => receipts.reverse(),
-            4 => shuffle(&mut receipts, &mut sample),
+            4 => sample.shuffle(&mut receipts),
             5 => forge(&mut receipts),
             _ => {}
         }
@@ -31,21 +31,10 @@ pub fn run(alloc: Global, seed: u32, share: u32) -> Result<Digest> {
     Ok(digest)
 }
 
-/// Puts the receipts into no order.
-fn shuffle(receipts: &mut [Receipt], sample: &mut Sample) {
-    let Ok(count) = u32::try_from(receipts.len()) else {
-        return;
-    };
-    for index in 0..count {
-        let other = sample.below(count);
-        receipts.swap(index as usize, other as usize);
-    }
-}
-
-/// Has a late receipt say something else.
+/// Has the receipt in the middle of the first seat's say something else.
 fn forge(receipts: &mut [Receipt]) {
-    let late = receipts.len() / 8;
-    if let Some(receipt) = receipts.get_mut(late) {
+    let middle = receipts.len() / 8;
+    if let Some(receipt) = receipts.get_mut(middle) {
         receipt.outcome = Outcome::Reply(Reply::Session(1));
     }
 }

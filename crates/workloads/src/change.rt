@@ -1,13 +1,14 @@
 //! Commands at one node whose policy gets large: assignments in descending order, then in random order, and then a mix
-//! with clears of roles with no pair, with some hundreds, and with some 70,000.
+//! with clears of roles that have no pair or, mostly, some 1,100; at last clears of two roles that have 66,000 each.
 
 use crate::digest::Digest;
 use crate::registry::{lone_node, publish};
 use crate::sample::{Sample, part};
 use anyhow::Result;
 use role_commands::Command;
-use role_node::{Answer, Node, Question};
+use role_node::{Node, Question};
 use std::alloc::Global;
+use std::mem;
 
 /// So many roles have users. The first have very many.
 const ROLES: u16 = 200;
@@ -32,13 +33,18 @@ struct Changes {
     node: Node,
     sample: Sample,
     given: Vec<Command>,
+    digest: Digest,
 }
 
 impl Changes {
     /// Publishes a command by which a user or a permission gets a role, and remembers it.
     fn give(&mut self, command: Command) -> Result<()> {
         self.given.push(command)?;
-        publish(&mut self.node, command)
+        self.publish(command)
+    }
+
+    fn publish(&mut self, command: Command) -> Result<()> {
+        publish(&mut self.node, command, &mut self.digest)
     }
 
     fn role(&mut self) -> u16 {
@@ -89,7 +95,7 @@ impl Changes {
             },
             _ => return Ok(()),
         };
-        publish(&mut self.node, command)
+        self.publish(command)
     }
 
     /// One command of the mix: among a thousand one clear of a role with no pair, and one of another small role.
@@ -99,16 +105,30 @@ impl Changes {
         match drawn {
             0 => {
                 let role = ROLES + self.sample.role(ALL_ROLES - ROLES) % 56;
-                publish(&mut self.node, Command::Clear { role })
+                self.publish(Command::Clear { role })
             }
             1 => {
                 let role = LARGE_ROLES + self.sample.role(ROLES - LARGE_ROLES) % 198;
-                publish(&mut self.node, Command::Clear { role })
+                self.publish(Command::Clear { role })
             }
             2..450 => self.assign(user),
             450..550 => self.grant(),
             _ => self.take_back(),
         }
+    }
+
+    /// Adds who has each role, and what each may do, to the digest.
+    fn review(&mut self) -> Result<()> {
+        for role in 0..ALL_ROLES {
+            for question in [
+                Question::AssignedUsers(role),
+                Question::RolePermissions(role),
+            ] {
+                let answer = self.node.ask(question)?;
+                self.digest.answer(&answer);
+            }
+        }
+        Ok(())
     }
 }
 
@@ -118,6 +138,7 @@ pub fn run(alloc: Global, seed: u32, share: u32) -> Result<Digest> {
         node: lone_node(alloc, ALL_ROLES)?,
         sample: Sample::new(seed, 3),
         given: Vec::new(alloc),
+        digest: Digest::new(),
     };
     for number in 0..part(DESCENDING, share) {
         changes.assign(USERS - number)?;
@@ -132,28 +153,10 @@ pub fn run(alloc: Global, seed: u32, share: u32) -> Result<Digest> {
     for _ in 0..part(MIXED, share) {
         changes.mixed()?;
     }
-    let mut digest = Digest::new();
-    review(&mut changes.node, &mut digest)?;
+    changes.review()?;
     for role in 0..LARGE_ROLES {
-        publish(&mut changes.node, Command::Clear { role })?;
+        changes.publish(Command::Clear { role })?;
     }
-    review(&mut changes.node, &mut digest)?;
-    Ok(digest)
-}
-
-/// Adds who has each role, and what each may do.
-fn review(node: &mut Node, digest: &mut Digest) -> Result<()> {
-    for role in 0..ALL_ROLES {
-        if let Answer::Users(users) = node.ask(Question::AssignedUsers(role))? {
-            for user in users.as_slice() {
-                digest.number(u64::from(*user));
-            }
-        }
-        if let Answer::Permissions(permissions) = node.ask(Question::RolePermissions(role))? {
-            for (operation, object) in permissions.as_slice() {
-                digest.number(u64::from(*operation) << 32 | u64::from(*object));
-            }
-        }
-    }
-    Ok(())
+    changes.review()?;
+    Ok(mem::replace(&mut changes.digest, Digest::new()))
 }

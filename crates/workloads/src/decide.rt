@@ -1,14 +1,17 @@
-//! Checks of accesses: lines of clients in 3,989 sessions of 1 to 64 active roles, each of another access, three in ten
-//! of them denied, with a command between them now and then.
+//! Checks of accesses: lines of clients in 3,989 sessions of 1 to 64 active roles, no check twice, some two in nine of
+//! them denied, with a command between them now and then.
 
+use crate::accesses::{Access, Permissions};
+use crate::deck::Deck;
 use crate::digest::Digest;
 use crate::line::Line;
 use crate::registry::{Client, activate, lone_node, open, publish};
 use crate::sample::{Sample, part};
-use anyhow::Result;
+use anyhow::{Context, Result};
 use role_commands::Command;
 use role_node::Node;
 use std::alloc::Global;
+use std::mem;
 
 const ROLES: u16 = 500;
 
@@ -19,14 +22,8 @@ const ROLES_OF_USER: u32 = 6;
 
 const ROLES_OF_WIDE_USER: u32 = 64;
 
-/// So many permissions that two or three roles have.
-const PERMISSIONS: u32 = 24_000;
-
-/// So many of them each role has.
-const GRANTS_OF_ROLE: u32 = 200;
-
-/// So many permissions that 300 roles have.
-const POPULAR: u32 = 20;
+/// So many roles have each popular permission.
+const ROLES_OF_POPULAR: u32 = 300;
 
 const SESSIONS: u32 = 3_989;
 
@@ -36,184 +33,220 @@ const ROUNDS: u32 = 180;
 /// One command comes for so many checks.
 const CHECKS_FOR_COMMAND: u32 = 500;
 
-/// The users, roles and permissions of a seed.
+/// A session, and whose it is.
 #[derive(Clone, Copy)]
-struct Shape {
-    salt: u32,
-    users: u32,
+struct Session {
+    id: u64,
+    user: u32,
+    /// So many of the user's first roles are active in it.
+    active: u32,
 }
 
-impl Shape {
-    fn role(&self, user: u32, number: u32) -> u16 {
-        let role = user
-            .wrapping_mul(31)
-            .wrapping_add(number.wrapping_mul(7))
-            .wrapping_add(self.salt);
-        (role % u32::from(ROLES)) as u16
-    }
-
-    fn permission_of(&self, role: u16, number: u32) -> u32 {
-        let permission = u32::from(role)
-            .wrapping_mul(48)
-            .wrapping_add(number.wrapping_mul(101))
-            .wrapping_add(self.salt);
-        permission % PERMISSIONS
-    }
-
-    fn operation(&self, permission: u32) -> u16 {
-        (permission % 8) as u16
-    }
-
-    fn object(&self, permission: u32) -> u32 {
-        permission.wrapping_mul(5).wrapping_add(self.salt % 65_536)
-    }
-
-    fn grant(&self, role: u16, permission: u32) -> Command {
-        Command::Grant {
-            role,
-            operation: self.operation(permission),
-            object: self.object(permission),
-        }
-    }
-
-    fn user_of(&self, session: u32) -> u32 {
-        session.wrapping_mul(5) % self.users.max(1)
-    }
+/// The registry of a seed, and what is drawn for it.
+#[derive(Drop)]
+struct Registry {
+    alloc: Global,
+    node: Node,
+    sample: Sample,
+    digest: Digest,
+    /// All roles, to be drawn.
+    roles: Deck,
+    /// All users, to be drawn.
+    users: Deck,
+    /// Each user's roles at the start.
+    roles_of: Vec<Vec<u16>>,
+    permissions: Permissions,
 }
 
 /// Does the job on the input of a seed.
 pub fn run(alloc: Global, seed: u32, share: u32) -> Result<Digest> {
     let mut sample = Sample::new(seed, 1);
-    let shape = Shape {
-        salt: sample.below(1_000_000),
-        users: part(USERS, share),
+    let users = part(USERS, share);
+    let permissions = Permissions::new(alloc, &mut sample, ROLES)?;
+    let mut registry = Registry {
+        alloc,
+        node: lone_node(alloc, ROLES)?,
+        sample,
+        digest: Digest::new(),
+        roles: Deck::new(alloc, u32::from(ROLES))?,
+        users: Deck::new(alloc, users)?,
+        roles_of: Vec::new(alloc),
+        permissions,
     };
-    let mut node = lone_node(alloc, ROLES)?;
-    fill(&mut node, &shape)?;
-    let ids = open_all(alloc, &mut node, &shape, part(SESSIONS, share))?;
-    let mut digest = Digest::new();
-    check_all(alloc, &mut node, &shape, &ids, &mut digest)?;
-    Ok(digest)
+    registry.assign(users)?;
+    registry.grant()?;
+    let sessions = registry.open_all(part(SESSIONS, share))?;
+    let rounds = registry.draw_rounds(&sessions)?;
+    registry.check_all(&sessions, &rounds)?;
+    Ok(mem::replace(&mut registry.digest, Digest::new()))
 }
 
-fn fill(node: &mut Node, shape: &Shape) -> Result<()> {
-    for user in 0..shape.users {
-        for number in 0..ROLES_OF_USER {
-            let role = shape.role(user, number);
-            publish(node, Command::Assign { user, role })?;
-        }
+impl Registry {
+    fn publish(&mut self, command: Command) -> Result<()> {
+        publish(&mut self.node, command, &mut self.digest)
     }
-    for role in 0..ROLES {
-        for number in 0..GRANTS_OF_ROLE {
-            publish(node, shape.grant(role, shape.permission_of(role, number)))?;
-        }
-    }
-    for role in 0..300 {
-        for number in 0..POPULAR {
-            publish(node, shape.grant(role, PERMISSIONS + number))?;
-        }
-    }
-    Ok(())
-}
 
-/// So many roles are active in the session of this number.
-fn active(session: u32) -> u32 {
-    if session % 20 == 0 {
-        ROLES_OF_WIDE_USER
-    } else {
-        1 + session % ROLES_OF_USER
-    }
-}
-
-fn open_all(alloc: Global, node: &mut Node, shape: &Shape, sessions: u32) -> Result<Vec<u64>> {
-    let mut ids = Vec::new(alloc);
-    for session in 0..sessions {
-        let user = shape.user_of(session);
-        let id = open(node, user)?;
-        for number in 0..active(session) {
-            let role = shape.role(user, number);
-            if number >= ROLES_OF_USER {
-                publish(node, Command::Assign { user, role })?;
+    /// Gives so many users their roles.
+    fn assign(&mut self, users: u32) -> Result<()> {
+        for user in 0..users {
+            self.roles.ready(ROLES_OF_USER);
+            let mut mine = Vec::new(self.alloc);
+            for _ in 0..ROLES_OF_USER {
+                let role = self.roles.role(&mut self.sample);
+                mine.push(role)?;
+                self.publish(Command::Assign { user, role })?;
             }
-            activate(node, id, user, role)?;
+            self.roles_of.push(mine)?;
         }
-        ids.push(id)?;
+        Ok(())
     }
-    Ok(ids)
-}
 
-fn check_all(
-    alloc: Global,
-    node: &mut Node,
-    shape: &Shape,
-    ids: &[u64],
-    digest: &mut Digest,
-) -> Result<()> {
-    let mut client = Client::new(alloc);
-    let mut line = Line::new(alloc);
-    let mut number = 0u32;
-    for round in 0..ROUNDS {
-        let mut session = 0u32;
-        for id in ids {
-            number = number.wrapping_add(1);
-            if number % CHECKS_FOR_COMMAND == 0 {
-                let command = changing(&mut line, shape, number)?;
-                client.say(node, command, digest)?;
+    /// Gives the roles their permissions.
+    fn grant(&mut self) -> Result<()> {
+        for role in 0..ROLES {
+            for access in self.permissions.common(self.alloc, role)? {
+                self.grant_to(role, access)?;
             }
-            let check = checking(&mut line, shape, session, *id, round)?;
-            client.say(node, check, digest)?;
-            session = session.wrapping_add(1);
         }
+        for access in self.permissions.popular(self.alloc)? {
+            self.roles.ready(ROLES_OF_POPULAR);
+            for _ in 0..ROLES_OF_POPULAR {
+                let role = self.roles.role(&mut self.sample);
+                self.grant_to(role, access)?;
+            }
+        }
+        Ok(())
     }
-    Ok(())
-}
 
-/// A command that takes a role from a user, or gives one.
-fn changing<'a>(line: &'a mut Line, shape: &Shape, number: u32) -> Result<&'a [u8]> {
-    let user = number.wrapping_mul(13) % shape.users.max(1);
-    let role = u64::from(shape.role(user, number % ROLES_OF_USER));
-    let op = if number % 3 == 0 {
-        "assign"
-    } else {
-        "deassign"
-    };
-    Ok(line.write(op, &[("user", u64::from(user)), ("role", role)])?)
-}
+    fn grant_to(&mut self, role: u16, access: Access) -> Result<()> {
+        let Access { operation, object } = access;
+        self.publish(Command::Grant {
+            role,
+            operation,
+            object,
+        })
+    }
 
-/// A check of an access that no other one asks for: seven in ten of a permission of an active role, one of a permission
-/// that hundreds of roles have, one of some other, and one of a permission that nobody has.
-fn checking<'a>(
-    line: &'a mut Line,
-    shape: &Shape,
-    session: u32,
-    id: u64,
-    round: u32,
-) -> Result<&'a [u8]> {
-    let user = shape.user_of(session);
-    let permission = match session.wrapping_add(round) % 10 {
-        7 => PERMISSIONS + round / 10 % POPULAR,
-        8 => session
-            .wrapping_mul(17)
-            .wrapping_add(round.wrapping_mul(7_919))
-            % PERMISSIONS,
-        9 => 400_000_000u32
-            .wrapping_add(session.wrapping_mul(200))
-            .wrapping_add(round),
-        _ => {
-            let role = shape.role(user, round % active(session).max(1));
-            shape.permission_of(role, session.wrapping_add(round) % GRANTS_OF_ROLE)
+    /// Opens so many sessions, each of another user.
+    fn open_all(&mut self, sessions: u32) -> Result<Vec<Session>> {
+        let mut opened = Vec::new(self.alloc);
+        self.users.ready(sessions);
+        for number in 0..sessions {
+            let user = self.users.deal(&mut self.sample);
+            let active = if number % 20 == 0 {
+                self.widen(user)?;
+                ROLES_OF_WIDE_USER
+            } else {
+                1 + number % ROLES_OF_USER
+            };
+            let id = open(&mut self.node, user)?;
+            let mine = self.roles_of.get(user as usize).context("no user")?;
+            for role in mine.iter().take(active as usize) {
+                activate(&mut self.node, id, user, *role)?;
+            }
+            opened.push(Session { id, user, active })?;
         }
-    };
-    let asking = if session.wrapping_add(round) % 100 == 99 {
-        user.wrapping_add(1)
-    } else {
-        user
-    };
-    let members = [
-        ("session", id),
-        ("user", u64::from(asking)),
-        ("operation", u64::from(shape.operation(permission))),
-        ("object", u64::from(shape.object(permission))),
-    ];
-    Ok(line.write("check", &members)?)
+        Ok(opened)
+    }
+
+    /// Gives a user more roles, so that there are as many as may be active.
+    fn widen(&mut self, user: u32) -> Result<()> {
+        self.roles.ready(ROLES_OF_WIDE_USER);
+        for _ in 0..ROLES_OF_WIDE_USER {
+            let role = self.roles.role(&mut self.sample);
+            let mine = self.roles_of.get_mut(user as usize).context("no user")?;
+            if mine.len() < ROLES_OF_WIDE_USER as usize && !mine.as_slice().contains(&role) {
+                mine.push(role)?;
+                self.publish(Command::Assign { user, role })?;
+            }
+        }
+        Ok(())
+    }
+
+    /// For each round what is asked in each session, in the order of the sessions.
+    fn draw_rounds(&mut self, sessions: &[Session]) -> Result<Vec<Vec<Access>>> {
+        let mut rounds = Vec::new(self.alloc);
+        for _ in 0..ROUNDS {
+            rounds.push(Vec::with_capacity(self.alloc, sessions.len())?)?;
+        }
+        let mut drawn = Vec::new(self.alloc);
+        for session in sessions {
+            let mine = self.roles_of.get(session.user as usize).context("no user")?;
+            let active = mine.get(..session.active as usize).context("no role")?;
+            self.permissions.begin_session();
+            drawn.clear();
+            for number in 0..ROUNDS {
+                drawn.push(self.permissions.draw(&mut self.sample, number, active))?;
+            }
+            self.sample.shuffle(&mut drawn);
+            for (round, access) in rounds.iter_mut().zip(drawn.iter()) {
+                round.push(*access)?;
+            }
+        }
+        Ok(rounds)
+    }
+
+    /// Asks all that was drawn, round by round.
+    fn check_all(&mut self, sessions: &[Session], rounds: &[Vec<Access>]) -> Result<()> {
+        let mut client = Client::new(self.alloc);
+        let mut line = Line::new(self.alloc);
+        let mut number = 0u32;
+        self.users.begin();
+        for round in rounds {
+            for (session, access) in sessions.iter().zip(round.iter()) {
+                number = number.wrapping_add(1);
+                if number % CHECKS_FOR_COMMAND == 0 {
+                    let command = self.changing(&mut line, number)?;
+                    client.say(&mut self.node, command, &mut self.digest)?;
+                }
+                let check = self.checking(&mut line, session, access)?;
+                client.say(&mut self.node, check, &mut self.digest)?;
+            }
+        }
+        Ok(())
+    }
+
+    /// A command about another user each time. Two of three take away one of the user's roles, and one gives a role
+    /// that the user does not have.
+    fn changing<'a>(&mut self, line: &'a mut Line, number: u32) -> Result<&'a [u8]> {
+        let user = self.users.deal(&mut self.sample);
+        let mine = self.roles_of.get(user as usize).context("no user")?;
+        let count = u32::try_from(mine.len())?;
+        let (op, role) = if number % 3 == 0 {
+            self.roles.ready(count.saturating_add(1));
+            let mut role = self.roles.role(&mut self.sample);
+            for _ in 0..count {
+                if mine.as_slice().contains(&role) {
+                    role = self.roles.role(&mut self.sample);
+                }
+            }
+            ("assign", role)
+        } else {
+            let place = self.sample.below(count);
+            let role = mine.get(place as usize).context("no role")?;
+            ("deassign", *role)
+        };
+        Ok(line.write(op, &[("user", u64::from(user)), ("role", u64::from(role))])?)
+    }
+
+    /// A check of the access in the session. Of a hundred one is asked for another user than the session's.
+    fn checking<'a>(
+        &mut self,
+        line: &'a mut Line,
+        session: &Session,
+        access: &Access,
+    ) -> Result<&'a [u8]> {
+        let asking = if self.sample.below(100) == 0 {
+            session.user.wrapping_add(1)
+        } else {
+            session.user
+        };
+        let members = [
+            ("session", session.id),
+            ("user", u64::from(asking)),
+            ("operation", u64::from(access.operation)),
+            ("object", u64::from(access.object)),
+        ];
+        Ok(line.write("check", &members)?)
+    }
 }

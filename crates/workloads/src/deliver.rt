@@ -36,6 +36,7 @@ const TO_AT: usize = 6;
 /// A node with its keys.
 #[derive(Drop)]
 struct Member {
+    alloc: Global,
     node: Node,
     keys: PairKeys,
     sizes: Sizes,
@@ -56,6 +57,7 @@ impl Member {
             keys.push(key(index, other, secret))?;
         }
         Ok(Member {
+            alloc,
             node: node(alloc, config(alloc, NODES, LIARS, OWNERS, ROLES)?, index)?,
             keys: PairKeys::new(alloc, &sizes, me, &keys)?,
             sizes,
@@ -65,28 +67,36 @@ impl Member {
 
     /// Takes a frame. What the node sends then to all.
     fn take(&mut self, frame: &Frame, digest: &mut Digest) -> Result<Option<Message>> {
-        let Ok(packet) = open_frame(&self.keys, &self.sizes, CLUSTER, frame) else {
-            digest.number(1);
-            return Ok(None);
+        let packet = match open_frame(&self.keys, &self.sizes, CLUSTER, frame) {
+            Ok(packet) => packet,
+            Err(fault) => {
+                digest.refusal(self.alloc, &fault)?;
+                return Ok(None);
+            }
         };
         match self.node.apply(Event::Take(packet)) {
-            Ok(reply) => Ok(reply.message()),
+            Ok(reply) => {
+                digest.reply(&reply);
+                Ok(reply.message())
+            }
             Err(NodeFault::Memory) => bail!("out of memory"),
-            Err(_) => {
-                digest.number(2);
+            Err(fault) => {
+                digest.refusal(self.alloc, &fault)?;
                 Ok(None)
             }
         }
     }
 
-    /// The frame of a message to a node.
-    fn frame(&self, to: u8, message: Message) -> Result<Frame> {
+    /// The frame of a message to a node. Adds its bytes to the digest.
+    fn frame(&self, to: u8, message: Message, digest: &mut Digest) -> Result<Frame> {
         let to = self.sizes.name(to).context("no node")?;
         let packet = Packet::new(self.me, to, message).context("no packet")?;
         if !self.sizes.has(to) {
             bail!("no node");
         }
-        Ok(seal(&self.keys, CLUSTER, &packet))
+        let frame = seal(&self.keys, CLUSTER, &packet);
+        digest.bytes(&frame);
+        Ok(frame)
     }
 }
 
@@ -128,10 +138,10 @@ impl Net {
     }
 
     /// Puts the frames of a message of this node on their way.
-    fn send(&mut self, from: usize, message: Message) -> Result<()> {
+    fn send(&mut self, from: usize, message: Message, digest: &mut Digest) -> Result<()> {
         let member = self.members.get(from).context("no node")?;
         for to in 0..NODES {
-            self.frames.push_back(member.frame(to, message)?)?;
+            self.frames.push_back(member.frame(to, message, digest)?)?;
         }
         Ok(())
     }
@@ -141,7 +151,7 @@ impl Net {
         let to = usize::from(frame[TO_AT]);
         let member = self.members.get_mut(to).context("no node")?;
         match member.take(frame, digest)? {
-            Some(message) => self.send(to, message),
+            Some(message) => self.send(to, message, digest),
             None => Ok(()),
         }
     }
@@ -177,12 +187,13 @@ impl Net {
     }
 
     /// Has an owner publish a command.
-    fn issue(&mut self, owner: u8, sample: &mut Sample) -> Result<()> {
+    fn issue(&mut self, owner: u8, sample: &mut Sample, digest: &mut Digest) -> Result<()> {
         let index = usize::from(owner);
         let member = self.members.get_mut(index).context("no node")?;
         let reply = member.node.apply(Event::Issue(command_of(owner, sample)))?;
+        digest.reply(&reply);
         let message = reply.message().context("no message")?;
-        self.send(index, message)
+        self.send(index, message, digest)
     }
 }
 
@@ -213,7 +224,7 @@ pub fn run(alloc: Global, seed: u32, share: u32) -> Result<Digest> {
     for _ in 0..part(COMMANDS / FLIGHT, share) {
         for _ in 0..FLIGHT {
             for owner in 0..OWNERS {
-                net.issue(owner, &mut sample)?;
+                net.issue(owner, &mut sample, &mut digest)?;
             }
         }
         net.give_all(&mut digest)?;
@@ -221,17 +232,9 @@ pub fn run(alloc: Global, seed: u32, share: u32) -> Result<Digest> {
     for member in net.members.iter() {
         digest.number(u64::from(member.node.events()));
         for owner in 0..OWNERS {
-            let name = member.sizes.name(owner).context("no node")?;
-            digest.number(u64::from(reach_of(&member.node, name)));
+            let owner = member.sizes.name(owner).context("no node")?;
+            digest.stream(&member.node, owner);
         }
     }
     Ok(digest)
-}
-
-fn reach_of(node: &Node, owner: NodeName) -> u32 {
-    if node.config().roles().sizes().has(owner) {
-        node.reach(owner)
-    } else {
-        0
-    }
 }

@@ -1,8 +1,10 @@
 //! A node of four with a long history, and the receipts of four seats for it.
 
-use crate::registry::{activate, config, node, open};
+use crate::deck::Deck;
+use crate::digest::Digest;
+use crate::registry::{config, node};
 use crate::sample::Sample;
-use anyhow::{Context, Result};
+use anyhow::{Context, Result, bail};
 use link_frames::{Kind, Message, Packet};
 use node_lock::{Call, Outcome, Receipt};
 use quorum_sizes::NodeName;
@@ -21,28 +23,38 @@ const SEATS: u8 = 4;
 #[derive(Drop)]
 pub struct History {
     pub node: Node,
+    /// The users that were not asked about yet.
+    users: Deck,
     seats: Vec<Vec<Receipt>>,
 }
 
 impl History {
-    /// The history in which node 0 publishes so many commands, and a client asks now and then.
-    pub fn new(alloc: Global, sample: &mut Sample, commands: u32) -> Result<History> {
+    /// The history in which node 0 publishes so many commands, and a client asks now and then. Adds what the node says
+    /// to the digest.
+    pub fn new(
+        alloc: Global,
+        sample: &mut Sample,
+        commands: u32,
+        digest: &mut Digest,
+    ) -> Result<History> {
         let mut seats = Vec::new(alloc);
         for _ in 0..SEATS {
             seats.push(Vec::new(alloc))?;
         }
         let mut history = History {
             node: node(alloc, config(alloc, NODES, 1, 1, ROLES)?, 1)?,
+            users: Deck::new(alloc, USERS)?,
             seats,
         };
         for place in 0..commands {
-            history.deliver(sample, place)?;
+            history.deliver(sample, place, digest)?;
         }
         Ok(history)
     }
 
-    /// The packets of one command at their receiver, of which one repeats another.
-    fn deliver(&mut self, sample: &mut Sample, place: u32) -> Result<()> {
+    /// The packets of one command at their receiver. For each third command the first of them comes once more, and for
+    /// each sixteenth a client asks.
+    fn deliver(&mut self, sample: &mut Sample, place: u32, digest: &mut Digest) -> Result<()> {
         let sizes = self.node.config().roles().sizes();
         let owner = sizes.name(0).context("no node")?;
         let command = sample.assign(USERS, ROLES);
@@ -52,44 +64,54 @@ impl History {
             place,
             command,
         };
-        self.take(sample, owner, message(Kind::Send))?;
+        self.take(sample, owner, message(Kind::Send), digest)?;
         for kind in [Kind::Echo, Kind::Ready] {
             for index in 0..NODES {
                 let from = sizes.name(index).context("no node")?;
-                self.take(sample, from, message(kind))?;
+                self.take(sample, from, message(kind), digest)?;
             }
         }
         if place % 3 == 0 {
-            self.take(sample, owner, message(Kind::Send))?;
+            self.take(sample, owner, message(Kind::Send), digest)?;
         }
         if place % 16 == 5 {
-            let user = sample.below(USERS);
-            self.ask(sample, Question::AssignedRoles(user))?;
+            let user = self.users.deal(sample);
+            self.ask(sample, Question::AssignedRoles(user), digest)?;
         }
         Ok(())
     }
 
-    fn take(&mut self, sample: &mut Sample, from: NodeName, message: Message) -> Result<()> {
+    fn take(
+        &mut self,
+        sample: &mut Sample,
+        from: NodeName,
+        message: Message,
+        digest: &mut Digest,
+    ) -> Result<()> {
         let packet = Packet::new(from, self.node.me(), message).context("no packet")?;
-        self.step(sample, Event::Take(packet))
+        self.step(sample, Event::Take(packet), digest)
     }
 
     /// A seat applies an event, and keeps its receipt.
-    fn step(&mut self, sample: &mut Sample, event: Event) -> Result<()> {
+    fn step(&mut self, sample: &mut Sample, event: Event, digest: &mut Digest) -> Result<()> {
         let place = self.node.events();
         let call = call_of(&event);
         let outcome = match self.node.apply(event) {
-            Ok(reply) => Outcome::Reply(reply),
-            Err(fault) => Outcome::Refused(fault),
+            Ok(reply) => {
+                digest.reply(&reply);
+                Outcome::Reply(reply)
+            }
+            Err(fault) => bail!("{fault}"),
         };
         self.keep(sample, place, call, outcome)
     }
 
     /// A seat asks, and keeps its receipt.
-    fn ask(&mut self, sample: &mut Sample, question: Question) -> Result<()> {
+    fn ask(&mut self, sample: &mut Sample, question: Question, digest: &mut Digest) -> Result<()> {
         let place = self.node.events();
-        let outcome = Outcome::Answer(self.node.ask(question)?);
-        self.keep(sample, place, Call::Ask(question), outcome)
+        let answer = self.node.ask(question)?;
+        digest.answer(&answer);
+        self.keep(sample, place, Call::Ask(question), Outcome::Answer(answer))
     }
 
     fn keep(

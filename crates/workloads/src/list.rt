@@ -1,13 +1,17 @@
-//! Listings of one registry, as lines of clients: of one user most of them, of whole roles some.
+//! Listings of two registries, as lines of clients: of one user most of them, of whole roles some.
 
+use crate::deck::Deck;
 use crate::digest::Digest;
 use crate::line::Line;
 use crate::registry::{Client, activate, lone_node, open, publish};
 use crate::sample::{Sample, part};
-use anyhow::Result;
+use anyhow::{Context, Result};
 use role_commands::Command;
 use role_node::Node;
 use std::alloc::Global;
+
+/// So many registries, one after another.
+const REGISTRIES: u32 = 2;
 
 const ROLES: u16 = 400;
 
@@ -17,150 +21,146 @@ const ROLES_OF_USER: u32 = 5;
 
 const GRANTS_OF_ROLE: u32 = 150;
 
+const OPERATIONS: u16 = 6;
+
 const OBJECTS: u32 = 2_000;
+
+/// So many objects each role is asked about.
+const OBJECTS_OF_ROLE: u32 = 5;
 
 const SESSIONS: u32 = 500;
 
 const ROLES_OF_SESSION: u32 = 4;
 
-/// The users, roles and permissions of a seed.
-#[derive(Clone, Copy)]
-struct Shape {
-    salt: u32,
-    users: u32,
-}
-
-impl Shape {
-    fn role(&self, user: u32, number: u32) -> u16 {
-        let role = user
-            .wrapping_mul(37)
-            .wrapping_add(number.wrapping_mul(11))
-            .wrapping_add(self.salt);
-        (role % u32::from(ROLES)) as u16
-    }
-
-    fn grant(&self, role: u16, number: u32) -> Command {
-        let object = u32::from(role)
-            .wrapping_mul(53)
-            .wrapping_add(number.wrapping_mul(13))
-            .wrapping_add(self.salt);
-        Command::Grant {
-            role,
-            operation: (number % 6) as u16,
-            object: object % OBJECTS,
-        }
-    }
+/// A registry, its client, and what is drawn for it.
+#[derive(Drop)]
+struct Registry<'a> {
+    alloc: Global,
+    node: Node,
+    client: Client,
+    line: Line,
+    sample: &'a mut Sample,
+    digest: &'a mut Digest,
+    /// All objects, to be drawn.
+    objects: Deck,
+    /// Each user's roles.
+    roles_of: Vec<Vec<u16>>,
 }
 
 /// Does the job on the input of a seed.
 pub fn run(alloc: Global, seed: u32, share: u32) -> Result<Digest> {
     let mut sample = Sample::new(seed, 4);
-    let shape = Shape {
-        salt: sample.below(1_000_000),
-        users: part(USERS, share),
-    };
-    let mut node = lone_node(alloc, ROLES)?;
-    for user in 0..shape.users {
-        for number in 0..ROLES_OF_USER {
-            let role = shape.role(user, number);
-            publish(&mut node, Command::Assign { user, role })?;
-        }
-    }
-    for role in 0..ROLES {
-        for number in 0..GRANTS_OF_ROLE {
-            publish(&mut node, shape.grant(role, number))?;
-        }
-    }
     let mut digest = Digest::new();
-    ask_of_users(alloc, &mut node, &shape, share, &mut digest)?;
-    ask_of_roles(alloc, &mut node, &mut digest)?;
-    ask_of_sessions(alloc, &mut node, &shape, share, &mut digest)?;
+    for _ in 0..REGISTRIES {
+        let mut registry = Registry {
+            alloc,
+            node: lone_node(alloc, ROLES)?,
+            client: Client::new(alloc),
+            line: Line::new(alloc),
+            sample: &mut sample,
+            digest: &mut digest,
+            objects: Deck::new(alloc, OBJECTS)?,
+            roles_of: Vec::new(alloc),
+        };
+        registry.assign(part(USERS, share))?;
+        registry.grant()?;
+        registry.ask_of_users(part(USERS, share))?;
+        registry.ask_of_roles()?;
+        registry.ask_of_sessions(part(USERS, share), part(SESSIONS, share))?;
+    }
     Ok(digest)
 }
 
-/// The roles of each user, and of some also the permissions and the operations on an object.
-fn ask_of_users(
-    alloc: Global,
-    node: &mut Node,
-    shape: &Shape,
-    share: u32,
-    digest: &mut Digest,
-) -> Result<()> {
-    let mut client = Client::new(alloc);
-    let mut line = Line::new(alloc);
-    for number in 0..part(USERS, share) {
-        let user = u64::from(number.wrapping_mul(7_919) % shape.users.max(1));
-        let object = u64::from(number % OBJECTS);
-        client.say(
-            node,
-            line.write("assigned_roles", &[("user", user)])?,
-            digest,
-        )?;
-        if number % 8 == 0 {
-            client.say(
-                node,
-                line.write("user_permissions", &[("user", user)])?,
-                digest,
-            )?;
-        }
-        if number % 8 == 4 {
-            let members = [("user", user), ("object", object)];
-            client.say(node, line.write("user_operations", &members)?, digest)?;
-        }
+impl Registry<'_> {
+    fn publish(&mut self, command: Command) -> Result<()> {
+        publish(&mut self.node, command, self.digest)
     }
-    Ok(())
-}
 
-/// The users and permissions of each role, and its operations on some objects.
-fn ask_of_roles(alloc: Global, node: &mut Node, digest: &mut Digest) -> Result<()> {
-    let mut client = Client::new(alloc);
-    let mut line = Line::new(alloc);
-    for role in 0..ROLES {
-        let role = u64::from(role);
-        client.say(
-            node,
-            line.write("assigned_users", &[("role", role)])?,
-            digest,
-        )?;
-        client.say(
-            node,
-            line.write("role_permissions", &[("role", role)])?,
-            digest,
-        )?;
-        for object in 0..5 {
-            let members = [("role", role), ("object", object)];
-            client.say(node, line.write("role_operations", &members)?, digest)?;
-        }
+    /// Asks for an operation with these members.
+    fn ask(&mut self, op: &str, members: &[(&str, u64)]) -> Result<()> {
+        let line = self.line.write(op, members)?;
+        self.client.say(&mut self.node, line, self.digest)
     }
-    Ok(())
-}
 
-/// The roles and the permissions of sessions.
-fn ask_of_sessions(
-    alloc: Global,
-    node: &mut Node,
-    shape: &Shape,
-    share: u32,
-    digest: &mut Digest,
-) -> Result<()> {
-    let mut client = Client::new(alloc);
-    let mut line = Line::new(alloc);
-    for number in 0..part(SESSIONS, share) {
-        let user = number.wrapping_mul(59) % shape.users.max(1);
-        let session = open(node, user)?;
-        for number in 0..ROLES_OF_SESSION {
-            activate(node, session, user, shape.role(user, number))?;
+    /// Gives so many users their roles.
+    fn assign(&mut self, users: u32) -> Result<()> {
+        let mut roles = Deck::new(self.alloc, u32::from(ROLES))?;
+        for user in 0..users {
+            roles.ready(ROLES_OF_USER);
+            let mut mine = Vec::new(self.alloc);
+            for _ in 0..ROLES_OF_USER {
+                let role = roles.role(self.sample);
+                mine.push(role)?;
+                self.publish(Command::Assign { user, role })?;
+            }
+            self.roles_of.push(mine)?;
         }
-        client.say(
-            node,
-            line.write("session_roles", &[("session", session)])?,
-            digest,
-        )?;
-        client.say(
-            node,
-            line.write("session_permissions", &[("session", session)])?,
-            digest,
-        )?;
+        Ok(())
     }
-    Ok(())
+
+    /// Gives the roles their permissions, those of a role on objects that differ.
+    fn grant(&mut self) -> Result<()> {
+        for role in 0..ROLES {
+            self.objects.ready(GRANTS_OF_ROLE);
+            for _ in 0..GRANTS_OF_ROLE {
+                let operation = self.sample.role(OPERATIONS);
+                let object = self.objects.deal(self.sample);
+                self.publish(Command::Grant {
+                    role,
+                    operation,
+                    object,
+                })?;
+            }
+        }
+        Ok(())
+    }
+
+    /// The roles of each of so many users, of each eighth also the permissions, and of each eighth the operations on an
+    /// object.
+    fn ask_of_users(&mut self, users: u32) -> Result<()> {
+        let mut deck = Deck::new(self.alloc, users)?;
+        for number in 0..users {
+            let user = u64::from(deck.deal(self.sample));
+            self.ask("assigned_roles", &[("user", user)])?;
+            if number % 8 == 0 {
+                self.ask("user_permissions", &[("user", user)])?;
+            }
+            if number % 8 == 4 {
+                let object = u64::from(self.sample.below(OBJECTS));
+                self.ask("user_operations", &[("user", user), ("object", object)])?;
+            }
+        }
+        Ok(())
+    }
+
+    /// The users and permissions of each role, and its operations on some objects.
+    fn ask_of_roles(&mut self) -> Result<()> {
+        for role in 0..ROLES {
+            let role = u64::from(role);
+            self.ask("assigned_users", &[("role", role)])?;
+            self.ask("role_permissions", &[("role", role)])?;
+            self.objects.ready(OBJECTS_OF_ROLE);
+            for _ in 0..OBJECTS_OF_ROLE {
+                let object = u64::from(self.objects.deal(self.sample));
+                self.ask("role_operations", &[("role", role), ("object", object)])?;
+            }
+        }
+        Ok(())
+    }
+
+    /// The roles and the permissions of so many sessions, each of another of so many users.
+    fn ask_of_sessions(&mut self, users: u32, sessions: u32) -> Result<()> {
+        let mut deck = Deck::new(self.alloc, users)?;
+        for _ in 0..sessions {
+            let user = deck.deal(self.sample);
+            let session = open(&mut self.node, user)?;
+            let mine = self.roles_of.get(user as usize).context("no user")?;
+            for role in mine.iter().take(ROLES_OF_SESSION as usize) {
+                activate(&mut self.node, session, user, *role)?;
+            }
+            self.ask("session_roles", &[("session", session)])?;
+            self.ask("session_permissions", &[("session", session)])?;
+        }
+        Ok(())
+    }
 }

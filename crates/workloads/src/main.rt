@@ -4,9 +4,11 @@
 //! and writes a digest of all that was answered. The same words give the same digest.
 #![tactic(auto)]
 
+mod accesses;
 mod audit;
 mod change;
 mod decide;
+mod deck;
 mod deliver;
 mod digest;
 mod history;

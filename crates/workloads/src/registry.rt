@@ -6,7 +6,7 @@ ghost use Rattle.client_lines.specs.AnswerTexts.{IsWritten};
 use crate::digest::Digest;
 use anyhow::{Context, Result, bail};
 use client_lines::{ClientAnswer, LineFault, Request, RequestReader, answer_text};
-use link_frames::Packet;
+use link_frames::{Message, Packet};
 use quorum_sizes::{NodeName, Sizes};
 use role_commands::{Command, RoleTable};
 use role_node::{
@@ -46,18 +46,25 @@ pub fn lone_node(alloc: Global, roles: u16) -> Result<Node> {
     node(alloc, config(alloc, 1, 0, 1, roles)?, 0)
 }
 
-/// Has the node of a cluster of one publish a command and take its own packets.
-pub fn publish(node: &mut Node, command: Command) -> Result<()> {
-    let mut waiting = node.apply(Event::Issue(command))?.message();
+/// Has the node of a cluster of one publish a command and take its own packets, and adds its replies to the digest.
+pub fn publish(node: &mut Node, command: Command, digest: &mut Digest) -> Result<()> {
+    let mut waiting = applied(node, Event::Issue(command), digest)?;
     for _ in 0..3 {
         let Some(message) = waiting else {
             break;
         };
         let me = node.me();
         let packet = Packet::new(me, me, message).context("no packet")?;
-        waiting = node.apply(Event::Take(packet))?.message();
+        waiting = applied(node, Event::Take(packet), digest)?;
     }
     Ok(())
+}
+
+/// Applies an event. The message that the node sends then.
+fn applied(node: &mut Node, event: Event, digest: &mut Digest) -> Result<Option<Message>> {
+    let reply = node.apply(event)?;
+    digest.reply(&reply);
+    Ok(reply.message())
 }
 
 /// Opens a session of the user.
@@ -104,19 +111,19 @@ impl Client {
 
     /// Says a line to the node, and adds the answer to the digest.
     pub fn say(&mut self, node: &mut Node, line: &[u8], digest: &mut Digest) -> Result<()> {
-        let answer = self.answer(node, line)?;
+        let answer = self.answer(node, line, digest)?;
         let text = answer_text(self.alloc, &answer)?;
-        digest.text(text.as_bytes());
+        digest.bytes(text.as_bytes());
         Ok(())
     }
 
-    fn answer(&mut self, node: &mut Node, line: &[u8]) -> Result<ClientAnswer>
+    fn answer(&mut self, node: &mut Node, line: &[u8], digest: &mut Digest) -> Result<ClientAnswer>
         ensures { IfOk result IsWritten }
     {
         let sizes = node.config().roles().sizes();
         match self.reader.read(&sizes, line) {
             Ok(Request::Ask(question)) => asked(node, question),
-            Ok(Request::Issue(command)) => issued(node, command),
+            Ok(Request::Issue(command)) => issued(node, command, digest),
             Ok(_) => bail!("another request"),
             Err(LineFault::Memory) => bail!("out of memory"),
             Err(fault) => Ok(ClientAnswer::BadLine(fault)),
@@ -124,10 +131,10 @@ impl Client {
     }
 }
 
-fn issued(node: &mut Node, command: Command) -> Result<ClientAnswer>
+fn issued(node: &mut Node, command: Command, digest: &mut Digest) -> Result<ClientAnswer>
     ensures { IfOk result IsWritten }
 {
-    publish(node, command)?;
+    publish(node, command, digest)?;
     Ok(ClientAnswer::Done)
 }
 

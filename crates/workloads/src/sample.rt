@@ -46,6 +46,17 @@ impl Sample {
         self.below(u32::from(roles)) as u16
     }
 
+    /// Puts items into no order.
+    pub fn shuffle<T>(&mut self, items: &mut [T]) {
+        let Ok(count) = u32::try_from(items.len()) else {
+            return;
+        };
+        for index in 0..count {
+            let other = self.below(count);
+            items.swap(index as usize, other as usize);
+        }
+    }
+
     /// That one of these many users has one of the roles.
     pub fn assign(&mut self, users: u32, roles: u16) -> Command {
         Command::Assign {

@@ -1,5 +1,5 @@
 //! Clusters in a laboratory: 16 nodes with five liars that name another command at each node and place, packets given
-//! in no order; and 64 and 128 nodes with silent liars, packets given as they were sent.
+//! in no order; and 64 and 128 nodes with silent liars and with none, packets given as they were sent.
 
 ghost use Rattle.std.specs.Prelude.{◌≡◌};
 
@@ -11,7 +11,6 @@ use byz_world::{Step, StepReply, World, WorldFault};
 use link_frames::{Kind, Message, Packet};
 use quorum_sizes::{NodeName, NodeSet, Sizes};
 use role_commands::Command;
-use role_node::Reply;
 use std::alloc::Global;
 
 const OWNERS: u8 = 4;
@@ -29,6 +28,7 @@ const BATCHES: u32 = 70;
 /// A cluster, and what is drawn for it.
 #[derive(Drop)]
 struct Lab {
+    alloc: Global,
     world: World,
     sizes: Sizes,
     /// The first of the liars, which are the last nodes.
@@ -47,6 +47,7 @@ impl Lab {
             liars.insert(sizes.name(index).context("no node")?);
         }
         Ok(Lab {
+            alloc,
             world: World::new(alloc, config(alloc, n, f, OWNERS, ROLES)?, liars)?,
             sizes,
             first_liar,
@@ -62,7 +63,7 @@ impl Lab {
     /// Does a step, and adds its answer to the digest.
     fn step(&mut self, step: Step, digest: &mut Digest) -> Result<()> {
         match self.world.step(step) {
-            Ok(StepReply::Absorbed) => {}
+            Ok(StepReply::Absorbed) => digest.number(0),
             Ok(
                 StepReply::Node {
                     reply,
@@ -71,12 +72,10 @@ impl Lab {
                 },
             ) => {
                 digest.number(u64::from(first) << 8 | u64::from(count));
-                if let Reply::Counted { from, to, .. } = reply {
-                    digest.number(u64::from(from) << 32 | u64::from(to));
-                }
+                digest.reply(&reply);
             }
             Err(WorldFault::Memory) => anyhow::bail!("out of memory"),
-            Err(_) => digest.number(1),
+            Err(fault) => digest.refusal(self.alloc, &fault)?,
         }
         Ok(())
     }
@@ -156,7 +155,7 @@ impl Lab {
         Ok(())
     }
 
-    /// Brings the cluster to rest, and adds how far its nodes came.
+    /// Brings the cluster to rest, and adds how far its nodes came, what they sent, and their streams.
     fn review(&mut self, digest: &mut Digest) -> Result<()> {
         digest.number(self.world.settle()?);
         digest.number(u64::from(self.world.at_rest()));
@@ -169,7 +168,38 @@ impl Lab {
                 digest.number(u64::from(length));
             }
         }
+        self.review_streams(digest)?;
+        self.review_sent(digest);
         Ok(())
+    }
+
+    /// Adds the commands that were delivered to each node that does not lie.
+    fn review_streams(&self, digest: &mut Digest) -> Result<()> {
+        for index in 0..self.first_liar {
+            let node = self
+                .world
+                .node(self.name(index)?)
+                .context("no correct node")?;
+            digest.number(u64::from(node.events()));
+            for owner in 0..OWNERS {
+                digest.stream(node, self.name(owner)?);
+            }
+        }
+        Ok(())
+    }
+
+    /// Adds what was sent: of each message to all nodes one packet, of one message after another to another node.
+    fn review_sent(&self, digest: &mut Digest) {
+        let nodes = u32::from(self.sizes.n()).max(1);
+        for message in 0..self.world.sent_len() / nodes {
+            let number = message.wrapping_mul(nodes).wrapping_add(message % nodes);
+            if let Some(packet) = self.world.sent(number) {
+                digest.number(
+                    u64::from(packet.from().index()) << 8 | u64::from(packet.to().index()),
+                );
+                digest.message(&packet.message());
+            }
+        }
     }
 }
 

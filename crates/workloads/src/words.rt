@@ -15,7 +15,7 @@ pub enum Job {
     List,
     /// Receipts of several seats against the history of their node.
     Audit,
-    /// Clusters with liars in a laboratory.
+    /// Clusters in a laboratory, most of them with liars.
     Simulate,
 }
 
@@ -41,12 +41,23 @@ impl Job {
             Job::Simulate => "simulate",
         }
     }
+
+    /// The job that this word asks for.
+    fn named(word: &str) -> Option<Job> {
+        for job in Job::ALL {
+            if job.name() == word {
+                return Some(job);
+            }
+        }
+        None
+    }
 }
 
 /// What the program is to do.
 #[derive(Drop)]
 pub struct Words {
-    job: String,
+    /// The one job that is asked for, or all where there is none.
+    job: Option<Job>,
     /// What the input is made from.
     pub seed: u32,
     /// The input is of a size that is divided by this.
@@ -58,10 +69,14 @@ impl Words {
     ///
     /// # Errors
     ///
-    /// There are other words.
+    /// There are other words, or the first names no job.
     pub fn read(words: Vec<String>) -> Result<Words> {
         let mut words = words.into_iter();
-        let job = words.next().context("no job")?;
+        let word = words.next().context("no job")?;
+        let job = match word.as_str() {
+            "all" => None,
+            name => Some(Job::named(name).context("no such job")?),
+        };
         let seed = words.next().context("no seed")?.as_str().parse::<u32>()?;
         let share = match words.next() {
             Some(share) => share.as_str().parse::<u32>()?,
@@ -75,6 +90,6 @@ impl Words {
 
     /// Whether the words ask for this job.
     pub fn asks_for(&self, job: Job) -> bool {
-        self.job.as_str() == job.name() || self.job.as_str() == "all"
+        self.job.is_none_or(|asked| asked == job)
     }
 }
