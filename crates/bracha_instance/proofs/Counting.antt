@@ -2,10 +2,7 @@
 use Rattle.std.proofs.Common.{◌≡◌, ℕ, Bool, true, false, cond, List, [], ◌∷◌, ◌++◌, All, is_some}
 use Rattle.std.proofs.Common.{Option, Some, None, refl, sym, ap, ◌∙◌, ◌==◌, ◌&&◌, find, option_map}
 use Rattle.std.proofs.Common.{zero, suc, zero-le, suc-le-suc, le_of_suc-le-suc, not-suc-le-zero, eq-eqb}
-use Rattle.std.specs.FinSet as sets
-use Rattle.std.specs.Cmp.{nat_cmp_total}
 use Rattle.quorum_sizes.specs.Sizes.{Counts}
-use Rattle.quorum_sizes.specs.NodeSets.{Nodes}
 use Rattle.role_commands.specs.declared.command.Command.{Command}
 use Rattle.link_frames.specs.Kinds.{same_kind}
 use Rattle.link_frames.specs.declared.kind.Kind.{Kind}
@@ -15,7 +12,6 @@ use Rattle.bracha_instance.specs.Broadcast.{Take, command_of, is_of_kind, is_vot
 use Rattle.bracha_instance.specs.States.{State, state}
 use Rattle.bracha_instance.specs.Taking.{SendsAreFrom, effect_of, newly, sent_for}
 use Rattle.bracha_instance.specs.Taking.{newly_sent, newly_delivered, has_voted}
-use Rattle.bracha_instance.specs.Voters.{have_voted}
 use Rattle.bracha_instance.specs.inside.Next.{after_kind, after}
 use Rattle.bracha_instance.proofs.Same.{same_kind-true}
 use Rattle.bracha_instance.proofs.Voting.{contains-voters}
@@ -127,10 +123,3 @@ pub voted_at : (s : Counts) (ts : List Take) (owner : ℕ) (kind : Kind) (p : �
     SendsAreFrom owner (ts ++ (record { kind = kind; from = p; command = c }) ∷ []) → b ≡ is_some (vote kind p ts)
 voted_at s ts owner kind p c st b is is_state all =
     is ∙ ap (λ x. has_voted x kind p) is_state ∙ vote_is s ts owner kind p c all
-
--- where each of some nodes has voted, so has one of them
-pub one_voted : (st : State) (kind : Kind) (names : Nodes) (name : ℕ) → have_voted st kind names ≡ true
-    → sets.contains names name ≡ true → has_voted st kind name ≡ true
-one_voted st Send names name all here = all
-one_voted st Echo names name all here = sets.is_subset-contains nat_cmp_total names st.echoers all name here
-one_voted st Ready names name all here = sets.is_subset-contains nat_cmp_total names st.readiers all name here

@@ -3,7 +3,6 @@
 --     state-..      each field of a state, by its definition
 --     or_else_if-never      what is never due is not kept
 --     voted_at      what a state says of a vote is what the messages say
---     one_voted      where each of some nodes has voted, so has one of them
 --     newly_now, newly_again, newly_same, IsThis      what is new
 --     or_nothing      what there is, or nothing
 --     delivered_is_ready      a node that delivered is ready
@@ -13,7 +12,7 @@
 pub use Rattle.bracha_instance.proofs.StateOf.{state_push, state-echoed, state-readied, state-delivered}
 pub use Rattle.bracha_instance.proofs.StateOf.{state-echoers, state-readiers, state-echo_votes, state-ready_votes}
 pub use Rattle.bracha_instance.proofs.StateOf.{voted, delivered_push-other, repeat_changes_nothing, or_else_if-never}
-pub use Rattle.bracha_instance.proofs.Counting.{voted_at, one_voted, newly_now, newly_again, newly_same}
+pub use Rattle.bracha_instance.proofs.Counting.{voted_at, newly_now, newly_again, newly_same}
 pub use Rattle.bracha_instance.proofs.Causing.{IsThis}
 pub use Rattle.bracha_instance.proofs.Due.{delivered_is_ready, deliverable_is_ready, readies_its_own}
 pub use Rattle.bracha_instance.proofs.Due.{delivers_its_own, echo_stays, ready_stays, delivery_stays}

@@ -2,7 +2,6 @@ pub mod Prefixes
 pub mod Broadcast
 pub mod States
 pub mod Taking
-pub mod Voters
 pub mod NewTakes
 pub mod Laws
 pub mod Supported

@@ -10,7 +10,6 @@ ghost use Rattle.bracha_instance.specs.States.{state};
 ghost use Rattle.bracha_instance.specs.NewTakes.{kind_due, taken_for};
 ghost use Rattle.bracha_instance.specs.Taking.{SendsAreFrom, has_voted, effect_of, newly};
 ghost use Rattle.bracha_instance.specs.Taking.{newly_sent, newly_delivered};
-ghost use Rattle.bracha_instance.specs.Voters.{have_voted};
 ghost use Rattle.bracha_instance.specs.inside.Next.{only_if, after_send, after_echo, after_ready, after_kind};
 ghost use Rattle.bracha_instance.specs.Supported.{CountsSupported};
 
@@ -336,19 +335,6 @@ impl Instance {
             Kind::Send => self.echoed.is_some(),
             Kind::Echo => self.echoers.contains(from),
             Kind::Ready => self.readiers.contains(from),
-        }
-    }
-
-    /// Whether each of these nodes' message of that kind was taken: of a SEND, whether the owner's was, whatever the
-    /// names. Takes no memory.
-    #[inline(always)]
-    pub fn all_voted(&self, kind: Kind, names: &NodeSet) -> bool
-        ensures { result ≡ have_voted self.now kind names.now }
-    {
-        match kind {
-            Kind::Send => self.echoed.is_some(),
-            Kind::Echo => names.is_subset(&self.echoers),
-            Kind::Ready => names.is_subset(&self.readiers),
         }
     }
 

@@ -6,9 +6,7 @@ ghost use Rattle.quorum_sizes.specs.Sizes.{Counts};
 ghost use Rattle.bracha_instance.specs.Broadcast.{Take, vote};
 ghost use Rattle.bracha_instance.specs.States.{state};
 ghost use Rattle.bracha_instance.specs.NewTakes.{taken_for};
-ghost use Rattle.bracha_instance.specs.Taking.{SendsAreFrom, has_voted, effect_of};
-ghost use Rattle.bracha_instance.specs.Taking.{newly_sent, newly_delivered};
-ghost use Rattle.bracha_instance.specs.Voters.{have_voted};
+ghost use Rattle.bracha_instance.specs.Taking.{SendsAreFrom, has_voted, effect_of, newly_sent, newly_delivered};
 ghost use Rattle.bracha_instance.specs.inside.Next.{after_kind};
 
 use crate::instance::{Caused, Effect, Taken, is_new, keep_first, kind_for};
@@ -148,19 +146,6 @@ impl Record {
             Kind::Send => self.echoed.is_some(),
             Kind::Echo => self.echoers.contains(from),
             Kind::Ready => self.readiers.contains(from),
-        }
-    }
-
-    /// Whether each of these nodes' message of that kind was taken: of a SEND, whether the owner's was, whatever the
-    /// names. Takes no memory.
-    #[inline(always)]
-    pub fn all_voted(&self, kind: Kind, names: &NodeSet) -> bool
-        ensures { result ≡ have_voted self.now kind names.now }
-    {
-        match kind {
-            Kind::Send => self.echoed.is_some(),
-            Kind::Echo => names.is_subset(&self.echoers),
-            Kind::Ready => names.is_subset(&self.readiers),
         }
     }
 

@@ -31,7 +31,6 @@ pub mod Telling
 pub mod Stepping
 pub mod Arriving
 pub mod Settling
-pub mod RowTaking
 pub mod BlockTakes
 pub mod BlockMembers
 pub mod BlockNotes

@@ -1,8 +1,10 @@
 -- A world whose members have taken all that was sent is at rest, and the other way round.
-use Rattle.std.proofs.Common.{◌≡◌, ℕ, zero, suc, Bool, true, List, [], ◌∷◌, Option, Some, None, refl, sym, ap, ◌∙◌}
+use Rattle.std.proofs.Common.{◌≡◌, ℕ, zero, suc, Bool, true, false, ◌&&◌, List, [], ◌∷◌, ◌++◌, Option, Some, None}
+use Rattle.std.proofs.Common.{refl, sym, ap, ◌∙◌}
 use Rattle.std.specs.Prelude.{IsTrue, slice_get, option_and_then, Contains, ◌↔◌}
 use Rattle.std.specs.List.{list_all}
 use Rattle.std.proofs.lemmas.Bool.{and_parts, and_from}
+use Rattle.std.proofs.lemmas.List.Folds.{list_all-append}
 use Rattle.quorum_sizes.specs.NodeSets.{Nodes}
 use Rattle.link_frames.specs.Packets.{PacketValue, packet_of, packet_due}
 use Rattle.role_node.specs.Configs.{ConfigValue}
@@ -30,6 +32,17 @@ all_pass : {A : Type 0} (p : A → Bool) (xs : List A) → ((k : ℕ) (x : A) �
     → list_all p xs ≡ true
 all_pass p [] each = refl
 all_pass p (y ∷ xs) each = and_from _ _ (each 0 y refl) (all_pass p xs (λ k x at. each (suc k) x at))
+
+-- where the last one passes, all pass exactly if the others do
+pub others_are_all : {A : Type 0} (p : A → Bool) (xs others : List A) (last : A) → xs ≡ others ++ last ∷ []
+    → p last ≡ true → list_all p others ≡ list_all p xs
+others_are_all p xs others last is passes =
+    sym (ap (list_all p) is ∙ list_all-append p others (last ∷ [])
+    ∙ ap (λ b. list_all p others && (b && true)) passes ∙ and_yes (list_all p others))
+  where
+    and_yes : (b : Bool) → (b && true) ≡ b
+    and_yes true = refl
+    and_yes false = refl
 
 slot_is : (o : Option (Option NodeValue)) (node : NodeValue) → option_and_then (λ x. x) o ≡ Some node
     → o ≡ Some (Some node)

@@ -71,8 +71,7 @@ module _ (config : ConfigValue) (liars : Nodes) (run : Run) (cluster : IsCluster
         said_in_range p.from p.kind p.owner p.place p.command said,
       )
 
-  pub message_is_sound : (sent : Sent) (to : ℕ) → Contains (messages config run) sent →
-      IsSound (packet_of sent.0 to sent.1)
+  message_is_sound : (sent : Sent) (to : ℕ) → Contains (messages config run) sent → IsSound (packet_of sent.0 to sent.1)
   message_is_sound sent to there = sent_is_sound (packet_of sent.0 to sent.1) (message_is_sent config run sent there)
 
   -- each message that correct nodes send is about a place of a stream

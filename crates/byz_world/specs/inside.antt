@@ -2,4 +2,3 @@
 pub mod Blocks
 pub mod Fields
 pub mod Kept
-pub mod Rows

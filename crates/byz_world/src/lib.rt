@@ -12,7 +12,6 @@ mod keys;
 pub mod laws;
 mod members;
 mod notes;
-mod rows;
 mod settle;
 mod step;
 mod world;

@@ -131,17 +131,24 @@ pub(crate) fn check_at(
     }
 }
 
-/// Whether the node has taken all that was sent to it. A liar need not.
+/// Whether the node has taken all that was sent to it, the last message first: where it lacks something it mostly lacks
+/// that. A liar need not.
 pub(crate) fn has_taken_all(member: &Option<Node>, sent: &[(NodeName, Message)]) -> bool
     ensures { result ≡ has_taken_all sent.now member.now }
 {
-    match member {
-        Some(node) => sent.iter().all(|one| has_taken(node, one)),
+    let Some(node) = member else {
+        return true;
+    };
+    match sent.split_last() {
+        Some((last, others)) => {
+            has_taken(node, last) && others.iter().all(|one| has_taken(node, one))
+        }
         None => true,
     }
 }
 
 /// Whether the node has taken a message to all: its packet changes nothing there.
+#[inline(always)]
 fn has_taken(node: &Node, sent: &(NodeName, Message)) -> bool
     ensures { result ≡ has_taken node.now sent.now }
 {

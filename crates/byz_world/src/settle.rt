@@ -41,8 +41,8 @@ impl World {
         u64::from(self.sizes().n()) * u64::from(self.config().limit())
     }
 
-    /// Gives each packet that the pool has, of which none counts where the cluster is at rest. Whether something was
-    /// recorded.
+    /// Gives each packet that the pool has, or none where the cluster is at rest, since none counts there. Whether
+    /// something was recorded.
     fn give_each(&mut self) -> Result<bool, AllocError>
         ensures prolonged { IsProlonged self.old self.new }
         ensures adds { IfOk result (λ adds. adds ≡ pass_adds self.old) }

@@ -35,9 +35,8 @@ use crate::block::{give_to_each, note_block};
 use crate::cursor::PacketCursor;
 use crate::faults::WorldFault;
 use crate::keys::{keys_of, new_keys};
-use crate::members::{ask_at, check_at, has_sent, member, new_members, record_at};
+use crate::members::{ask_at, check_at, has_sent, has_taken_all, member, new_members, record_at};
 use crate::notes::{note_name, note_sent, step_reply};
-use crate::rows::have_taken_all;
 use crate::step::{Step, StepOutcome, StepReply};
 use bracha_instance::Effect;
 use link_frames::{LinkFault, Message, Packet, PairKeys, open_frame};
@@ -639,6 +638,8 @@ impl World {
     pub fn at_rest(&self) -> bool
         ensures { IsTrue result ↔ IsAtRest self.now.config self.now.liars self.now.run }
     {
-        have_taken_all(&self.members, &self.sent)
+        self.members
+            .iter()
+            .all(|member| has_taken_all(member, &self.sent))
     }
 }

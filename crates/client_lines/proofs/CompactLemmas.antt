@@ -1,14 +1,16 @@
 -- What the lexer and the grammar make of a line at a place.
 use Rattle.std.proofs.Common.{◌≡◌, ◌∙◌, ◌⊎◌, inl, inr, ℕ, suc, ◌+◌, ◌-◌, ◌*◌, ◌/◌, ◌%◌, ◌^◌, ◌<◌, ◌≤◌}
-use Rattle.std.proofs.Common.{Bool, true, false, cond, refl, sym, ap, ap₂, subst, arith}
-use Rattle.std.proofs.Common.{List, [], ◌∷◌, ◌++◌, length, take, drop, get_or, Some, None, decimal}
-use Rattle.std.proofs.lemmas.List.{drop_more, drop_all, drop-drop, take-append-drop, append_assoc}
-use Rattle.std.proofs.lemmas.Bool.{leb-true, false≢true}
+use Rattle.std.proofs.Common.{nat_le, ◌==◌, Bool, true, false, not, ◌&&◌, cond, refl, sym, ap, ap₂, subst, arith}
+use Rattle.std.proofs.Common.{List, [], ◌∷◌, ◌++◌, codes, nat_eq, length, take, drop, get_or, Some, None, decimal}
+use Rattle.std.proofs.lemmas.List.{drop_more, drop_all, drop-drop, take-append-drop, take_rest, append_assoc}
+use Rattle.std.proofs.lemmas.Bool.{leb-true, false≢true, and_parts, not-true, eqb-false}
+use Rattle.std.proofs.lemmas.Bool.Decides.{Decides-eqb}
+use Rattle.std.proofs.lemmas.Slice.Eq.{starts_is}
 use Rattle.std.proofs.lemmas.Fmt.{decimal_step, decimal_digit}
-use Rattle.std.specs.List.{prefix_len}
+use Rattle.std.specs.List.{prefix_len, starts_with}
 use Rattle.json.specs.Token.{Token}
 use Rattle.json.specs.Text.{content, plain}
-use Rattle.json.specs.Word.{ends_word}
+use Rattle.json.specs.Word.{ends_word, word}
 use Rattle.json.specs.Lex.{Lexeme, token, colon, string_token, lex, between, in_string}
 use Rattle.json.specs.Lex.{Place, fresh, after_value, after_comma}
 use Rattle.json.specs.Lex.{after_key, may_begin, punctuate, tokens}
@@ -16,12 +18,13 @@ use Rattle.json.specs.Print.{escape}
 use Rattle.json.specs.Json.{value, read_key}
 use Rattle.json.proofs.Grammar.{value_is}
 use Rattle.json.proofs.Printed.Strings.{content-escape, lex-escape, escape_byte_plain}
-use Rattle.json.proofs.Printed.Numbers.{lex-number}
+use Rattle.json.proofs.Printed.Numbers.{lex-number, in_word-ended}
 use Rattle.json.proofs.Printed.Decimals.{IsNumber-decimal}
-use Rattle.serde_json.specs.Data.{number, string, unsigned}
+use Rattle.serde_json.specs.Data.{Data, null, boolean, number, string, unsigned}
+use Rattle.serde_json.specs.Find.{as_str, as_number}
 use Rattle.serde_json.specs.Read.{of_json, converted}
 use Rattle.serde_json.proofs.Numbers.{number_of-decimal}
-use Rattle.client_lines.specs.inside.Compact.{is_plain, tokens_from, IsQuoted, EndsValue}
+use Rattle.client_lines.specs.inside.Compact.{is_plain, tokens_from, IsQuoted, IsWord, EndsValue}
 use Rattle.client_lines.proofs.BlankLemmas.{AreBlanks, lexemes_kept, tokens_kept, word_ends_before}
 
 -- ---- texts
@@ -31,10 +34,12 @@ escape_byte_more : (p : Bool) (x n : ℕ) (xs : List ℕ) → p ≡ is_plain x �
 escape_byte_more false x n xs e more = refl
 escape_byte_more true x n xs e more =
     let next : 1 + n ≡ suc n = omega arith in
-    let above : 95 ≤ x = leb-true 95 x (sym e) in
+    let parts = and_parts (nat_le 32 x && not (x == 34)) (not (x == 92)) (sym e) in
+    let front = and_parts (nat_le 32 x) (not (x == 34)) parts.0 in
+    let no_quote = eqb-false x 34 (not-true (x == 34) front.1) in
+    let no_backslash = eqb-false x 92 (not-true (x == 92) parts.1) in
     rw next
-    (ap₂ (λ (a b : List ℕ). a ++ b)
-    (escape_byte_plain x (λ same. omega arith) (λ same. omega arith) (omega arith)) more)
+    (ap₂ (λ (a b : List ℕ). a ++ b) (escape_byte_plain x no_quote no_backslash (leb-true 32 x front.0)) more)
 
 -- plain bytes need no escape
 escape_front : (xs : List ℕ) → escape (take (prefix_len is_plain xs) xs) ≡ take (prefix_len is_plain xs) xs
@@ -143,8 +148,73 @@ number_value line at n last end h digits blanks ends =
     ∙ ap (λ ts. Token.number (decimal n) ∷ ts) (tokens_kept after_value line last end blanks) in
     ap (converted of_json) (ap (value 126) is ∙ value_is 126 _) ∙ rw (number_of-decimal n h) refl
 
+-- ---- true, false and null
+
+-- a word that the line goes on with
+pub word_there : (line name : List ℕ) (at : ℕ) (found : Bool)
+    → found ≡ starts_with nat_eq (take (length line - at) (drop at line)) name → found ≡ true
+    → drop at line ≡ name ++ drop (at + length name) line
+word_there line name at found is there =
+    (starts_is Decides-eqb (drop at line) name found
+    (is ∙ ap (λ (rest : List ℕ). starts_with nat_eq rest name) (take_rest line at))).0 there
+    ∙ ap (λ (rest : List ℕ). name ++ rest) (drop-drop (length name) at line)
+
+true_first : (behind : List ℕ) → ends_word behind ≡ true
+    → punctuate fresh (lex between (codes "true" ++ behind))
+    ≡ Token.boolean true ∷ punctuate after_value (lex between behind)
+unfolding lex word punctuate
+true_first behind ends =
+    ap₂ (λ b l. punctuate fresh (token (cond b (Token.boolean true) Token.bad) ∷ l)) ends (in_word-ended behind ends)
+
+false_first : (behind : List ℕ) → ends_word behind ≡ true
+    → punctuate fresh (lex between (codes "false" ++ behind))
+    ≡ Token.boolean false ∷ punctuate after_value (lex between behind)
+unfolding lex word punctuate
+false_first behind ends =
+    ap₂ (λ b l. punctuate fresh (token (cond b (Token.boolean false) Token.bad) ∷ l)) ends (in_word-ended behind ends)
+
+null_first : (behind : List ℕ) → ends_word behind ≡ true
+    → punctuate fresh (lex between (codes "null" ++ behind))
+    ≡ Token.null ∷ punctuate after_value (lex between behind)
+unfolding lex word punctuate
+null_first behind ends =
+    ap₂ (λ b l. punctuate fresh (token (cond b Token.null Token.bad) ∷ l)) ends (in_word-ended behind ends)
+
+-- such a word that ends behind its blanks is a value, and neither a text nor a number
+pub word_value : (line : List ℕ) (at last end : ℕ) → IsWord line at last → AreBlanks line last end → EndsValue line end
+    → (d : Data)
+    × (converted of_json (value 126 (tokens_from fresh line at)) ≡ Some (d, tokens_from after_value line end))
+    × ((as_str d ≡ None) × (as_number d ≡ None))
+word_value line at last end is blanks ends = of_word is
+  where
+    ended : ends_word (drop last line) ≡ true
+    ended = word_ends_before line last end blanks (ends_there (drop end line) ends)
+
+    kept : (t : Token) (name : List ℕ) → drop at line ≡ name ++ drop last line
+        → punctuate fresh (lex between (name ++ drop last line)) ≡ t ∷ tokens_from after_value line last
+        → tokens_from fresh line at ≡ t ∷ tokens_from after_value line end
+    kept t name there first =
+        ap (λ (l : List ℕ). punctuate fresh (lex between l)) there ∙ first
+        ∙ ap (λ ts. t ∷ ts) (tokens_kept after_value line last end blanks)
+
+    of_word : IsWord line at last
+        → (d : Data)
+        × (converted of_json (value 126 (tokens_from fresh line at)) ≡ Some (d, tokens_from after_value line end))
+        × ((as_str d ≡ None) × (as_number d ≡ None))
+    of_word (inl there) =
+        let read = kept (Token.boolean true) (codes "true") there (true_first (drop last line) ended) in
+        (boolean true, ap (converted of_json) (ap (value 126) read ∙ value_is 126 _), (refl, refl))
+    of_word (inr (inl there)) =
+        let read = kept (Token.boolean false) (codes "false") there (false_first (drop last line) ended) in
+        (boolean false, ap (converted of_json) (ap (value 126) read ∙ value_is 126 _), (refl, refl))
+    of_word (inr (inr there)) =
+        let read = kept Token.null (codes "null") there (null_first (drop last line) ended) in
+        (null, ap (converted of_json) (ap (value 126) read ∙ value_is 126 _), (refl, refl))
+
+-- ---- digits
+
 -- one digit more
-pub decimal_more : (n c : ℕ) → 0 < n → n < 10 ^ 18 → 48 ≤ c → c ≤ 57
+pub decimal_more : (n c : ℕ) → 0 < n → n * 10 + (c - 48) < 2 ^ 64 → 48 ≤ c → c ≤ 57
     → decimal n ++ (c ∷ []) ≡ decimal (n * 10 + (c - 48))
 decimal_more n c some small low high =
     let m = n * 10 + (c - 48) in
@@ -193,7 +263,7 @@ number_begun line at within low high =
 
 -- one digit more of a number
 pub number_more : (line : List ℕ) (at n end : ℕ) → drop at line ≡ decimal n ++ drop end line → end < length line → 0 < n
-    → n < 10 ^ 18 → 48 ≤ get_or line end 0 → get_or line end 0 ≤ 57
+    → n * 10 + (get_or line end 0 - 48) < 2 ^ 64 → 48 ≤ get_or line end 0 → get_or line end 0 ≤ 57
     → drop at line ≡ decimal (n * 10 + (get_or line end 0 - 48)) ++ drop (end + 1) line
 number_more line at n end so_far within some small low high =
     let c = get_or line end 0 in

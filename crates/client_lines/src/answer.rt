@@ -235,8 +235,8 @@ fn add_permissions(text: &mut String, permissions: &[(u16, u32)]) -> Result<(), 
     add_ascii(text, &block[start + 1..])?;
     let mut rest = others;
     while !rest.is_empty() {
-        let (permissions, more) = rest.split_at(rest.len().min(BLOCK_PERMISSIONS));
-        let start = put_permissions(&mut block, permissions);
+        let (part, more) = rest.split_at(rest.len().min(BLOCK_PERMISSIONS));
+        let start = put_permissions(&mut block, part);
         add_ascii(text, &block[start..])?;
         rest = more;
     }

@@ -1,34 +1,41 @@
-//! Reading a line as most clients write it: an object of texts in small letters and of short whole numbers, with or
-//! without blanks between its parts and behind it. It takes no memory.
+//! Reading a line as most clients write it: an object of texts without escapes, of whole numbers of 64 bits, and of
+//! true, false and null, with or without blanks between its parts and behind it. It takes no memory.
+//!
+//! The bytes of such a text are plain: each stands for itself. They are all from the blank on but the quote and the
+//! backslash.
 
-ghost use Rattle.std.specs.Prelude.{◌≡◌, ◌+◌, ◌≤◌, ◌<◌, ◌++◌, [], length, drop, decimal, false, Some, IfSome};
+ghost use Rattle.std.specs.Prelude.{◌≡◌, ◌+◌, ◌*◌, ◌^◌, ◌≤◌, ◌<◌, ◌++◌, [], length, drop, decimal, false, Some};
+ghost use Rattle.std.specs.Prelude.{IfSome};
 ghost use Rattle.std.specs.List.{prefix_len};
 ghost use Rattle.json.specs.Json.{value, members};
 ghost use Rattle.json.specs.Lex.{fresh};
 ghost use Rattle.json.specs.Word.{is_space};
 ghost use Rattle.serde_json.specs.Data.{Members, no_members, object};
 ghost use Rattle.serde_json.specs.Read.{of_members, converted, read};
-ghost use Rattle.client_lines.specs.inside.Compact.{tokens_from, is_plain, IsQuoted, IsName, IsValue};
+ghost use Rattle.client_lines.specs.inside.Compact.{tokens_from, is_plain, IsQuoted, IsName, IsValue, IsWord};
 ghost use Rattle.client_lines.specs.inside.Says.{Says};
 
+use crate::bytes::{is_blank, is_plain};
 use crate::line::{Line, Scalar};
 
-/// From here on bytes are plain: the small letters, the underscore and all that need no escape and sort behind it.
-const FIRST_PLAIN: u8 = b'_';
+/// An object with a member has no fewer: `{"":0}`.
+const LEAST_BYTES: usize = 6;
 
 /// Longer lines hold what no operation has, in which an index of all bytes finds its way quicker.
 const MOST_BYTES: usize = 256;
 
-/// From here on one more digit may make a number too large.
-const LARGE_NUMBER: u64 = 1_000_000_000_000_000_000;
-
 /// What a line says, if it is such an object, of at most 256 bytes, and has a member; `None` says nothing of the line.
+///
+/// A line with a backslash is not begun: this way would end at the escape, perhaps late, and the other one is quick.
 pub fn compact_line<'a>(text: &'a str) -> Option<Line<'a>>
     ensures { IfSome result (λ line.
         (ms : Members) × (read text.now ≡ Some (object ms)) × Says line (object ms)) }
 {
     let bytes = text.as_bytes();
-    if bytes.is_empty() || bytes[0] != b'{' || bytes.len() > MOST_BYTES {
+    if bytes.len() < LEAST_BYTES || bytes.len() > MOST_BYTES || bytes[0] != b'{' {
+        return None;
+    }
+    if bytes.contains(&b'\\') {
         return None;
     }
     members_line(text)
@@ -87,8 +94,11 @@ fn scalar_at<'a>(text: &'a str, at: usize) -> Option<(Scalar<'a>, usize)>
     if let Some((text, end)) = text_at(text, at) {
         return Some((Scalar::Text(text), blanks_end_before(b',', bytes, end)));
     }
-    let (number, end) = number_at(bytes, at)?;
-    Some((Scalar::Whole(number), blanks_end_before(b',', bytes, end)))
+    if let Some((number, end)) = number_at(bytes, at) {
+        return Some((Scalar::Whole(number), blanks_end_before(b',', bytes, end)));
+    }
+    let end = word_at(bytes, at)?;
+    Some((Scalar::Other, blanks_end_before(b',', bytes, end)))
 }
 
 /// The text of plain bytes in quotes that begins there, and the place behind it.
@@ -116,7 +126,7 @@ fn plain_end(bytes: &[u8], from: usize) -> usize
     ensures bound { result ≤ length bytes.now }
 {
     let mut end = from;
-    while end < bytes.len() && bytes[end] >= FIRST_PLAIN {
+    while end < bytes.len() && is_plain(bytes[end]) {
         end += 1;
     }
     end
@@ -141,6 +151,18 @@ fn blanks_end(bytes: &[u8], from: usize) -> usize
     ensures value { result ≡ from + prefix_len is_space (drop from bytes.now) }
     ensures bound { from ≤ length bytes.now → result ≤ length bytes.now }
 {
+    if from < bytes.len() && is_blank(bytes[from]) {
+        return blank_run_end(bytes, from + 1);
+    }
+    from
+}
+
+/// The same, out of line, so that the way past no blank stays short.
+#[inline(never)]
+fn blank_run_end(bytes: &[u8], from: usize) -> usize
+    ensures value { result ≡ from + prefix_len is_space (drop from bytes.now) }
+    ensures bound { from ≤ length bytes.now → result ≤ length bytes.now }
+{
     let mut end = from;
     while end < bytes.len() && is_blank(bytes[end]) {
         end += 1;
@@ -148,18 +170,11 @@ fn blanks_end(bytes: &[u8], from: usize) -> usize
     end
 }
 
-/// Whether a byte is blank: a space, a tab, or an end of a line, which JSON passes over between its parts.
-#[inline(always)]
-fn is_blank(byte: u8) -> bool
-    ensures { result ≡ is_space byte }
-{
-    byte <= b' ' && matches!(byte, b' ' | b'\t' | b'\n' | b'\r')
-}
-
-/// The number of at most 19 digits that begins there, and the place behind it.
+/// The number of at most 64 bits that begins there, and the place behind it.
 #[inline(always)]
 fn number_at(bytes: &[u8], at: usize) -> Option<(u64, usize)>
     ensures digits { IfSome result (λ r. drop at bytes.now ≡ decimal r.0 ++ drop r.1 bytes.now) }
+    ensures small { IfSome result (λ r. r.0 < 2 ^ 64) }
     ensures forward { IfSome result (λ r. at < r.1) }
     ensures within { IfSome result (λ r. r.1 ≤ length bytes.now) }
 {
@@ -169,11 +184,43 @@ fn number_at(bytes: &[u8], at: usize) -> Option<(u64, usize)>
     let mut number = u64::from(bytes[at] - b'0');
     let mut end = at + 1;
     while end < bytes.len() && bytes[end].is_ascii_digit() {
-        if number == 0 || number >= LARGE_NUMBER {
+        if number == 0 {
             return None;
         }
-        number = number * 10 + u64::from(bytes[end] - b'0');
+        number = with_digit(number, bytes[end] - b'0')?;
         end += 1;
     }
     Some((number, end))
+}
+
+/// The number with one digit more, if it has at most 64 bits.
+#[inline(always)]
+fn with_digit(number: u64, digit: u8) -> Option<u64>
+    ensures { IfSome result (λ more. more ≡ number * 10 + digit) }
+{
+    number.checked_mul(10)?.checked_add(u64::from(digit))
+}
+
+/// The place behind true, false or null, where one of these begins there.
+#[inline(always)]
+fn word_at(bytes: &[u8], at: usize) -> Option<usize>
+    ensures word { IfSome result (IsWord bytes.now at) }
+    ensures forward { IfSome result (λ end. at < end) }
+    ensures within { IfSome result (λ end. end ≤ length bytes.now) }
+{
+    if at >= bytes.len() {
+        return None;
+    }
+    let rest = &bytes[at..];
+    if rest.starts_with(b"true") {
+        return Some(at + 4);
+    }
+    if rest.starts_with(b"false") {
+        return Some(at + 5);
+    }
+    if rest.starts_with(b"null") {
+        Some(at + 4)
+    } else {
+        None
+    }
 }

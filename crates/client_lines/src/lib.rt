@@ -5,6 +5,7 @@
 #![tactic(auto)]
 
 mod answer;
+mod bytes;
 mod compact;
 mod fault;
 mod flat;

@@ -89,6 +89,7 @@ impl<'a> Line<'a> {
     }
 
     /// What the object says with this member more, or in place of one of the same name.
+    #[inline(always)]
     pub fn put(&mut self, name: &str, scalar: Scalar<'a>)
         ensures { (ms : Members) (d : Data) → IsScalarOf scalar.entry d → Says self.old (object ms)
             → Says self.new (object (put name.now d ms)) }

@@ -1,13 +1,10 @@
 -- Blocks of SHA-256 as their words, where the block's bytes are known one by one.
-use Rattle.std.proofs.Common.{◌≡◌, ℕ, zero, suc, ◌+◌, ◌*◌, ◌^◌, ◌<◌, List, [], ◌∷◌, ◌++◌}
+use Rattle.std.proofs.Common.{◌≡◌, ℕ, zero, suc, ◌+◌, ◌^◌, ◌<◌, List, [], ◌∷◌, ◌++◌}
 use Rattle.std.proofs.Common.{length, slice_index, slice_set, drop, replicate}
-use Rattle.std.proofs.Common.{refl, sym, ap, ◌∙◌, arith, inl, inr, add-one, drop-cons}
-use Rattle.std.proofs.lemmas.Bool.{cases_lt}
-use Rattle.std.proofs.lemmas.List.{drop_all, get_or-set_same, get_or-set_other}
-use Rattle.std.proofs.lemmas.Grind.{same_number_lists}
+use Rattle.std.proofs.Common.{refl, sym, ap, ◌∙◌, arith, add-one, drop-cons}
+use Rattle.std.proofs.lemmas.List.{drop_all}
 use Rattle.std.proofs.lemmas.Nat.{from_be_bytes-to_be_bytes_4}
 use Rattle.sha2.specs.Sha256.{digest_bytes, first_words, padding, word_at}
-use Rattle.sha2.proofs.Schedule256.{length-first_words, slice_index-first_words}
 
 -- so many elements, from one on
 abbrev elements : List ℕ → ℕ → ℕ → List ℕ
@@ -30,24 +27,6 @@ unfolding first_words
 words_of_fields xs e =
     let whole : xs ≡ elements xs 0 22 = elements_from xs 0 22 (sym e) in
     ap (λ (l : List ℕ). first_words (l ++ padding 86) 16) (sym whole)
-
--- one word more of a block
-pub word_more : (block words : List ℕ) (i w : ℕ) → i < length words → w ≡ word_at block (4 * i)
-    → ((k : ℕ) → k < i → slice_index words k ≡ word_at block (4 * k))
-    → (k : ℕ) → k < i + 1 → slice_index (slice_set words i w) k ≡ word_at block (4 * k)
-word_more block words i w fits e before k lt = elim (cases_lt k i) [
-  | inl low ↦ get_or-set_other words i k w 0 (omega arith) ∙ before k low
-  | inr high ↦
-      let same : i ≡ k = omega arith in
-      rw (← same) (get_or-set_same words i w 0 fits ∙ e)
-]
-
-pub all_words : (block words : List ℕ) → length words ≡ 16
-    → ((k : ℕ) → k < 16 → slice_index words k ≡ word_at block (4 * k))
-    → words ≡ first_words block 16
-all_words block words e each =
-    same_number_lists words (first_words block 16) (e ∙ sym (length-first_words block 16))
-    (λ k lt. each k (omega arith) ∙ sym (slice_index-first_words block 16 k (omega arith)))
 
 -- the words of a hash value's bytes and the padding behind them
 pub words_of_digest : (hash : List ℕ) → length hash ≡ 8 → ((k : ℕ) → slice_index hash k < 2 ^ 32)

@@ -21,3 +21,4 @@ pub mod Turns
 pub mod BlockWords
 pub mod TagLemmas
 pub mod Rotations
+pub mod Choices

@@ -7,7 +7,7 @@ ghost use Rattle.link_frames.specs.inside.MidStates.{MidStates};
 
 use crate::layout::TAG_AT;
 use crate::sha256::{INITIAL, compress};
-use crate::words::{digest, digest_words, fields_words, words_of};
+use crate::words::{block_words, digest_words, fields_words, hash_bytes};
 use sha2::{Digest, Sha256};
 use std::marker::Model;
 
@@ -94,8 +94,8 @@ impl PreparedKey {
         let block = key_block(key);
         PreparedKey {
             key: *key,
-            inner: compress(INITIAL, words_of(&padded_by(0x36, &block))),
-            outer: compress(INITIAL, words_of(&padded_by(0x5c, &block))),
+            inner: compress(INITIAL, block_words(&padded_by(0x36, &block))),
+            outer: compress(INITIAL, block_words(&padded_by(0x5c, &block))),
         }
     }
 
@@ -104,6 +104,6 @@ impl PreparedKey {
         ensures { result ≡ hmac self.now fields.now }
     {
         let inner = compress(self.inner, fields_words(fields));
-        digest(compress(self.outer, digest_words(&inner)))
+        hash_bytes(compress(self.outer, digest_words(&inner)))
     }
 }

@@ -11,24 +11,39 @@ const FIELDS_BITS: u32 = 8 * (64 + 22);
 /// The bits of a block with a hash value behind it.
 const DIGEST_BITS: u32 = 8 * (64 + 32);
 
-/// The word at a byte.
+/// The four bytes from one on as a number, the first byte the highest.
 #[inline(always)]
-fn word_at(bytes: &[u8], at: usize) -> u32
-    requires { at + 4 ≤ length bytes.now }
-    ensures { result ≡ word_at bytes.now at }
+fn word_from(bytes: &[u8], first: usize) -> u32
+    requires { first + 4 ≤ length bytes.now }
+    ensures { result ≡ word_at bytes.now first }
 {
-    u32::from_be_bytes([bytes[at], bytes[at + 1], bytes[at + 2], bytes[at + 3]])
+    let mut four = [0; 4];
+    four.copy_from_slice(&bytes[first..first + 4]);
+    u32::from_be_bytes(four)
 }
 
 /// The words of a block.
-pub(crate) fn words_of(block: &[u8; 64]) -> [u32; 16]
+pub(crate) fn block_words(block: &[u8; 64]) -> [u32; 16]
     ensures { result ≡ first_words block.now 16 }
 {
-    let mut words = [0; 16];
-    for i in 0..16 {
-        words[i] = word_at(block, 4 * i);
-    }
-    words
+    [
+        word_from(block, 0),
+        word_from(block, 4),
+        word_from(block, 8),
+        word_from(block, 12),
+        word_from(block, 16),
+        word_from(block, 20),
+        word_from(block, 24),
+        word_from(block, 28),
+        word_from(block, 32),
+        word_from(block, 36),
+        word_from(block, 40),
+        word_from(block, 44),
+        word_from(block, 48),
+        word_from(block, 52),
+        word_from(block, 56),
+        word_from(block, 60),
+    ]
 }
 
 /// The words of a last block that has a frame's fields, where one block comes before it.
@@ -37,11 +52,11 @@ pub(crate) fn fields_words(fields: &[u8; TAG_AT]) -> [u32; 16]
     ensures { result ≡ first_words (fields.now ++ padding 86) 16 }
 {
     [
-        word_at(fields, 0),
-        word_at(fields, 4),
-        word_at(fields, 8),
-        word_at(fields, 12),
-        word_at(fields, 16),
+        word_from(fields, 0),
+        word_from(fields, 4),
+        word_from(fields, 8),
+        word_from(fields, 12),
+        word_from(fields, 16),
         u32::from_be_bytes([fields[20], fields[21], 0x80, 0]),
         0,
         0,
@@ -68,14 +83,23 @@ pub(crate) fn digest_words(hash: &[u32; 8]) -> [u32; 16]
     words
 }
 
-/// The bytes of a hash value.
+/// The bytes of a hash value, each word's highest first.
 #[inline(always)]
-pub(crate) fn digest(hash: [u32; 8]) -> [u8; 32]
+pub(crate) fn hash_bytes(hash: [u32; 8]) -> [u8; 32]
     ensures { result ≡ digest_bytes hash 8 }
 {
+    let [a, b, c, d, e, f, g, h] = hash;
+    let words = [
+        a.to_be_bytes(),
+        b.to_be_bytes(),
+        c.to_be_bytes(),
+        d.to_be_bytes(),
+        e.to_be_bytes(),
+        f.to_be_bytes(),
+        g.to_be_bytes(),
+        h.to_be_bytes(),
+    ];
     let mut bytes = [0; 32];
-    for i in 0..8 {
-        bytes[4 * i..4 * i + 4].copy_from_slice(&hash[i].to_be_bytes());
-    }
+    bytes.copy_from_slice(words.as_flattened());
     bytes
 }

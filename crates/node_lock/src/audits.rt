@@ -157,7 +157,7 @@ fn by_place(alloc: Global, receipts: &[Receipt]) -> Result<Vec<&Receipt>, AllocE
     for receipt in receipts {
         keys.push((receipt.place, receipt))?;
     }
-    keys.sort_by_key(|key| key.0)?;
+    keys.sort_unstable_by_key(|key| key.0);
     let mut sorted = Vec::with_capacity(alloc, receipts.len())?;
     for key in keys.as_slice() {
         sorted.push(key.1)?;

@@ -1,6 +1,5 @@
 pub mod Places
 pub mod Steps
-pub mod Voters
 pub mod Values
 pub mod Laws
 pub mod inside

@@ -13,14 +13,14 @@ ghost use Rattle.bracha_instance.specs.declared.instance.Effect.TheVariants.{Idl
 ghost use Rattle.owner_streams.specs.Places.{place_count, window, take_of, stream, reach as reach_of};
 ghost use Rattle.owner_streams.specs.Steps.{SendsAreOwners, step_due, IsAnswer, effect_due};
 ghost use Rattle.owner_streams.specs.inside.Slots.{slot_at, state_in, delivered_in, again_in, voted_in, GoesOn};
-ghost use Rattle.owner_streams.specs.inside.Slots.{IsAnswerAt, all_voted_in};
+ghost use Rattle.owner_streams.specs.inside.Slots.{IsAnswerAt};
 ghost use Rattle.owner_streams.specs.inside.Kept.{reach_in, held, IsOwnerStream, AreStatesOf, SamePlaces};
 ghost use Rattle.owner_streams.specs.inside.Kept.{command_in, look_in};
 
 use crate::steps::{Again, StreamFault, StreamStep};
 use bracha_instance::{Caused, Effect, Instance, Record};
 use link_frames::{Kind, Packet, Place};
-use quorum_sizes::{NodeName, NodeSet, Sizes};
+use quorum_sizes::{NodeName, Sizes};
 use role_commands::Command;
 use std::alloc::{AllocError, Global};
 
@@ -239,22 +239,6 @@ impl OwnerStream {
         }
         match self.instance_at(place) {
             Some(instance) => instance.voted(kind, from),
-            None => false,
-        }
-    }
-
-    /// Whether each of these nodes' message of that kind was taken at a place: of a SEND, whether the owner's was,
-    /// whatever the names. There must be one node at least for that.
-    #[inline(always)]
-    pub(crate) fn all_voted(&self, kind: Kind, place: Place, names: &NodeSet) -> bool
-        ensures { result ≡ all_voted_in (held self.now place) kind names.now }
-    {
-        let place = place as usize;
-        if place < self.below.len() {
-            return self.record_at(place).all_voted(kind, names);
-        }
-        match self.instance_at(place) {
-            Some(instance) => instance.all_voted(kind, names),
             None => false,
         }
     }

@@ -1,21 +1,19 @@
 //! The streams of all owners, as one node delivers them.
 
 ghost use Rattle.std.specs.Prelude.{◌≡◌, ◌≢◌, ℕ, ◌+◌, ◌<◌, ◌≤◌, List, [], ◌∷◌, ◌++◌, Ok, IfOk, OnOk, OnErr};
-ghost use Rattle.std.specs.Prelude.{slice_get, IsTrue};
-ghost use Rattle.std.specs.FinSet as sets;
+ghost use Rattle.std.specs.Prelude.{slice_get};
 ghost use Rattle.link_frames.specs.Packets.{PacketValue};
 ghost use Rattle.bracha_instance.specs.declared.instance.Effect.TheVariants.{Idle, Counted};
 ghost use Rattle.owner_streams.specs.Places.{place_count, window, stream, reach as reach_of};
 ghost use Rattle.owner_streams.specs.Steps.{SendsAreOwners, step_due, IsAnswer, effect_due, again_due};
-ghost use Rattle.owner_streams.specs.Voters.{have_taken};
 ghost use Rattle.owner_streams.specs.Values.{IsStateOf, WouldCount};
 ghost use Rattle.owner_streams.specs.inside.Kept.{AreOwnerStreams};
 
 use crate::owner_stream::OwnerStream;
 use crate::steps::{Again, StreamFault, StreamStep};
 use bracha_instance::Effect;
-use link_frames::{Kind, Packet, Place};
-use quorum_sizes::{NodeName, NodeSet, Sizes};
+use link_frames::{Packet, Place};
+use quorum_sizes::{NodeName, Sizes};
 use role_commands::Command;
 use std::alloc::{AllocError, Global};
 use std::marker::Model;
@@ -135,20 +133,6 @@ impl Streams {
         ensures memory { result ≢ Err StreamFault.Memory }
     {
         self.owners[usize::from(packet.owner().index())].look(packet)
-    }
-
-    /// Whether each of these nodes' message of that kind was taken at a place of the owner's stream, which is not
-    /// beyond the window: then [`take`](Self::take) would answer of each that it changes nothing. Of a SEND, whether
-    /// the owner's was, whatever the names. There must be one node at least for that, and the owner must be of these
-    /// sizes. Takes no memory.
-    #[inline(always)]
-    pub fn has_taken(&self, kind: Kind, owner: NodeName, place: Place, names: &NodeSet) -> bool
-        requires { owner < self.now.sizes.nodes }
-        ensures { (packets : List PacketValue) → IsStateOf self.now packets →
-            (name : ℕ) → IsTrue (sets.contains names.now name) →
-            result ≡ have_taken self.now.sizes packets kind owner place names.now }
-    {
-        self.owners[usize::from(owner.index())].all_voted(kind, place, names)
     }
 
     /// How far the owner's stream reaches: so many of its first places are delivered without a gap. The owner

@@ -1,14 +1,12 @@
 -- What is done to a word, and what that does to the names that it holds.
 use Rattle.std.proofs.Common.{◌≡◌, ℕ, zero, suc, ◌+◌, ◌-◌, ◌*◌, ◌/◌, ◌%◌, ◌^◌, ◌==◌, ◌<◌, ◌≤◌, Bool, true, false}
-use Rattle.std.proofs.Common.{cond, ◌&&◌, ◌||◌, refl, sym, ◌∙◌, ap, arith, nat_lt, bit_and, bit_or}
-use Rattle.std.proofs.Common.{min}
+use Rattle.std.proofs.Common.{cond, ◌&&◌, ◌||◌, refl, sym, ◌∙◌, ap, arith, nat_lt, bit_and, bit_or, min}
 use mir.Syntax.{w128}
 use Rattle.std.proofs.lemmas.Bool.{ltb-true, and_parts, lt-ltb, le-ltb, eqb-true, eqb-false, eq-eqb, ltb-true}
 use Rattle.std.proofs.lemmas.Nat.{and_mask, ones_cat, pow_pos}
 use Rattle.std.proofs.lemmas.Nat.Bits.{bit_at-lt, bit_at_and, bit_at_set_same, bit_at_set_other, bit_at-zero, ones_shr}
 use Rattle.std.proofs.Math.Nat.{mod-eq_of_lt, mod-lt}
 use Rattle.std.specs.Int.{bit_at}
-use Rattle.std.specs.Int.Bits.{and_lt}
 use Rattle.std.specs.Int.Count.{ones}
 use Rattle.std.specs.Ordering.{nat_cmp}
 use Rattle.std.specs.Cmp.{nat_cmp_total}
@@ -16,7 +14,6 @@ use Rattle.std.specs.FinSet as sets
 use Rattle.quorum_sizes.specs.Sizes.{Counts, most_nodes}
 use Rattle.quorum_sizes.specs.NodeSets.{nodes_among}
 use Rattle.quorum_sizes.specs.inside.NodeWords.{has_bit, names_below, names_in, contains-names_below, bits_more}
-use Rattle.quorum_sizes.specs.inside.NodeWords.{word_of, word_of-names_in}
 use Rattle.quorum_sizes.proofs.NodeCounts.{len_below, same_names, contains-insert, contains-nodes_among}
 
 contains-names_in : (word name : ℕ) → sets.contains (names_in word) name ≡ (nat_lt name most_nodes && has_bit word name)
@@ -102,46 +99,6 @@ names_in-and a b =
     apart : (x y z : Bool) → (x && (y && z)) ≡ ((x && y) && (x && z))
     apart true y z = refl
     apart false y z = refl
-
--- Whether all names of the one are in the other.
-
-pub is_subset-words : (a b : ℕ) → a < 2 ^ most_nodes → b < 2 ^ most_nodes
-    → (bit_and a b == a) ≡ sets.is_subset (names_in a) (names_in b)
-is_subset-words a b a_small b_small =
-    at (bit_and a b == a) refl (sets.is_subset (names_in a) (names_in b)) refl
-  where
-    each : bit_and a b ≡ a → (k : ℕ) → sets.contains (names_in a) k ≡ true → sets.contains (names_in b) k ≡ true
-    each same k one =
-        let both : (sets.contains (names_in a) k && sets.contains (names_in b) k) ≡ true =
-        sym (sets.contains-intersection nat_cmp_total (names_in a) (names_in b) k)
-        ∙ ap (λ names. sets.contains names k) (sym (names_in-and a b) ∙ ap names_in same)
-        ∙ one in
-        (and_parts (sets.contains (names_in a) k) (sets.contains (names_in b) k) both).1
-
-    stays : sets.is_subset (names_in a) (names_in b) ≡ true → (k : ℕ) (v : Bool) → sets.contains (names_in a) k ≡ v
-        → (sets.contains (names_in a) k && sets.contains (names_in b) k) ≡ sets.contains (names_in a) k
-    stays sub k true one =
-        (λ i. one i && sets.is_subset-contains nat_cmp_total (names_in a) (names_in b) sub k one i) ∙ sym one
-    stays sub k false none = ap (λ v. v && sets.contains (names_in b) k) none ∙ sym none
-
-    same_word : sets.is_subset (names_in a) (names_in b) ≡ true → bit_and a b ≡ a
-    same_word sub =
-        let e : names_in (bit_and a b) ≡ names_in a =
-        same_names (names_in (bit_and a b)) (names_in a) (λ k.
-        ap (λ names. sets.contains names k) (names_in-and a b)
-        ∙ sets.contains-intersection nat_cmp_total (names_in a) (names_in b) k
-        ∙ stays sub k (sets.contains (names_in a) k) refl) in
-        sym (word_of-names_in (bit_and a b) (and_lt most_nodes a b a_small b_small))
-        ∙ ap word_of e
-        ∙ word_of-names_in a a_small
-
-    at : (v : Bool) → (bit_and a b == a) ≡ v → (s : Bool) → sets.is_subset (names_in a) (names_in b) ≡ s → v ≡ s
-    at true same true sub = refl
-    at true same false not_sub =
-        sym (sets.contains-is_subset nat_cmp_total (names_in a) (names_in b)
-        (each (eqb-true (bit_and a b) a same))) ∙ not_sub
-    at false other true sub = absurd (eqb-false (bit_and a b) a other (same_word sub))
-    at false other false not_sub = refl
 
 -- How many names.
 

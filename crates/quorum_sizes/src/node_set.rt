@@ -76,14 +76,6 @@ impl NodeSet {
         self.word.count_ones() as usize
     }
 
-    /// Whether each of the names is in the other set.
-    #[inline(always)]
-    pub fn is_subset(&self, other: &NodeSet) -> bool
-        ensures { result ≡ sets.is_subset self.now other.now }
-    {
-        self.word & other.word == self.word
-    }
-
     /// How many of the names are nodes of these sizes.
     pub fn count_among(&self, sizes: &Sizes) -> usize
         ensures { result ≡ sets.len (nodes_among sizes.now self.now) }

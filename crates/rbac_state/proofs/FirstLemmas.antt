@@ -1,5 +1,5 @@
 -- The first of a list that passes, found by going over the list.
-use Rattle.std.proofs.Common.{◌≡◌, ℕ, ◌+◌, ◌<◌, Bool, true, false, ◌&&◌, cond, List, [], ◌∷◌}
+use Rattle.std.proofs.Common.{◌≡◌, ℕ, ◌+◌, ◌<◌, Bool, true, false, ◌&&◌, cond, List, [], ◌∷◌, ◌++◌, Option}
 use Rattle.std.proofs.Common.{length, get_or, take, drop, None, Some, refl, sym, ap, ◌∙◌}
 use Rattle.std.specs.List.{find}
 use Rattle.std.specs.Option.{option_or}
@@ -32,3 +32,9 @@ module _ {X : Type 0} (p : X → Bool) (xs : List X) (i : ℕ) (d : X) (within :
 pub find_never : {X : Type 0} (p : X → Bool) (xs : List X) → ((x : X) → p x ≡ false) → find p xs ≡ None
 find_never p [] never = refl
 find_never p (x ∷ xs) never = rw (never x) (find_never p xs never)
+
+-- of the two parts of a list the front is asked first
+pub find_parts : {X : Type 0} (p : X → Bool) (xs front back : List X) (found : Option X) → xs ≡ front ++ back →
+    found ≡ find p front → option_or found (find p back) ≡ find p xs
+find_parts p xs front back found is first =
+    ap (λ o. option_or o (find p back)) first ∙ sym (find-append p front back) ∙ ap (find p) (sym is)

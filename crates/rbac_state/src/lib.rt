@@ -5,13 +5,13 @@
 mod blocks;
 pub mod laws;
 mod listing;
+mod numbered;
 mod packed;
 mod pair;
 mod policy;
 mod relation;
 mod run;
 mod search;
-mod second;
 mod select;
 mod shown;
 mod sorted;

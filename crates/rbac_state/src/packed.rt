@@ -1,18 +1,114 @@
 //! Permissions as one number each, which has their order: a relation keeps it, and it is quicker to sort.
 
-ghost use Rattle.std.specs.Prelude.{◌≡◌, ◌+◌, ◌*◌, ◌/◌, ◌%◌, ◌<◌, ◌^◌, map, All, Contains, IfOk};
+ghost use Rattle.std.specs.Prelude.{◌≡◌, ◌<◌, ◌^◌, map, All, Contains, IfOk, refl};
+ghost use Rattle.std.specs.Ordering.{eq_by_cmp, as_partial_cmp, nat_cmp};
+ghost use Rattle.std.specs.Cmp.{partial_equiv_from_equiv, partial_order_from_agreeing_total};
+ghost use Rattle.std.proofs.lemmas.Cmp.{nat_cmp_total, eq_by_cmp_equiv};
 ghost use Rattle.rbac_state.specs.Policies.{permission_cmp};
 ghost use Rattle.rbac_state.specs.Listings.{IsListing};
-ghost use Rattle.rbac_state.specs.inside.Packed.{packed, unpacked};
+ghost use Rattle.rbac_state.specs.inside.Packed.{packed, permission_of};
+ghost use Rattle.rbac_state.specs.inside.Pairs.{most_firsts};
 
-use crate::listing::ascending;
+use crate::listing::{ascending, ascends};
 use crate::policy::Permission;
 use std::alloc::{AllocError, Global};
+use std::cmp::{Eq, Ord, Ordering, PartialEq, PartialOrd};
+use std::marker::Model;
+
+/// A permission's number is below this.
+pub const PERMISSIONS: u64 = 281_474_976_710_656;
 
 /// So many permissions are sorted as they are, since two more lists would cost more than they save.
 const FEW: usize = 64;
 
-/// The permissions in ascending order, each once. Where they are many it takes memory for as many numbers.
+/// A permission's number.
+#[derive(Clone, Copy, Drop)]
+pub struct Packed {
+    number: u64,
+}
+
+impl Model for Packed {
+    ghost use Rattle.std.specs.Prelude.{ℕ, ◌<◌, refl};
+    ghost use Rattle.rbac_state.specs.inside.Pairs.{most_firsts};
+
+    ghost Value = { ℕ };
+
+    ghost view = { λ a. a.number };
+
+    ghost invariant = { λ a. a.number < most_firsts };
+
+    ghost inverse = { λ n. record { number = n } };
+
+    ghost inverse_ok = { λ a h. refl };
+}
+
+impl Packed {
+    /// The number, which must be a permission's.
+    pub fn new(number: u64) -> Self
+        requires { number < most_firsts }
+        ensures { result ≡ number }
+    {
+        Packed { number }
+    }
+
+    /// The number of a permission.
+    fn of(permission: Permission) -> Self
+        ensures { result ≡ packed permission }
+    {
+        Packed::new(pack(permission))
+    }
+
+    /// The permission of the number.
+    pub fn unpack(&self) -> Permission
+        ensures { result ≡ permission_of self.now }
+    {
+        (
+            (self.number / 4_294_967_296) as u16,
+            (self.number % 4_294_967_296) as u32,
+        )
+    }
+}
+
+impl PartialEq for Packed {
+    ghost eq = { eq_by_cmp nat_cmp };
+
+    ghost laws = { partial_equiv_from_equiv (eq_by_cmp_equiv nat_cmp_total) };
+
+    fn eq(&self, other: &Packed) -> bool {
+        self.cmp(other).is_eq()
+    }
+}
+
+impl Eq for Packed {
+    ghost laws = { eq_by_cmp_equiv nat_cmp_total };
+}
+
+impl PartialOrd for Packed {
+    ghost partial_cmp = { as_partial_cmp nat_cmp };
+
+    ghost laws = { partial_order_from_agreeing_total nat_cmp nat_cmp_total (λ x y. refl) (λ x y. refl) };
+
+    fn partial_cmp(&self, other: &Packed) -> Option<Ordering> {
+        Some(self.cmp(other))
+    }
+}
+
+impl Ord for Packed {
+    ghost cmp = { nat_cmp };
+
+    ghost total = { nat_cmp_total };
+
+    ghost matches_partial_cmp = { λ x y. refl };
+
+    ghost matches_eq = { λ x y. refl };
+
+    fn cmp(&self, other: &Packed) -> Ordering {
+        self.number.cmp(&other.number)
+    }
+}
+
+/// The permissions in ascending order, each once. Where they are many, and not so already, it takes memory for as many
+/// numbers, and then for as many permissions.
 ///
 /// # Errors
 ///
@@ -20,6 +116,9 @@ const FEW: usize = 64;
 pub fn ascending_permissions(permissions: Vec<Permission>) -> Result<Vec<Permission>, AllocError>
     ensures { IfOk result (λ sorted. IsListing permission_cmp (Contains permissions.items) sorted.items) }
 {
+    if ascends(&permissions) {
+        return Ok(permissions);
+    }
     if permissions.len() <= FEW {
         return Ok(ascending(permissions));
     }
@@ -51,19 +150,19 @@ fn one_within(permission: Permission)
     ensures { (permission.0 < 2 ^ 16) × (permission.1 < 2 ^ 32) }
 {}
 
-fn pack_all(alloc: Global, permissions: Vec<Permission>) -> Result<Vec<u64>, AllocError>
+fn pack_all(alloc: Global, permissions: Vec<Permission>) -> Result<Vec<Packed>, AllocError>
     ensures { IfOk result (λ numbers. numbers.items ≡ map packed permissions.items) }
 {
     permissions
         .iter()
-        .map(|permission| pack(*permission))
+        .map(|permission| Packed::of(*permission))
         .collect(alloc)
 }
 
-fn unpack_all(alloc: Global, numbers: &[u64]) -> Result<Vec<Permission>, AllocError>
-    ensures { IfOk result (λ permissions. permissions.items ≡ map unpacked numbers.now) }
+fn unpack_all(alloc: Global, numbers: &[Packed]) -> Result<Vec<Permission>, AllocError>
+    ensures { IfOk result (λ permissions. permissions.items ≡ map permission_of numbers.now) }
 {
-    numbers.iter().map(|number| unpack(*number)).collect(alloc)
+    numbers.iter().map(|number| number.unpack()).collect(alloc)
 }
 
 /// The number of a permission.
@@ -71,14 +170,4 @@ pub fn pack(permission: Permission) -> u64
     ensures { result ≡ packed permission }
 {
     u64::from(permission.0) * 4_294_967_296 + u64::from(permission.1)
-}
-
-/// The permission of a number.
-pub fn unpack(number: u64) -> Permission
-    ensures { result ≡ unpacked number }
-{
-    (
-        (number / 4_294_967_296 % 65_536) as u16,
-        (number % 4_294_967_296) as u32,
-    )
 }

@@ -47,7 +47,8 @@ impl<const LIMIT: u64> Pair<LIMIT> {
 
     /// The first of the two.
     pub fn first(&self) -> u64
-        ensures { result ≡ self.now.0 }
+        ensures value { result ≡ self.now.0 }
+        ensures below { result * LIMIT < 2 ^ 64 }
     {
         self.number / LIMIT
     }

@@ -7,12 +7,13 @@ ghost use Rattle.rbac_state.specs.Policies.{UserMay, least_room, IsBlank, SameRe
 ghost use Rattle.rbac_state.specs.Listings.{IsListing};
 
 use crate::listing::ascending;
-use crate::packed::{ascending_permissions, pack};
+use crate::packed::{PERMISSIONS, ascending_permissions, pack};
 use crate::relation::Relation;
 use crate::select;
 use quorum_sizes::NodeName;
 use role_commands::{Command, RoleTable};
 use std::alloc::{AllocError, Global};
+use std::fmt::{self, Debug, Formatter, Write};
 use std::marker::Model;
 
 /// An operation and an object.
@@ -20,9 +21,6 @@ pub type Permission = (u16, u32);
 
 /// A user's number is below this.
 const USERS: u64 = 4_294_967_296;
-
-/// A permission's number is below this.
-pub const PERMISSIONS: u64 = 281_474_976_710_656;
 
 /// Users, each with a role.
 pub type Users = Relation<USERS>;
@@ -40,6 +38,18 @@ pub struct Policy {
     roles: RoleTable,
     assigned: Users,
     granted: Grants,
+}
+
+impl Debug for Users {
+    fn fmt<W: Write>(&self, f: &mut Formatter<W>) -> fmt::Result {
+        self.write::<u64, W>(f)
+    }
+}
+
+impl Debug for Grants {
+    fn fmt<W: Write>(&self, f: &mut Formatter<W>) -> fmt::Result {
+        self.write::<Permission, W>(f)
+    }
 }
 
 impl Model for Policy {

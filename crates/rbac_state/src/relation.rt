@@ -8,12 +8,13 @@ ghost use Rattle.rbac_state.specs.inside.Relations.{IsKeptBothWays, SamePairs, r
 ghost use Rattle.rbac_state.specs.inside.Runs.{AreAlike};
 
 use crate::blocks;
+use crate::numbered::Numbered;
 use crate::pair::{Pair, ROLES};
-use crate::policy::PERMISSIONS;
 use crate::run::{self, Alike};
-use crate::shown::{Permissions, ShownBlocks};
+use crate::shown::ShownBlocks;
 use std::alloc::{AllocError, Global};
-use std::fmt;
+use std::fmt::{self, Debug, Formatter, Write};
+use std::marker::PhantomData;
 
 /// A finite relation of numbers below `FIRSTS` with roles. Its pairs are kept twice, in ascending order by either side,
 /// so that a look-up from either side is a search, and in blocks, so that a change moves few of them.
@@ -163,22 +164,20 @@ impl<const FIRSTS: u64> Relation<FIRSTS> {
     pub fn alloc(&self) -> Global {
         *self.by_first.allocator()
     }
-}
 
-impl<const FIRSTS: u64> fmt::Debug for Relation<FIRSTS> {
-    fn fmt<W: fmt::Write>(&self, f: &mut fmt::Formatter<W>) -> fmt::Result {
-        let (first, second) = if FIRSTS == PERMISSIONS {
-            (Permissions::First, Permissions::Second)
-        } else {
-            (Permissions::Nowhere, Permissions::Nowhere)
-        };
-        let by_first = ShownBlocks {
+    /// Writes the relation as a derive would, with what a first stands for in place of its number.
+    pub fn write<A: Numbered + Debug, W: Write>(&self, f: &mut Formatter<W>) -> fmt::Result
+        requires some { 0 < FIRSTS }
+        requires few { FIRSTS ≤ A.limit }
+        requires all { most_firsts ≤ A.limit }
+    {
+        let by_first = ShownBlocks::<'_, ROLES, A, u64> {
             blocks: &self.by_first,
-            permissions: first,
+            of: PhantomData,
         };
-        let by_second = ShownBlocks {
+        let by_second = ShownBlocks::<'_, FIRSTS, u64, A> {
             blocks: &self.by_second,
-            permissions: second,
+            of: PhantomData,
         };
         f.debug_struct("Relation")
             .field("by_first", &by_first)

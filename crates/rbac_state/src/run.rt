@@ -17,6 +17,9 @@ use crate::sorted;
 /// One pair is searched and taken away in about the time in which a pass goes over so many.
 const PASSED_A_SEARCH: usize = 256;
 
+/// Fewer pairs than so many are gone over in the time in which it is seen how many there are of one first.
+const FEW: usize = 64;
+
 /// Where the pairs of one first lie: in a part of one block, which has no others, or in blocks behind one another,
 /// which may begin and end with others.
 #[derive(Clone, Copy)]
@@ -70,6 +73,9 @@ pub fn run_of<const LIMIT: u64>(blocks: &[Vec<Pair<LIMIT>>], first: u64) -> &[Ve
     ensures ascending { IsStrictlySortedBy number_cmp (items_in result.now) }
     ensures filled { AllByRecursion (λ b. 0 < length b.items) (drop 1 result.now) }
 {
+    if blocks.len() <= 1 {
+        return blocks;
+    }
     let start = start_of(blocks, first);
     let end = end_of(blocks, first, start);
     &blocks[start..end]
@@ -192,13 +198,15 @@ pub fn take_away_second<const FIRSTS: u64>(
         ≡ (not (eq_by_cmp nat_cmp b second) && is_among number_cmp (items_in blocks.old.items) (a, b)) }
     ensures room { (room : ℕ) → AreBlocks room blocks.old.items → AreBlocks room blocks.new.items }
 {
-    let run = run_of(turned, second as u64);
-    let passed = count(run, second as u64).saturating_mul(PASSED_A_SEARCH);
-    if have(blocks, passed) {
-        take_away_turned(blocks, run, second);
-    } else {
-        blocks::take_away_second(blocks, second as u64);
+    if have(blocks, FEW) {
+        let run = run_of(turned, second as u64);
+        let passed = count(run, second as u64).saturating_mul(PASSED_A_SEARCH);
+        if have(blocks, passed) {
+            take_away_turned(blocks, run, second);
+            return;
+        }
     }
+    blocks::take_away_second(blocks, second as u64);
 }
 
 /// Takes away the pairs of this first, turned, from a list of pairs in blocks. It takes no memory.

@@ -1,5 +1,6 @@
 //! Searches in ascending lists, for a processor that waits for memory: a step looks at several items, which come
-//! together, and chooses by a number, since a branch would be guessed wrong each second time.
+//! together, and chooses by a number, since a branch would be guessed wrong each second time. Among few items, which
+//! come with one look, a step looks at one.
 
 ghost use Rattle.std.specs.Prelude.{◌≡◌, Bool, true, false, ◌+◌, ◌-◌, ◌/◌, ◌<◌, ◌≤◌, length, IfOk};
 ghost use Rattle.std.specs.List.{HoldsAt};
@@ -57,11 +58,14 @@ pub fn place<T, P: Predicate<T>>(items: &[T], test: &P) -> usize
     ensures place { IsPartitionedBy (P.passes test.now) items.now →
         IsPartitionPoint (λ y. P.passes test.now y ≡ true) (λ y. P.passes test.now y ≡ false) items.now result }
 {
-    let mut size = items.len();
-    if size == 0 {
+    if items.is_empty() {
         return 0;
     }
+    if items.len() <= 64 {
+        return by_halves(items, test, 0, items.len());
+    }
     let mut base = 0;
+    let mut size = items.len();
     while size > 512 {
         base = half(items, test, base, size);
         size -= size / 2;
@@ -76,25 +80,44 @@ pub fn place_near<T, P: Predicate<T>>(items: &[T], test: &P) -> usize
     ensures place { IsPartitionedBy (P.passes test.now) items.now →
         IsPartitionPoint (λ y. P.passes test.now y ≡ true) (λ y. P.passes test.now y ≡ false) items.now result }
 {
-    if items.len() > 8 && !test.passes(&items[8]) {
+    if items.len() > 1 && !test.passes(&items[1]) {
+        at_one(items, test, 0)
+    } else if items.len() > 8 && !test.passes(&items[8]) {
         among_8(items, test, 0, 8)
+    } else if items.len() > 64 && !test.passes(&items[64]) {
+        by_halves(items, test, 0, 64)
     } else {
         place(items, test)
     }
 }
 
+/// The place, where it is in these so many items. It looks at fewer of them than `among_512`, one after another.
+#[inline(always)]
+fn by_halves<T, P: Predicate<T>>(items: &[T], test: &P, from: usize, count: usize) -> usize
+    requires { IsSearching (P.passes test.now) from count items.now }
+    ensures bound { result ≤ length items.now }
+    ensures place { IsPartitionedBy (P.passes test.now) items.now →
+        IsPartitionPoint (λ y. P.passes test.now y ≡ true) (λ y. P.passes test.now y ≡ false) items.now result }
+{
+    let mut base = from;
+    let mut size = count;
+    while size > 1 {
+        base = half(items, test, base, size);
+        size -= size / 2;
+    }
+    at_one(items, test, base)
+}
+
 /// The place, where it is in these so many items.
 #[inline(always)]
 fn among_512<T, P: Predicate<T>>(items: &[T], test: &P, base: usize, size: usize) -> usize
+    requires many { 8 ≤ size }
     requires few { size ≤ 512 }
     requires about { IsSearching (P.passes test.now) base size items.now }
     ensures bound { result ≤ length items.now }
     ensures place { IsPartitionedBy (P.passes test.now) items.now →
         IsPartitionPoint (λ y. P.passes test.now y ≡ true) (λ y. P.passes test.now y ≡ false) items.now result }
 {
-    if size <= 64 {
-        return among_64(items, test, base, size);
-    }
     let (base, size) = eighth(items, test, base, size);
     among_64(items, test, base, size)
 }
@@ -128,10 +151,21 @@ fn among_8<T, P: Predicate<T>>(items: &[T], test: &P, base: usize, size: usize) 
     let rest = size - size / 2;
     let second = half(items, test, first, rest);
     let last = half(items, test, second, rest - rest / 2);
-    if test.passes(&items[last]) {
-        last + 1
+    at_one(items, test, last)
+}
+
+/// The place, where it is before or behind the item here.
+#[inline(always)]
+fn at_one<T, P: Predicate<T>>(items: &[T], test: &P, base: usize) -> usize
+    requires { IsSearching (P.passes test.now) base 1 items.now }
+    ensures bound { result ≤ length items.now }
+    ensures place { IsPartitionedBy (P.passes test.now) items.now →
+        IsPartitionPoint (λ y. P.passes test.now y ≡ true) (λ y. P.passes test.now y ≡ false) items.now result }
+{
+    if test.passes(&items[base]) {
+        base + 1
     } else {
-        last
+        base
     }
 }
 

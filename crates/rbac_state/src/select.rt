@@ -9,18 +9,20 @@ ghost use Rattle.rbac_state.specs.inside.Packed.{permission_of};
 ghost use Rattle.rbac_state.specs.inside.Pairs.{number_cmp, most_firsts};
 ghost use Rattle.rbac_state.specs.inside.Relations.{IsKeptBothWays, relates};
 
+use crate::numbered::Numbered;
+use crate::packed::PERMISSIONS;
 use crate::pair::Pair;
-use crate::policy::{Grants, PERMISSIONS, Permission, Users};
+use crate::policy::{Grants, Permission, Users};
 use crate::run::run_of;
-use crate::second::Second;
 use crate::sorted;
 use std::alloc::{AllocError, Global};
 
-/// Of up to so many roles each is asked about by itself, which is quicker; of more, the first alone is.
-const FEW: usize = 2;
+/// So many roles are asked about by themselves, the first ones: to find the roles that have a permission takes longer
+/// than to ask about one role, and pays where more are asked about.
+const FEW: usize = 4;
 
 /// What the second of each pair of this first stands for.
-pub fn seconds<const LIMIT: u64, B: Second>(
+pub fn seconds<const LIMIT: u64, B: Numbered>(
     alloc: Global,
     blocks: &[Vec<Pair<LIMIT>>],
     first: u64,
@@ -37,7 +39,7 @@ pub fn seconds<const LIMIT: u64, B: Second>(
 }
 
 /// Adds what the second of each pair of this first stands for.
-fn add_seconds<const LIMIT: u64, B: Second>(
+fn add_seconds<const LIMIT: u64, B: Numbered>(
     seconds: &mut Vec<B>,
     blocks: &[Vec<Pair<LIMIT>>],
     first: u64,
@@ -55,7 +57,7 @@ fn add_seconds<const LIMIT: u64, B: Second>(
     Ok(())
 }
 
-fn add_each_second<const LIMIT: u64, B: Second>(
+fn add_each_second<const LIMIT: u64, B: Numbered>(
     seconds: &mut Vec<B>,
     pairs: &[Pair<LIMIT>],
 ) -> Result<(), AllocError>
@@ -158,15 +160,19 @@ pub fn first_granting(
     ensures { result ≡ find (λ role. relates assigned.now user role
         && relates granted.now permission role) roles.now }
 {
-    let alone = if roles.len() <= FEW { roles.len() } else { 1 };
-    let (few, rest) = roles.split_at(alone);
-    if let Some(role) = first_of_few(assigned, granted, user, few, permission) {
-        return Some(role);
+    let (few, rest) = roles.split_at(asked_alone(roles.len()));
+    match first_of_few(assigned, granted, user, few, permission) {
+        Some(role) => Some(role),
+        None => first_of_many(assigned, granted, user, rest, permission),
     }
-    if rest.is_empty() {
-        return None;
-    }
-    first_of_many(assigned, granted, user, rest, permission)
+}
+
+/// So many of these roles are asked about by themselves. To find the roles that have the permission takes as long as
+/// asking about two of them, so that it is worth it from seven roles on.
+fn asked_alone(roles: usize) -> usize
+    ensures { result ≤ roles }
+{
+    if roles <= FEW + 2 { roles } else { FEW }
 }
 
 /// As `first_granting`: each role is asked about by itself.
@@ -207,6 +213,9 @@ fn first_of_many(
     ensures { result ≡ find (λ role. relates assigned.now user role
         && relates granted.now permission role) roles.now }
 {
+    if roles.is_empty() {
+        return None;
+    }
     let grants = granted.of_first(permission);
     if grants.is_empty() {
         return None;

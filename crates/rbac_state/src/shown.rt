@@ -1,73 +1,51 @@
-//! What `{:?}` writes of the pairs in a relation: a permission in place of its number.
+//! What `{:?}` writes of the pairs in a relation: what their numbers stand for.
 
-use crate::packed::unpack;
+ghost use Rattle.std.specs.Prelude.{◌*◌, ◌≤◌, ◌^◌};
+
+use crate::numbered::Numbered;
 use crate::pair::Pair;
 use std::fmt::{Debug, Formatter, Result, Write};
+use std::marker::PhantomData;
 
-/// Which numbers of pairs are of permissions.
-#[derive(Clone, Copy)]
-pub enum Permissions {
-    Nowhere,
-    First,
-    Second,
-}
-
-/// Blocks of pairs, as a list of lists.
+/// Blocks of pairs, as a list of lists. A pair's first number stands for an `A`, its second for a `B`.
 #[derive(Drop)]
-pub struct ShownBlocks<'a, const LIMIT: u64> {
+pub struct ShownBlocks<'a, const LIMIT: u64, A: Numbered, B: Numbered> {
     pub blocks: &'a [Vec<Pair<LIMIT>>],
-    pub permissions: Permissions,
+    pub of: PhantomData<(A, B)>,
+    ghost firsts: { 2 ^ 64 ≤ A.limit * LIMIT },
+    ghost seconds: { LIMIT ≤ B.limit },
 }
 
-impl<'a, const LIMIT: u64> Debug for ShownBlocks<'a, LIMIT> {
+impl<'a, const LIMIT: u64, A: Numbered + Debug, B: Numbered + Debug> Debug
+    for ShownBlocks<'a, LIMIT, A, B> {
     fn fmt<W: Write>(&self, f: &mut Formatter<W>) -> Result {
-        let permissions = self.permissions;
-        f.debug_list()
-            .entries(
-                self.blocks
-                    .iter()
-                    .map(|pairs| ShownBlock { pairs, permissions }),
-            )
-            .finish()
+        let mut list = f.debug_list();
+        for pairs in self.blocks {
+            let _next = list.entry(&ShownBlock::<'_, LIMIT, A, B> {
+                pairs,
+                of: PhantomData,
+            });
+        }
+        list.finish()
     }
 }
 
 /// The pairs of a block, as a list.
 #[derive(Drop)]
-struct ShownBlock<'a, const LIMIT: u64> {
+struct ShownBlock<'a, const LIMIT: u64, A: Numbered, B: Numbered> {
     pairs: &'a [Pair<LIMIT>],
-    permissions: Permissions,
+    of: PhantomData<(A, B)>,
+    ghost firsts: { 2 ^ 64 ≤ A.limit * LIMIT },
+    ghost seconds: { LIMIT ≤ B.limit },
 }
 
-impl<'a, const LIMIT: u64> Debug for ShownBlock<'a, LIMIT> {
+impl<'a, const LIMIT: u64, A: Numbered + Debug, B: Numbered + Debug> Debug
+    for ShownBlock<'a, LIMIT, A, B> {
     fn fmt<W: Write>(&self, f: &mut Formatter<W>) -> Result {
-        let permissions = self.permissions;
-        f.debug_list()
-            .entries(
-                self.pairs.iter().map(|pair| ShownPair {
-                    first: pair.first(),
-                    second: pair.second(),
-                    permissions,
-                }),
-            )
-            .finish()
-    }
-}
-
-/// A pair, as a pair of numbers or of a permission and a number.
-#[derive(Drop)]
-struct ShownPair {
-    first: u64,
-    second: u64,
-    permissions: Permissions,
-}
-
-impl Debug for ShownPair {
-    fn fmt<W: Write>(&self, f: &mut Formatter<W>) -> Result {
-        match self.permissions {
-            Permissions::Nowhere => (self.first, self.second).fmt(f),
-            Permissions::First => (unpack(self.first), self.second).fmt(f),
-            Permissions::Second => (self.first, unpack(self.second)).fmt(f),
+        let mut list = f.debug_list();
+        for pair in self.pairs {
+            let _next = list.entry(&(A::of_number(pair.first()), B::of_number(pair.second())));
         }
+        list.finish()
     }
 }

@@ -3,6 +3,7 @@
 mod bracha_instance_tests;
 mod byz_world_tests;
 mod link_frames_device_tests;
+mod link_frames_tag_tests;
 mod link_frames_tests;
 mod owner_streams_tests;
 mod policy_text_tests;

@@ -11,5 +11,4 @@ pub mod AscendingLemmas
 pub mod PackedLemmas
 pub mod PairLemmas
 pub mod ListedLemmas
-pub mod TakenLemmas
 pub mod Exported

@@ -3,7 +3,6 @@ pub mod Faults
 pub mod Histories
 pub mod Access
 pub mod Answers
-pub mod Voters
 pub mod Nodes
 pub mod Questions
 pub mod Listed

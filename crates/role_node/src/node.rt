@@ -1,18 +1,12 @@
 //! A node, with its history.
 
-ghost use Rattle.std.specs.Prelude.{◌≡◌, ◌<◌, ◌≤◌, ℕ, length, map, slice_get, IfOk, OnOk, OnErr, Ok, IsTrue};
-ghost use Rattle.std.specs.FinSet as sets;
-ghost use Rattle.link_frames.specs.Packets.{PacketValue};
-ghost use Rattle.bracha_instance.specs.declared.instance.Effect.TheVariants.{Counted, Idle};
-ghost use Rattle.owner_streams.specs.Voters.{have_taken};
-ghost use Rattle.role_node.specs.Histories.{packets};
-ghost use Rattle.role_node.specs.declared.event.Event.TheVariants.{Take};
+ghost use Rattle.std.specs.Prelude.{◌≡◌, ◌<◌, ◌≤◌, length, map, slice_get, IfOk, OnOk, OnErr, Ok};
+ghost use Rattle.bracha_instance.specs.declared.instance.Effect.TheVariants.{Counted};
 ghost use Rattle.role_node.specs.Configs.{most_events};
 ghost use Rattle.role_node.specs.Access.{stream_at, reach_at, sessions_at, verdict_at, sent_at};
 ghost use Rattle.role_node.specs.Listed.{IsWithin};
 ghost use Rattle.role_node.specs.Questions.{ask_due, IsAsked, IsAnswerTo};
 ghost use Rattle.role_node.specs.Answers.{outlook, reply_to, is_recorded, IsAnswer, event_of};
-ghost use Rattle.role_node.specs.Voters.{IsOneOf};
 ghost use Rattle.role_node.specs.Nodes.{new_node, due_at, with_event, after_reply, IsLegalNode, AreRepliesOf};
 
 use crate::config::Config;
@@ -22,8 +16,8 @@ use crate::faults::{AskFault, NodeFault};
 use crate::question::{Answer, Question, within};
 use crate::state::State;
 use bracha_instance::Effect;
-use link_frames::{Kind, Place};
-use quorum_sizes::{NodeName, NodeSet};
+use link_frames::Place;
+use quorum_sizes::NodeName;
 use role_commands::Command;
 use role_sessions::Verdict;
 use std::alloc::{AllocError, Global};
@@ -111,21 +105,6 @@ impl Node {
             }
             outlook => outlook,
         }
-    }
-
-    /// Whether each of these nodes' message of that kind was taken at a place of the owner's stream: then
-    /// [`apply`](Self::apply) would answer of each that it is idle. Of a SEND, whether the owner's was, whatever the
-    /// names. There must be one node at least for that, and the owner must be of the node's sizes. It takes no memory.
-    #[inline(always)]
-    pub fn has_taken(&self, kind: Kind, owner: NodeName, place: Place, names: &NodeSet) -> bool
-        requires { owner < self.now.config.roles.sizes.nodes }
-        ensures due { (name : ℕ) → IsTrue (sets.contains names.now name) →
-            result ≡ have_taken self.now.config.roles.sizes (packets self.now.history) kind owner place names.now }
-        ensures idle { (p : PacketValue) → IsOneOf self.now.me kind owner place names.now p →
-            p.from < self.now.config.roles.sizes.nodes → IsTrue result →
-            outlook self.now.config self.now.me self.now.history (Take p) ≡ Ok Idle }
-    {
-        self.state.has_taken(kind, owner, place, names)
     }
 
     /// Records an event that counts, as [`apply`](Self::apply) does where [`look`](Self::look) answers that it does.

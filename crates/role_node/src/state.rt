@@ -1,12 +1,9 @@
 //! What a node keeps beside its history, and how an event changes it.
 
-ghost use Rattle.std.specs.Prelude.{◌≡◌, ℕ, ◌<◌, ◌≤◌, ◌+◌, List, [], IfOk, OnOk, OnErr, Ok, IsTrue, vec_len};
-ghost use Rattle.std.specs.FinSet as sets;
+ghost use Rattle.std.specs.Prelude.{◌≡◌, ℕ, ◌<◌, ◌≤◌, ◌+◌, List, [], IfOk, OnOk, OnErr, vec_len};
 ghost use Rattle.role_commands.specs.Tables.{Table};
 ghost use Rattle.link_frames.specs.Packets.{PacketValue};
-ghost use Rattle.bracha_instance.specs.declared.instance.Effect.TheVariants.{Idle};
 ghost use Rattle.owner_streams.specs.Places.{place_count};
-ghost use Rattle.owner_streams.specs.Voters.{have_taken};
 ghost use Rattle.owner_streams.specs.Values.{IsStateOf, WouldCount};
 ghost use Rattle.rbac_state.specs.Policies.{IsPolicyOf};
 ghost use Rattle.role_sessions.specs.Decisions.{Relations, relations_of};
@@ -14,8 +11,6 @@ ghost use Rattle.role_sessions.specs.Refusals.{AnswersExactly};
 ghost use Rattle.role_sessions.specs.Kept.{KeptAreRight};
 ghost use Rattle.role_node.specs.Access.{verdict_at, sent_at};
 ghost use Rattle.role_node.specs.Answers.{issue_fault, take_outlook, act_fault, or_counted, outlook_with_room};
-ghost use Rattle.role_node.specs.Voters.{IsOneOf};
-ghost use Rattle.role_node.specs.Histories.{packets};
 ghost use Rattle.role_node.specs.Questions.{ask_due, IsAsked, IsAnswerUnder, of_listing_fault};
 ghost use Rattle.role_node.specs.Configs.{most_events};
 ghost use Rattle.role_node.specs.inside.Kept.{obeyed, IsStateAfter, Follows, Stays, IsReached};
@@ -30,7 +25,7 @@ use crate::question::{Answer, Question};
 use bracha_instance::Effect;
 use link_frames::{Kind, Message, Packet, Place};
 use owner_streams::{PLACES, Streams, WINDOW};
-use quorum_sizes::{NodeName, NodeSet};
+use quorum_sizes::NodeName;
 use rbac_state::Policy;
 use role_commands::{Command, Items, RoleTable};
 use role_sessions::{ClientEvent, SessionFault, Sessions, Verdict};
@@ -103,27 +98,6 @@ impl State {
             return Err(NodeFault::Misrouted);
         }
         Ok(self.streams.look(packet)?)
-    }
-
-    /// Whether each of these nodes' message of that kind was taken at a place of the owner's stream, of one at least:
-    /// of a SEND, whether the owner's was, whatever the names.
-    #[inline(always)]
-    pub(crate) fn has_taken(
-        &self,
-        kind: Kind,
-        owner: NodeName,
-        place: Place,
-        names: &NodeSet,
-    ) -> bool
-        requires { owner < self.now.streams.sizes.nodes }
-        ensures due { (roles : Table) (history : List Event) → IsStateAfter roles history self.now →
-            (name : ℕ) → IsTrue (sets.contains names.now name) →
-            result ≡ have_taken roles.sizes (packets history) kind owner place names.now }
-        ensures idle { (roles : Table) (history : List Event) → IsStateAfter roles history self.now →
-            (me : ℕ) (p : PacketValue) → IsOneOf me kind owner place names.now p →
-            p.from < roles.sizes.nodes → IsTrue result → take_outlook roles me history p ≡ Ok Idle }
-    {
-        self.streams.has_taken(kind, owner, place, names)
     }
 
     fn may_act(&self, act: ClientEvent) -> Result<Effect, NodeFault>

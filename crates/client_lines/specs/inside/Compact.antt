@@ -1,5 +1,6 @@
 -- What a line says from a place on.
-use Rattle.std.specs.Prelude.{◌≡◌, ◌<◌, ◌≤◌, ◌⊎◌, ℕ, nat_le, Bool, List, ◌∷◌, length, drop, true, Some}
+use Rattle.std.specs.Prelude.{◌≡◌, ◌<◌, ◌≤◌, ◌⊎◌, ℕ, nat_le, ◌==◌, Bool, true, not, ◌&&◌}
+use Rattle.std.specs.Prelude.{List, ◌∷◌, ◌++◌, codes, length, drop, Some}
 use Rattle.json.specs.Token.{Token, string}
 use Rattle.json.specs.Json.{read_key, value}
 use Rattle.json.specs.Lex.{token, lex, between, Place, fresh, after_value, may_begin, punctuate}
@@ -8,9 +9,9 @@ use Rattle.serde_json.specs.Read.{of_json, converted}
 use Rattle.client_lines.specs.declared.line.Scalar.{Scalar}
 use Rattle.client_lines.specs.inside.Says.{IsScalarOf}
 
--- a byte that stands for itself in a text: a small letter, the underscore, or another that sorts behind it
+-- a byte that stands for itself in a text: all from the blank on but the quote and the backslash
 abbrev pub is_plain : ℕ → Bool
-is_plain x = nat_le 95 x
+is_plain x = nat_le 32 x && not (x == 34) && not (x == 92)
 
 abbrev pub tokens_from : Place → List ℕ → ℕ → List Token
 tokens_from place line at = punctuate place (lex between (drop at line))
@@ -27,6 +28,11 @@ pub record IsName (line : List ℕ) (at : ℕ) (name : List ℕ) (end : ℕ) : T
   pub within : end ≤ length line
   pub key : (place : Place) → may_begin place ≡ true
       → read_key (tokens_from place line at) ≡ Some (Some name, tokens_from fresh line end)
+
+-- at a place stands true, false or null, up to another place
+abbrev pub IsWord : List ℕ → ℕ → ℕ → Type 0
+IsWord line at end = (drop at line ≡ codes "true" ++ drop end line)
+    ⊎ ((drop at line ≡ codes "false" ++ drop end line) ⊎ (drop at line ≡ codes "null" ++ drop end line))
 
 -- a value ends there: a comma or a closing brace comes next
 abbrev pub EndsValue : List ℕ → ℕ → Type 0

@@ -4,14 +4,12 @@ use Rattle.std.specs.Prelude.{◌≡◌, ℕ, ◌+◌, Bool, false, List, [], �
 use Rattle.std.specs.Prelude.{unwrap_or, option_and_then, Option, Some, None}
 use Rattle.std.specs.FinMap as maps
 use Rattle.quorum_sizes.specs.Sizes.{Counts}
-use Rattle.quorum_sizes.specs.NodeSets.{Nodes}
 use Rattle.role_commands.specs.declared.command.Command.{Command}
 use Rattle.link_frames.specs.declared.kind.Kind.{Kind}
 use Rattle.bracha_instance.specs.Broadcast.{Take}
 use Rattle.bracha_instance.specs.States.{State, state}
 use Rattle.bracha_instance.specs.NewTakes.{taken_for}
 use Rattle.bracha_instance.specs.Taking.{has_voted, newly_sent, newly_delivered}
-use Rattle.bracha_instance.specs.Voters.{have_voted}
 use Rattle.bracha_instance.specs.declared.instance.Caused.{Caused}
 use Rattle.bracha_instance.specs.declared.instance.Taken.{Taken}
 use Rattle.owner_streams.specs.declared.steps.Again.{Again}
@@ -38,11 +36,6 @@ again_in slot = record {
 abbrev pub voted_in : Option State → Kind → ℕ → Bool
 voted_in None kind name = false
 voted_in (Some st) kind name = has_voted st kind name
-
--- .. and of these nodes, of one at least
-abbrev pub all_voted_in : Option State → Kind → Nodes → Bool
-all_voted_in None kind names = false
-all_voted_in (Some st) kind names = have_voted st kind names
 
 -- what an instance sends and delivers by one more message
 pub record IsTaken (s : Counts) (takes : List Take) (t : Take) (taken : Taken) : Type 0 where

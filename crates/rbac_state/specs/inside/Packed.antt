@@ -5,11 +5,7 @@ use Rattle.std.specs.Prelude.{ℕ, ◌+◌, ◌*◌, ◌/◌, ◌%◌}
 abbrev pub packed : ℕ × ℕ → ℕ
 packed p = p.0 * 4294967296 + p.1
 
--- the permission of any number: one that a relation keeps has none of the digits that are cut off here
-abbrev pub unpacked : ℕ → ℕ × ℕ
-unpacked n = (n / 4294967296 % 65536, n % 4294967296)
-
--- the permission of a number below 2 ^ 48
+-- the permission of a number
 abbrev pub permission_of : ℕ → ℕ × ℕ
 permission_of n = (n / 4294967296, n % 4294967296)
 

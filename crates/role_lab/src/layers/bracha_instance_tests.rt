@@ -2,7 +2,7 @@
 
 use bracha_instance::*;
 use link_frames::Kind;
-use quorum_sizes::{NodeName, NodeSet, Sizes};
+use quorum_sizes::{NodeName, Sizes};
 use role_commands::Command;
 use std::process::Abort;
 use std::test::Fail;
@@ -161,63 +161,5 @@ fn a_record_takes_what_comes_late(rt: HostRuntime) -> Result<(), Fail> {
     assert!(rt; record.voted(Kind::Ready, name));
     assert!(rt; record.echoed() == Some(ASSIGN) && record.readied() == Some(ASSIGN));
     assert!(rt; record.delivered() == ASSIGN);
-    Ok(())
-}
-
-static SOME_VOTES: [(Kind, u8); 5] = [
-    (Kind::Send, 0),
-    (Kind::Echo, 1),
-    (Kind::Echo, 3),
-    (Kind::Ready, 1),
-    (Kind::Ready, 2),
-];
-
-/// Whether the messages of two nodes were taken then: of a SEND, whether the owner's was.
-static BOTH_VOTED: [(Kind, [u8; 2], bool); 7] = [
-    (Kind::Send, [0, 0], true),
-    (Kind::Send, [2, 3], true),
-    (Kind::Echo, [1, 3], true),
-    (Kind::Echo, [3, 3], true),
-    (Kind::Echo, [1, 2], false),
-    (Kind::Ready, [1, 2], true),
-    (Kind::Ready, [1, 3], false),
-];
-
-fn both(indices: &[u8]) -> Result<NodeSet, Fail> {
-    let mut names = NodeSet::new();
-    for index in indices {
-        names.insert(name(*index)?);
-    }
-    Ok(names)
-}
-
-#[test]
-fn votes_of_two_nodes(rt: HostRuntime) -> Result<(), Fail> {
-    let mut instance = Instance::new(rt.alloc());
-    for (row, (kind, names, _)) in BOTH_VOTED.iter().enumerate() {
-        assert!(rt; !instance.all_voted(*kind, &both(names)?), "row {row}");
-    }
-    for (kind, from) in &SOME_VOTES {
-        taken(&mut instance, *kind, *from, ASSIGN)?;
-    }
-    for (row, (kind, names, due)) in BOTH_VOTED.iter().enumerate() {
-        let came = instance.all_voted(*kind, &both(names)?);
-        assert!(rt; came == *due, "row {row}: {due} is due, not {came}");
-    }
-    taken(&mut instance, Kind::Ready, 0, ASSIGN)?;
-    let record = instance.record().ok_or("nothing is delivered")?;
-    for (row, (kind, names, due)) in BOTH_VOTED.iter().enumerate() {
-        let came = record.all_voted(*kind, &both(names)?);
-        assert!(rt; came == *due, "row {row}: {due} is due, not {came}");
-    }
-    Ok(())
-}
-
-#[test]
-fn a_record_without_a_send(rt: HostRuntime) -> Result<(), Fail> {
-    let record = record_of_three(&mut Instance::new(rt.alloc()))?;
-    let names = both(&[0, 1])?;
-    assert!(rt; !record.all_voted(Kind::Send, &names) && !record.all_voted(Kind::Echo, &names));
-    assert!(rt; record.all_voted(Kind::Ready, &names));
     Ok(())
 }

@@ -5,7 +5,7 @@ ghost use Rattle.std.specs.Prelude.{◌≡◌, ◌<◌, IfOk};
 use bracha_instance::Effect;
 use link_frames::{Kind, Message, Packet, Place};
 use owner_streams::*;
-use quorum_sizes::{NodeName, NodeSet, Sizes};
+use quorum_sizes::{NodeName, Sizes};
 use role_commands::Command;
 use std::alloc::Global;
 use std::fmt;
@@ -58,8 +58,6 @@ enum Act {
     Take(Kind, u8, Place, Command, Due),
     /// What a READY from node 3 would be at a place.
     Look(Place, Result<Effect, StreamFault>),
-    /// Whether the messages of this kind of two nodes were taken at a place: of a SEND, whether the owner's was.
-    Taken(Kind, [u8; 2], Place, bool),
     Reach(u32),
     Command(Place, Option<Command>),
     /// What is sent again at a place.
@@ -105,14 +103,6 @@ impl Four {
         Ok(Packet::new(from, owner, message).ok_or("no packet")?)
     }
 
-    fn has_taken(&self, kind: Kind, indices: &[u8], place: Place) -> Result<bool, Fail> {
-        let mut names = NodeSet::new();
-        for index in indices {
-            names.insert(self.sizes.name(*index).ok_or("no node")?);
-        }
-        Ok(self.streams.has_taken(kind, self.owner, place, &names))
-    }
-
     /// What is seen of the first places of the stream.
     fn seen(&self) -> (u32, Option<Command>, Again, Again) {
         let (streams, owner) = (&self.streams, self.owner);
@@ -154,9 +144,6 @@ impl Four {
             Act::Look(place, due) => {
                 let packet = self.packet(Kind::Ready, 3, *place, FIRST)?;
                 check_row(rt, row, &self.streams.look(&packet), due);
-            }
-            Act::Taken(kind, names, place, due) => {
-                check_row(rt, row, &self.has_taken(*kind, names, *place)?, due);
             }
             Act::Reach(due) => check_row(rt, row, &self.streams.reach(self.owner), due),
             Act::Command(place, due) => {
@@ -247,34 +234,4 @@ static LATE: [Act; 9] = [
 #[test]
 fn late_messages_count(rt: HostRuntime) -> Result<(), Fail> {
     play(&rt, rt.alloc(), &LATE)
-}
-
-/// At place 0 in the window and below the reach, at places without a message, and at the ends of the window.
-static TAKEN: [Act; 21] = [
-    Act::Taken(Kind::Ready, [0, 2], 0, false),
-    Act::Take(Kind::Ready, 0, 0, FIRST, Due::Counts(0)),
-    Act::Taken(Kind::Ready, [0, 0], 0, true),
-    Act::Taken(Kind::Ready, [0, 2], 0, false),
-    Act::Take(Kind::Ready, 2, 0, FIRST, Due::Sends(Kind::Ready, 0)),
-    Act::Taken(Kind::Ready, [0, 2], 0, true),
-    Act::Taken(Kind::Ready, [0, 2], 1, false),
-    Act::Taken(Kind::Echo, [0, 2], 0, false),
-    Act::Taken(Kind::Send, [0, 0], 0, false),
-    Act::Take(Kind::Send, 0, 0, FIRST, Due::Sends(Kind::Echo, 0)),
-    Act::Taken(Kind::Send, [0, 0], 0, true),
-    Act::Take(Kind::Ready, 3, 0, FIRST, Due::Delivers(0, 1)),
-    Act::Taken(Kind::Ready, [2, 3], 0, true),
-    Act::Taken(Kind::Ready, [1, 3], 0, false),
-    Act::Taken(Kind::Send, [0, 0], 0, true),
-    Act::Take(Kind::Ready, 3, 1, SECOND, Due::Counts(1)),
-    Act::Taken(Kind::Ready, [3, 3], 1, true),
-    Act::Taken(Kind::Ready, [3, 3], 64, false),
-    Act::Take(Kind::Ready, 3, 64, SECOND, Due::Counts(1)),
-    Act::Taken(Kind::Ready, [3, 3], 64, true),
-    Act::Taken(Kind::Ready, [3, 3], 65, false),
-];
-
-#[test]
-fn messages_of_two_nodes(rt: HostRuntime) -> Result<(), Fail> {
-    play(&rt, rt.alloc(), &TAKEN)
 }

@@ -199,3 +199,100 @@ fn blocks_are_written_as_derived(rt: HostRuntime) -> Result<(), Fail> {
     }
     check_text(&rt, rt.alloc(), &Pairs { assigned, granted }, &[195, 390])
 }
+
+/// So many pairs that they lie in five blocks in either order: those of role 2 lie in the first two.
+fn five_blocks(alloc: Global) -> Result<Pairs, Fail> {
+    let mut assigned = Vec::new(alloc);
+    let mut granted = Vec::new(alloc);
+    for number in 0..1000u32 {
+        let role = if number < 390 { 2 } else { 65_535 };
+        assigned.push((number, role))?;
+        granted.push(((0u16, number), role))?;
+    }
+    Ok(Pairs { assigned, granted })
+}
+
+#[test]
+fn five_blocks_are_written_as_derived(rt: HostRuntime) -> Result<(), Fail> {
+    let pairs = five_blocks(rt.alloc())?;
+    check_text(&rt, rt.alloc(), &pairs, &[195, 390, 585, 780])
+}
+
+/// These parts of the items, each in a block.
+fn parts<T: Copy + Drop>(
+    alloc: Global,
+    items: &[T],
+    parts: &[(usize, usize)],
+) -> Result<Vec<Vec<T>>, Fail> {
+    let mut blocks = Vec::new(alloc);
+    for (from, end) in parts {
+        let block = items.get(*from..*end).ok_or("too few items")?;
+        blocks.push(block.to_vec(alloc)?)?;
+    }
+    Ok(blocks)
+}
+
+/// The relation of these parts of pairs whose numbers ascend on either side, each part in a block.
+fn left_of<A: Copy + Drop, B: Copy + Drop>(
+    alloc: Global,
+    pairs: &[(A, B)],
+    left: &[(usize, usize)],
+    room: usize,
+) -> Result<Relation<A, B>, Fail> {
+    let turned = pairs
+        .iter()
+        .map(|pair| (pair.1, pair.0))
+        .collect::<Vec<(B, A)>>(alloc)?;
+    Ok(Relation {
+        by_first: parts(alloc, pairs, left)?,
+        by_second: parts(alloc, &turned, left)?,
+        room,
+    })
+}
+
+/// The policy of five blocks after these commands must be written with these parts of its pairs, each in a block.
+fn check_left(
+    rt: &impl Abort,
+    alloc: Global,
+    commands: &[Command],
+    left: &[(usize, usize)],
+) -> Result<(), Fail> {
+    let pairs = five_blocks(alloc)?;
+    let mut came = policy_after(alloc, &pairs)?;
+    let owner = came.roles().sizes().name(0).ok_or("no name")?;
+    for command in commands {
+        came.make_room()?;
+        came.apply(owner, *command);
+    }
+    let due = Policy {
+        roles: roles(alloc)?,
+        assigned: left_of(alloc, &pairs.assigned, left, room_after(1000, 1000))?,
+        granted: left_of(alloc, &pairs.granted, left, room_after(1000, 1))?,
+    };
+    assert!(rt; format!(in alloc; "{came:?}")? == format!(in alloc; "{due:?}")?);
+    assert!(rt; format!(in alloc; "{came:#?}")? == format!(in alloc; "{due:#?}")?);
+    Ok(())
+}
+
+/// The first block stays where it is empty, and another is dropped.
+#[test]
+fn pairs_that_went_are_not_written(rt: HostRuntime) -> Result<(), Fail> {
+    let mut commands = Vec::new(rt.alloc());
+    for number in (0..195u32).chain(390..585) {
+        let role = if number < 390 { 2 } else { 65_535 };
+        commands.push(Command::Deassign { user: number, role })?;
+        commands.push(Command::Revoke {
+            role,
+            operation: 0,
+            object: number,
+        })?;
+    }
+    let left = [(0, 0), (195, 390), (585, 780), (780, 1000)];
+    check_left(&rt, rt.alloc(), &commands, &left)
+}
+
+#[test]
+fn a_cleared_role_is_not_written(rt: HostRuntime) -> Result<(), Fail> {
+    let left = [(0, 0), (390, 585), (585, 780), (780, 1000)];
+    check_left(&rt, rt.alloc(), &[Command::Clear { role: 2 }], &left)
+}

@@ -54,38 +54,3 @@ fn sets_of_nodes(rt: HostRuntime) -> Result<(), Fail> {
     assert!(rt; quorums_meet(&sizes, &one, &both).len() == 1);
     Ok(())
 }
-
-/// A set of nodes among 128.
-fn set_of(indices: &[u8]) -> Result<NodeSet, Fail> {
-    let sizes = Sizes::new(128, 42)?;
-    let mut set = NodeSet::new();
-    for index in indices {
-        set.insert(sizes.name(*index).ok_or("no name")?);
-    }
-    Ok(set)
-}
-
-#[test]
-fn subsets(rt: HostRuntime) -> Result<(), Fail> {
-    let none = NodeSet::new();
-    let ends = set_of(&[0, 127])?;
-    let across = set_of(&[0, 63, 64, 65, 127])?;
-    for (row, (names, other, due)) in [
-        (none, none, true),
-        (none, ends, true),
-        (ends, none, false),
-        (ends, ends, true),
-        (ends, across, true),
-        (across, ends, false),
-        (set_of(&[63, 64])?, across, true),
-        (set_of(&[64, 66])?, across, false),
-        (set_of(&[126])?, ends, false),
-    ]
-    .iter()
-    .enumerate()
-    {
-        let came = names.is_subset(other);
-        assert!(rt; came == *due, "row {row}: {due} is due, not {came}");
-    }
-    Ok(())
-}

@@ -161,7 +161,7 @@ fn pairs_are_found(rt: HostRuntime) -> Result<(), Fail> {
 /// A user, roles, an operation and an object, and the first role that is due.
 type Asked = (u32, &'static [u16], u16, u32, Option<u16>);
 
-static FIRST_ROLES: [Asked; 15] = [
+static FIRST_ROLES: [Asked; 26] = [
     (7, &[], 5, 9, None),
     (7, &[2], 5, 9, Some(2)),
     (7, &[9], 5, 9, None),
@@ -177,6 +177,17 @@ static FIRST_ROLES: [Asked; 15] = [
     (7, &[2, 3, 9], 6, 2, None),
     (8, &[2, 9, 3], 5, 9, Some(3)),
     (8, &[2, 2, 9, 65_535], 5, 9, None),
+    (7, &[2, 3, 9, 9, 9], 5, 9, Some(2)),
+    (7, &[9, 3, 2, 9, 9, 2], 5, 9, Some(3)),
+    (7, &[9, 9, 65_535, 9, 3], 6, 1, Some(3)),
+    (8, &[2, 2, 9, 65_535, 9, 2, 9, 9, 3, 2], 5, 9, Some(3)),
+    (7, &[2, 9, 2, 9, 2, 9, 2, 9, 2, 9], 6, 1, None),
+    (7, &[2, 3, 2, 3, 2, 3, 2, 3, 2, 3], 6, 2, None),
+    (8, &[2, 9, 65_535, 9, 2, 9, 2, 9, 2], 5, 9, None),
+    (8, &[2, 9, 2, 9, 2, 3], 5, 9, Some(3)),
+    (8, &[2, 9, 2, 9, 2, 9, 3], 5, 9, Some(3)),
+    (8, &[2, 9, 2, 9, 3, 9, 2], 5, 9, Some(3)),
+    (8, &[2, 9, 2, 9, 2, 9, 2], 5, 9, None),
 ];
 
 /// Of few roles and of many, the first, a later one or none grants: the user has it, and it has the permission.
@@ -375,4 +386,52 @@ fn many_users_in_order(rt: HostRuntime) -> Result<(), Fail> {
     apply_all(&mut policy, &[(0, Command::Clear { role: 2 })])?;
     check_users(&rt, 2, &policy, 2, &[])?;
     check_users(&rt, 3, &policy, 3, &due(rt.alloc(), &[3])?)
+}
+
+/// What role 2 may do in `many_permissions_in_order`, of which role 3 may do each second, and as much on other objects.
+fn permission(k: u32) -> (u16, u32) {
+    (if k % 3 == 0 { 65_535 } else { 4 }, scattered(k))
+}
+
+fn grant_many(policy: &mut Policy) -> Result<(), Fail> {
+    let node = policy.roles().sizes().name(0).ok_or("no name")?;
+    for k in 0..5000 {
+        let (operation, object) = permission(k);
+        policy.make_room()?;
+        policy.apply(node, grant(2, operation, object));
+        let object = if k % 2 == 0 {
+            object
+        } else {
+            object.wrapping_add(65_536)
+        };
+        policy.apply(node, grant(3, operation, object));
+    }
+    Ok(())
+}
+
+/// So many that they lie in several blocks, of one role and of two with some in common.
+#[test]
+fn many_permissions_in_order(rt: HostRuntime) -> Result<(), Fail> {
+    let mut policy = policy_after(
+        rt.alloc(),
+        &[(0, assign(7, 2)), (0, assign(8, 3)), (0, assign(8, 2))],
+    )?;
+    grant_many(&mut policy)?;
+    let mut due = Vec::new(rt.alloc());
+    for k in 0..5000 {
+        due.push(permission(k))?;
+    }
+    due.sort_unstable();
+    check_row(&rt, 0, policy.role_permissions(2)?.as_slice(), &due);
+    check_row(&rt, 1, policy.user_permissions(7)?.as_slice(), &due);
+    for k in 0..5000 {
+        let (operation, object) = permission(k);
+        if k % 2 == 1 {
+            due.push((operation, object + 65_536))?;
+        }
+    }
+    due.sort_unstable();
+    check_row(&rt, 2, policy.user_permissions(8)?.as_slice(), &due);
+    check_row(&rt, 3, policy.permissions_of(&[3, 2])?.as_slice(), &due);
+    Ok(())
 }

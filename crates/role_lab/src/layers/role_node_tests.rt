@@ -3,7 +3,7 @@
 ghost use Rattle.std.specs.Prelude.{◌≡◌, ◌<◌, IfOk};
 
 use link_frames::{Kind, Message, Packet, Place};
-use quorum_sizes::{NodeName, NodeSet, Sizes};
+use quorum_sizes::{NodeName, Sizes};
 use role_commands::{Command, RoleTable, TableFault};
 use role_node::*;
 use role_sessions::SessionFault;
@@ -83,8 +83,6 @@ enum Step {
     Client(ClientEvent, Due),
     /// A READY to this node, with its sender, owner, place and command.
     Ready(u8, u8, Place, Command, Due),
-    /// Whether the messages of this kind of two nodes were taken at a place of node 0's stream.
-    Taken(Kind, [u8; 2], Place, bool),
     /// A READY to node 2.
     Elsewhere(NodeFault),
     /// A check of operation 5 on object 9 in a session, by a user.
@@ -278,7 +276,6 @@ fn due_to(node: &Node, step: &Step) -> Result<Came, Fail> {
         Step::Ready(_, owner, place, command, due) => {
             Came::Answer(due.answer(Some(ready(node, *owner, *place, *command)?)))
         }
-        Step::Taken(_, _, _, due) => Came::Holds(*due),
         Step::Check(_, _, verdict) => Came::Verdict(*verdict),
         Step::Lists(_, listed) => Came::Lists(Some(*listed)),
         Step::Stream(reach, _, command, ready) => Came::Stream(*reach, *command, *ready),
@@ -302,7 +299,6 @@ fn came_of(node: &mut Node, step: &Step) -> Result<Came, Fail> {
             let message = ready(node, *owner, *place, *command)?;
             Came::Answer(take(node, name(node, *from)?, node.me(), message)?)
         }
-        Step::Taken(kind, names, place, _) => Came::Holds(has_taken(node, *kind, names, *place)?),
         Step::Elsewhere(_) => {
             let message = ready(node, 0, 0, FIRST)?;
             Came::Answer(take(node, node.me(), name(node, 2)?, message)?)
@@ -314,14 +310,6 @@ fn came_of(node: &mut Node, step: &Step) -> Result<Came, Fail> {
         Step::Window => Came::Holds(fills_window(node)?),
         Step::ManyRoles => Came::Holds(activates_many_roles(node)?),
     })
-}
-
-fn has_taken(node: &Node, kind: Kind, indices: &[u8], place: Place) -> Result<bool, Fail> {
-    let mut names = NodeSet::new();
-    for index in indices {
-        names.insert(name(node, *index)?);
-    }
-    Ok(node.has_taken(kind, name(node, 0)?, place, &names))
 }
 
 /// Of node 0's stream: the reach, and the command and the READY sent at a place.
@@ -390,36 +378,6 @@ fn a_stream_without_a_gap(rt: HostRuntime) -> Result<(), Fail> {
         1,
         &NO_GAP,
     )
-}
-
-static TAKEN: [Step; 11] = [
-    Step::Taken(Kind::Ready, [0, 2], 0, false),
-    Step::Ready(0, 0, 0, FIRST, Due::Counts(0)),
-    Step::Taken(Kind::Ready, [0, 0], 0, true),
-    Step::Taken(Kind::Ready, [0, 2], 0, false),
-    Step::Ready(2, 0, 0, FIRST, Due::Sends(0)),
-    Step::Taken(Kind::Ready, [0, 2], 0, true),
-    Step::Taken(Kind::Echo, [0, 2], 0, false),
-    Step::Ready(3, 0, 0, FIRST, Due::Delivers(0, 1)),
-    Step::Taken(Kind::Ready, [2, 3], 0, true),
-    Step::Taken(Kind::Send, [2, 3], 0, false),
-    Step::Taken(Kind::Ready, [2, 3], 1, false),
-];
-
-static ALL_TAKEN: [Step; 5] = [
-    Step::Taken(Kind::Send, [0, 0], 0, false),
-    Step::Publish(FIRST),
-    Step::Taken(Kind::Send, [0, 0], 0, true),
-    Step::Taken(Kind::Echo, [0, 0], 0, true),
-    Step::Taken(Kind::Ready, [0, 0], 0, true),
-];
-
-#[test]
-fn messages_of_several_nodes(rt: HostRuntime) -> Result<(), Fail> {
-    let four = config(rt.alloc(), 4, 1, 4, 100)?;
-    play(&rt, rt.alloc(), four, 1, &TAKEN)?;
-    let one = config(rt.alloc(), 1, 0, 4, 100)?;
-    play(&rt, rt.alloc(), one, 0, &ALL_TAKEN)
 }
 
 static LATE: [Step; 7] = [

@@ -1,4 +1,4 @@
-use Rattle.std.proofs.Common.{◌≡◌, ◌∙◌, ◌+◌, ◌*◌, ◌++◌, true, get_or, drop, decimal, sym, ap, arith}
+use Rattle.std.proofs.Common.{◌≡◌, ◌∙◌, ◌+◌, ◌++◌, true, get_or, drop, decimal, sym, ap, arith}
 use Rattle.std.proofs.lemmas.Bool.{leb-true, and_parts}
 use Rattle.std.specs.Char.{is_ascii_digit}
 use Rattle.client_lines.proofs.CompactLemmas.{number_begun, number_more}
@@ -31,8 +31,8 @@ loop-end-preserved c =
     let high = leb-true x 57 both.1 in
     record {
       digits = number_more line c.args.at l.number l.end l.invariant.digits c.loop-end-test.true (omega arith)
-          c.if-number-ge-LARGE_NUMBER.false low high
-          ∙ ap (λ d. decimal (l.number * 10 + d) ++ drop (l.end + 1) line) (sym c.from.ensures);
+          (omega arith) low high
+          ∙ ap (λ n. decimal n ++ drop (l.end + 1) line) (sym c.in_ok-number.ensures);
       small = omega arith;
       forward = omega arith;
       within = omega arith;

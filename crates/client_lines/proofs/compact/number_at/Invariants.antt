@@ -4,7 +4,7 @@ use Rattle.client_lines.proofs.compact.number_at.Given as goal
 abbrev pub invariant-loop-end : goal.invariant-loop-end
 invariant-loop-end l = record {
   digits : drop l.at l.bytes ≡ decimal l.number ++ drop l.end l.bytes;
-  small : l.number < 10 ^ 19;
+  small : l.number < 2 ^ 64;
   forward : l.at < l.end;
   within : l.end ≤ length l.bytes;
 }

@@ -81,4 +81,4 @@ returns c = λ b e.
     let v56 = c.four_rounds-v56.ensures b h (fewer_due b _ 64 56 (omega arith) due) v52 in
     let v60 = c.four_rounds-v60.ensures b h (fewer_due b _ 64 60 (omega arith) due) v56 in
     let v64 = c.four_rounds.ensures b h due v60 in
-    c.added.ensures ∙ ap (add_state h) v64
+    c.next_hash.ensures ∙ ap (add_state h) v64

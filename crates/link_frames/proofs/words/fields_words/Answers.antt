@@ -5,11 +5,11 @@ use Rattle.link_frames.proofs.words.fields_words.Goals as goal
 pub returns : goal.returns
 returns c =
     rw (
-      c.word_at.ensures,
-      c.word_at-2.ensures,
-      c.word_at-3.ensures,
-      c.word_at-4.ensures,
-      c.word_at-5.ensures,
+      c.word_from.ensures,
+      c.word_from-2.ensures,
+      c.word_from-3.ensures,
+      c.word_from-4.ensures,
+      c.word_from-5.ensures,
       c.from_be_bytes.ensures,
     )
     (words_of_fields c.args.fields.now (omega arith))

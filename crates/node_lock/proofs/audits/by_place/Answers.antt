@@ -16,7 +16,7 @@ returns c =
     let K : List Key → Type 0 = λ ks. IsRest c.args.receipts.now 0 (receipts_of (behind ks)) in
     subst P (sym (c.loop-key.invariant ∙ ap behind (take_all c.loop-key.key-index keys c.loop-key-test.false)))
     (subst K (sym c.as_slice-key-items.ensures.value)
-    (rest_of_keys c.args.receipts.now c.loop-receipt.keys.items c.sort_by_key.new.self.items all
-    c.loop-receipt.invariant.keyed c.in_ok-sort_by_key.ensures.permutation
-    (IsNonDecreasingBy-from_sort_by_key (λ (k : Key). k.0) _ c.in_ok-sort_by_key.ensures.sorted
+    (rest_of_keys c.args.receipts.now c.loop-receipt.keys.items c.sort_unstable_by_key.new.self.items all
+    c.loop-receipt.invariant.keyed c.sort_unstable_by_key.ensures.permutation
+    (IsNonDecreasingBy-from_sort_by_key (λ (k : Key). k.0) _ c.sort_unstable_by_key.ensures.sorted
     (λ a r q k. search rules))))

@@ -10,19 +10,19 @@ use Rattle.rbac_state.proofs.RelationLemmas.{among_others}
 use Rattle.rbac_state.proofs.TurnedLemmas.{others_left}
 use Rattle.rbac_state.proofs.run.take_away_second.Goals as goal
 
-pub returns-then-have-clause-members : goal.returns-then-have-clause-members
-returns-then-have-clause-members g c a b =
+pub returns-then-have-2-clause-members : goal.returns-then-have-2-clause-members
+returns-then-have-2-clause-members g c a b =
     others_left nat_cmp nat_cmp_total c.args.second (items_in c.args.turned.now)
     (items_in c.run_of-run.result.now) (items_in c.args.blocks.now.items) a b
     (is_among number_cmp (items_in c.take_away_turned.new.blocks.items) (a, b))
     c.run_of-run.ensures.same (c.requires.same a b) (c.take_away_turned.ensures.members (a, b))
 
-pub returns-else-have-clause-ascending : goal.returns-else-have-clause-ascending
-returns-else-have-clause-ascending g c =
+pub returns-clause-ascending : goal.returns-clause-ascending
+returns-clause-ascending g c =
     subst (IsStrictlySortedBy number_cmp) (sym c.take_away_second.ensures.items)
     (IsStrictlySortedBy-filter number_cmp _ _ c.requires.ascending)
 
-pub returns-else-have-clause-members : goal.returns-else-have-clause-members
-returns-else-have-clause-members g c a b =
+pub returns-clause-members : goal.returns-clause-members
+returns-clause-members g c a b =
     ap (λ l. is_among number_cmp l (a, b)) c.take_away_second.ensures.items
     ∙ among_others nat_cmp nat_cmp_total c.args.second (items_in c.args.blocks.now.items) a b

@@ -7,5 +7,5 @@ abbrev pub invariant-loop-block : goal.invariant-loop-block
 invariant-loop-block g l =
     l.seconds.items
     ≡ l.initial.seconds.items
-    ++ map (λ p. g.B.Second.of p.1) (filter (λ p. eq_by_cmp nat_cmp l.first p.0)
+    ++ map (λ p. g.B.Numbered.of p.1) (filter (λ p. eq_by_cmp nat_cmp l.first p.0)
     (items_in (take l.block-index l.alike)))

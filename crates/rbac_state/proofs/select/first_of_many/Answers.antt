@@ -6,8 +6,8 @@ use Rattle.rbac_state.proofs.FoundLemmas.{found_among, found_none}
 use Rattle.rbac_state.proofs.select.first_of_many.Goals as goal
 use Rattle.rbac_state.proofs.select.first_of_many.Goals.{else-has-via-then-has+else-has-2, else-has-via-else-has}
 
-pub returns-then-is_empty : goal.returns-then-is_empty
-returns-then-is_empty c =
+pub returns-then-is_empty-2 : goal.returns-then-is_empty-2
+returns-then-is_empty-2 c =
     let users = c.args.assigned.now in
     let grants = c.args.granted.now in
     sym (find_never (λ role. relates users c.args.user role
@@ -15,7 +15,7 @@ returns-then-is_empty c =
     ap (λ b. relates users c.args.user role && b)
     (found_none c.args.permission
     (items_in grants.by_first.items) c.of_first-grants.result c.of_first-grants.ensures
-    (c.is_empty.ensures c.if-is_empty.true) role)
+    (c.is_empty-2.ensures c.if-is_empty-2.true) role)
     ∙ and_false (relates users c.args.user role)))
 
 pub returns-then-has-2 : goal.returns-then-has-2

@@ -8,6 +8,6 @@ returns c =
     let hash = c.compress-inner.ensures _ c.fields_words.ensures in
     let last = c.compress.ensures _ c.digest_words.ensures in
     rw (← c.self.view_is)
-    (c.digest.ensures
+    (c.hash_bytes.ensures
     ∙ hmac_from key.key c.args.fields.now key.inner key.outer _ _ (omega arith) (omega arith)
     c.self.invariant hash last)

@@ -1,8 +1,0 @@
-use Rattle.std.proofs.Common.{arith}
-use Rattle.link_frames.proofs.Rotations.{nested}
-use Rattle.link_frames.proofs.sha256.big_sigma1.Goals as goal
-
-pub returns : goal.returns
-returns c =
-    rw (c.rotate_right-3.ensures, c.rotate_right-2.ensures, c.rotate_right.ensures)
-    (nested c.args.x 6 5 14 (omega arith) (omega arith) (omega arith) (omega arith) (omega arith))
