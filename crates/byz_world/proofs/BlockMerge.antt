@@ -27,7 +27,7 @@ use Rattle.role_node.specs.declared.event.Event.TheVariants as event
 use Rattle.byz_world.specs.Runs.{Run, history_of}
 use Rattle.byz_world.specs.Pools.{Sent, listed, messages, pool}
 use Rattle.byz_world.specs.Worlds.{WorldValue, node_in, node_due, is_correct_in, IsClusterRunOf}
-use Rattle.byz_world.specs.Progress.{counts_now}
+use Rattle.byz_world.specs.Giving.{counts_now}
 use Rattle.byz_world.specs.Settled.{IsProlonged}
 use Rattle.byz_world.specs.Steps.{arrival, given, is_pool_full, recorded_pair, with_run, after_step, after_steps}
 use Rattle.byz_world.specs.Settled.{after_gives}

@@ -1,8 +1,10 @@
 -- The fields of a world after a block of messages was given.
 use Rattle.std.proofs.Common.{◌≡◌, ℕ, zero, suc, ◌+◌, ◌-◌, ◌*◌, ◌<◌, ◌≤◌, ⊎_elim, Bool, true, false, ◌==◌}
-use Rattle.std.proofs.Common.{List, [], ◌∷◌, ◌++◌, length, take, drop, Some, None, refl, sym, ap, ◌∙◌, subst, arith}
+use Rattle.std.proofs.Common.{List, [], ◌∷◌, ◌++◌, length, take, drop, Option, Some, None, refl, sym, ap, ◌∙◌}
+use Rattle.std.proofs.Common.{subst, arith}
+use Rattle.std.specs.Option.{option_map_or}
 use Rattle.std.proofs.Common.{append_assoc, length-append, length-drop, take_all}
-use Rattle.std.specs.Prelude.{if◌then◌else◌, nat_lt, min, slice_get, map, option_map, ◌/◌, ◌%◌}
+use Rattle.std.specs.Prelude.{if◌then◌else◌, nat_lt, min, slice_get, map, option_map, Contains, ◌/◌, ◌%◌}
 use Rattle.std.specs.List.{range_with_len}
 use Rattle.std.proofs.lemmas.Bool.{cases_lt}
 use Rattle.std.proofs.lemmas.Bool.Decides.{nat_tests}
@@ -10,23 +12,30 @@ use Rattle.std.proofs.lemmas.Map.Views.{exact_unsigned_eq}
 use Rattle.std.proofs.lemmas.List.FromFn.{map-range_with_len_more}
 use Rattle.std.proofs.Math.Nat.{mul-le-mul_right, mod-add-div'}
 use Rattle.quorum_sizes.specs.NodeSets.{Nodes}
+use Rattle.link_frames.specs.Packets.{PacketValue, packet_of}
 use Rattle.role_node.specs.Configs.{ConfigValue}
+use Rattle.role_node.specs.Nodes.{NodeValue}
 use Rattle.role_node.specs.declared.event.Event.{Event}
 use Rattle.byz_world.specs.Runs.{Run, history_of, IsClusterRun}
-use Rattle.byz_world.specs.Pools.{Sent, listed, messages, messages_after, pool}
+use Rattle.byz_world.specs.Pools.{Sent, listed, messages, messages_after, packets_of, pool}
 use Rattle.byz_world.specs.Worlds.{WorldValue, node_in, node_due, is_correct_in}
 use Rattle.byz_world.specs.inside.Kept.{Members, member_in, history_in, next_event, run_after, run_in, world_in}
 use Rattle.byz_world.specs.inside.Kept.{IsWorldIn}
 use Rattle.byz_world.specs.Settled.{IsProlonged}
-use Rattle.byz_world.specs.Steps.{with_run, after_step, after_steps}
-use Rattle.byz_world.specs.Settled.{after_gives}
+use Rattle.byz_world.specs.Steps.{with_run, is_pool_full, after_step, after_steps}
+use Rattle.byz_world.specs.Settled.{MayAdd, after_gives}
+use Rattle.byz_world.specs.Giving.{counts_now}
 use Rattle.byz_world.specs.inside.Blocks.{member_after, after_takes, mark_in, AreGiven, block_names, block_messages}
-use Rattle.byz_world.specs.inside.Blocks.{block_most, IsBlock, StartsBlock}
+use Rattle.byz_world.specs.inside.Blocks.{block_most, IsBlock, StartsBlock, counts_at, wants, MayWant, SomeMayWant}
 use Rattle.byz_world.specs.declared.step.Step.TheVariants.{Give}
 use Rattle.byz_world.specs.declared.block.Mark.{Mark}
-use Rattle.byz_world.proofs.BlockMerge.{Merged, IsMarked, given_to, takes_are, merged_none, merged_block}
+use Rattle.byz_world.proofs.BlockMerge.{Merged, IsMarked, given_to, takes_are, added_is, merged_none, merged_block}
 use Rattle.byz_world.proofs.BlockMembers.{taken-length, at_taken}
 use Rattle.byz_world.proofs.BlockNotes.{dropped-at}
+use Rattle.byz_world.proofs.Elements.{at_front, contained, number_of, flat_contains}
+use Rattle.byz_world.proofs.Pooled.{to_each}
+use Rattle.byz_world.proofs.Sound.{message_is_due}
+use Rattle.byz_world.proofs.Telling.{node_is, correct_is_node}
 use Rattle.byz_world.proofs.BlockRuns.{names, names-times, run_of_names, unnamed, messages-append}
 use Rattle.byz_world.proofs.Numbering.{pool-length}
 use Rattle.byz_world.proofs.Ordered.{times, times-append, times-own}
@@ -63,11 +72,15 @@ min_take xs most count long =
     ap (λ k. take k xs) e ∙ take_all count xs (omega (arith, long)) ∙ sym (take_all most xs (omega (arith, long, h))))
     (cases_lt most count)
 
+not_over : (limit count : ℕ) → count ≤ limit → nat_lt limit count ≡ false
+not_over limit count h = grind (arith, nat_tests)
+
 -- what the fields show then
 pub record HasMerged (config : ConfigValue) (liars : Nodes) (w : WorldValue) (first count : ℕ) (long : ℕ)
     (members' : Members) (order' : List ℕ) (sent' : List Sent) : Type 0 where
   pub is : IsWorldIn config liars members' order' sent'
   pub prolonged : IsProlonged w (world_in config liars members' order')
+  pub room : is_pool_full (world_in config liars members' order') ≡ false
   pub due : long ≡ w.config.roles.sizes.nodes * count →
       world_in config liars members' order'
       ≡ after_gives w (first * w.config.roles.sizes.nodes) (count * w.config.roles.sizes.nodes)
@@ -143,20 +156,23 @@ module _ (config : ConfigValue) (liars : Nodes) (members : Members) (order : Lis
   abbrev n : ℕ
   n = config.roles.sizes.nodes
 
-  fits : length (pool config m.run) ≤ config.limit
+  -- with room for one more message to all
+  fits : length (pool config m.run) + n ≤ config.limit
   fits =
       let said : length sent' ≡ length (messages config m.run) = ap length m.sent_is in
       let index : count * n + 0 ≡ count * n = omega arith in
-      let few : length (messages config m.run) ≤ length (messages config w.run) + count * n + 1 =
+      let few : suc (length (messages config m.run)) ≤ length (messages config w.run) + count * n + 1 =
       omega (arith, m.few, said, index) in
-      let rows : length (messages config m.run) * n ≤ (length (messages config w.run) + count * n + 1) * n =
+      let rows : suc (length (messages config m.run)) * n ≤ (length (messages config w.run) + count * n + 1) * n =
       mul-le-mul_right n few in
-      omega (arith, pool-length config m.run, rows, marked.room)
+      let product : suc (length (messages config m.run)) * n ≡ length (messages config m.run) * n + n = grind arith in
+      omega (arith, pool-length config m.run, rows, product, marked.room)
 
   pub has_merged : HasMerged config liars w first count (length marks) members' order' sent'
   has_merged =
       let C : Run → Type 0 = λ r. IsClusterRun config liars r in
       let P : Run → Type 0 = λ r. length (pool config r) ≤ config.limit in
+      let R : Run → Type 0 = λ r. nat_lt config.limit (length (pool config r) + n) ≡ false in
       let D : Run → Type 0 = λ r. IsProlonged w (with_run w r) in
       record {
         is = record {
@@ -166,10 +182,11 @@ module _ (config : ConfigValue) (liars : Nodes) (members : Members) (order : Lis
               member_is name (is_correct_in w name) refl ∙ ap (λ r. node_due (with_run w r) name) (sym run_is);
           named = λ name. named_by name (is_correct_in w name) refl;
           messages = m.sent_is ∙ ap (messages config) (sym run_is);
-          within = subst P (sym run_is) fits;
+          within = subst P (sym run_is) (omega (arith, fits));
           limit = is.limit;
         };
         prolonged = subst D (sym run_is) m.prolonged;
+        room = subst R (sym run_is) (not_over _ _ fits);
         due = λ all.
             let index : count * n + 0 ≡ count * n = omega arith in
             ap (with_run w) run_is ∙ m.due all ∙ ap (after_gives w (first * n)) index;
@@ -235,6 +252,40 @@ block_given config liars members order sent w first count marks members' order' 
     let moved : M order' sent' = subst (M order') x (subst (λ ns. M ns all) o m) in
     subst (λ v. HasMerged config liars v first count (length marks) members' order' sent') same
     (has_merged config liars members order sent is first count block marks members' given marked order' sent' moved)
+
+-- where a member would record a message of the block, some packet of the pool would be
+pub block_may_add : (config : ConfigValue) (liars : Nodes) (w : WorldValue) (first count long : ℕ) (members' : Members)
+    (order' : List ℕ) (sent sent' more : List Sent) → HasMerged config liars w first count long members' order' sent' →
+    sent' ≡ sent ++ more → SomeMayWant members' (take count (drop first sent)) →
+    MayAdd (world_in config liars members' order')
+unfolding pool
+block_may_add config liars w first count long members' order' sent sent' more m longer (name, want) =
+    by (member_in members' name) refl want
+  where
+    by : (o : Option NodeValue) → member_in members' name ≡ o → MayWant o (take count (drop first sent)) →
+        MayAdd (world_in config liars members' order')
+    by None e none = absurd none
+    by (Some node) e (j, s, at, wanted) =
+        let now : WorldValue = world_in config liars members' order' in
+        let n : ℕ = config.roles.sizes.nodes in
+        let here = node_is now name node (sym (m.is.nodes name) ∙ e) in
+        let early : slice_get sent (first + j) ≡ Some s =
+        sym (dropped-at first sent j) ∙ at_block sent first count j s at in
+        let there : slice_get sent' (first + j) ≡ Some s =
+        ap (λ xs. slice_get xs (first + j)) longer ∙ at_front sent more (first + j) s early in
+        let said : Contains (messages config now.run) s =
+        contained (messages config now.run) (first + j) s
+        (ap (λ ms. slice_get ms (first + j)) (sym m.is.messages) ∙ there) in
+        let p : PacketValue = packet_of s.0 name s.1 in
+        let pooled = number_of (pool config now.run) p
+        (flat_contains (packets_of n) (messages config now.run) s p said
+        (to_each s.0 name n s.1 (correct_is_node config.roles.sizes liars name here.correct))) in
+        let due = message_is_due config liars now.run m.is.cluster s name said in
+        let counts : counts_now config now.run p ≡ true =
+        sym (ap (λ v. wants v s) here.is ∙ ap (λ o. option_map_or (counts_at (node_in now name)) o false) due)
+        ∙ wanted in
+        let added' = added_is now m.is.cluster pooled.0 name s said pooled.1 m.room true true here.correct counts in
+        (pooled.0, ap (λ (pairs : Run). nat_lt 0 (length pairs)) added')
 
 -- Where a block begins.
 

@@ -1,5 +1,5 @@
 -- Elements of lists by their numbers.
-use Rattle.std.proofs.Common.{◌≡◌, ℕ, zero, suc, ◌+◌, ⊎_elim, List, [], ◌∷◌}
+use Rattle.std.proofs.Common.{◌≡◌, ℕ, zero, suc, ◌+◌, ◌⊎◌, inl, inr, ⊎_elim, Bool, true, false, List, [], ◌∷◌}
 use Rattle.std.proofs.Common.{◌++◌, length, Option, Some, None, refl, sym, ap, ◌∙◌, subst, arith}
 use Rattle.std.specs.Prelude.{slice_get, Contains}
 use Rattle.std.specs.List.{flat_map}
@@ -63,3 +63,26 @@ flat_contains f (z ∷ xs) x y c d =
     Contains-append_left (f z) (flat_map f xs) y (subst P (sym (contains_one z x h)) d))
     (λ (h : Contains xs x). Contains-append_right (f z) (flat_map f xs) y (flat_contains f xs x y h d))
     (Contains-append_cases (z ∷ []) xs x c)
+
+-- an element of which a test holds, unless it holds of none
+pub one_passes : {A : Type 0} (test : A → Bool) (xs : List A) →
+    ((k : ℕ) (x : A) → slice_get xs k ≡ Some x → test x ≡ false) ⊎ ((x : A) × Contains xs x × (test x ≡ true))
+one_passes test [] = inl (λ k x at. absurd cc)
+one_passes {A} test (y ∷ xs) = by (test y) refl (one_passes test xs)
+  where
+    none : test y ≡ false → ((k : ℕ) (x : A) → slice_get xs k ≡ Some x → test x ≡ false) → (k : ℕ) (x : A) →
+        slice_get (y ∷ xs) k ≡ Some x → test x ≡ false
+    none first rest zero x at = let same : y ≡ x = cc in ap test (sym same) ∙ first
+    none first rest (suc k) x at = rest k x at
+
+    by : (b : Bool) → test y ≡ b →
+        ((k : ℕ) (x : A) → slice_get xs k ≡ Some x → test x ≡ false) ⊎ ((x : A) × Contains xs x × (test x ≡ true)) →
+        ((k : ℕ) (x : A) → slice_get (y ∷ xs) k ≡ Some x → test x ≡ false)
+        ⊎ ((x : A) × Contains (y ∷ xs) x × (test x ≡ true))
+    by true first rest = inr (y, contained (y ∷ xs) 0 y refl, first)
+    by false first rest =
+        ⊎_elim
+        (λ (no_more : (k : ℕ) (x : A) → slice_get xs k ≡ Some x → test x ≡ false). inl (none first no_more))
+        (λ (later : (x : A) × Contains xs x × (test x ≡ true)).
+        inr (later.0, Contains-append_right (y ∷ []) xs later.0 later.1, later.2))
+        rest

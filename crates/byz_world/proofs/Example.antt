@@ -25,13 +25,14 @@ use Rattle.owner_streams.specs.Steps.{step_of, step_due, effect_due}
 use Rattle.owner_streams.specs.declared.steps.StreamFault.TheVariants.{Beyond}
 use Rattle.role_node.specs.Configs.{ConfigValue}
 use Rattle.role_node.specs.Histories.{issued, packets}
-use Rattle.role_node.specs.Answers.{is_routed, is_recorded, answered, unless_full}
+use Rattle.role_node.specs.Answers.{is_routed, take_outlook, is_recorded, answered, unless_full}
 use Rattle.role_node.specs.Answers.{or_counted, of_effect_due, reply_to, answer_due}
 use Rattle.role_node.specs.declared.event.Event.{Event}
 use Rattle.role_node.specs.declared.event.Event.TheVariants.{Issue, Take}
 use Rattle.role_node.specs.declared.faults.NodeFault.TheVariants as fault
 use Rattle.byz_world.specs.Runs.{Run, history_of, is_correct, of_kind, has_sent, IsClusterRun}
-use Rattle.byz_world.specs.Example.{four, four_nodes, three_lies, user_seven, told_in_order, example_run}
+use Rattle.byz_world.specs.Example.{four, four_nodes, three_lies, user_seven, told_at_first, told_at_last}
+use Rattle.byz_world.specs.Example.{before_readys, example_run}
 use Rattle.byz_world.specs.Laws.{delivered_by}
 use Rattle.byz_world.proofs.Computed.{names_end, readied_now, readied-now, delivered-now}
 use Rattle.byz_world.proofs.Growing.{cluster_run_push, empty_run}
@@ -75,7 +76,7 @@ issue_counts =
     ap (λ b. is_recorded (answered (unless_full false (or_counted (if not b then Some fault.NotMine else None)))
     (reply_to four_nodes.roles 0 [] (Issue user_seven)))) owns_two
 
-first_run : IsClusterRun four_nodes three_lies ((0, Issue user_seven) ∷ [])
+pub first_run : IsClusterRun four_nodes three_lies ((0, Issue user_seven) ∷ [])
 unfolding history_of
 first_run =
     cluster_run_push four_nodes three_lies [] 0 (Issue user_seven)
@@ -85,21 +86,19 @@ first_run =
 
 -- A packet that counts: it is routed, within the window of any stream, and its sender's first of its kind.
 
-abbrev counts_now : ConfigValue → ℕ → List Event → PacketValue → Bool
+abbrev pub counts_now : ConfigValue → ℕ → List Event → PacketValue → Bool
 counts_now config node history p =
     (not (nat_le config.limit (length history)) && is_routed config.roles.sizes node p)
     && (nat_lt p.place window && not (is_some (vote p.kind p.from (takes_at p.owner p.place (packets history)))))
 
-recorded_now : (config : ConfigValue) (node : ℕ) (history : List Event) (p : PacketValue)
-    → counts_now config node history p ≡ true →
-    is_recorded (answer_due config node history (Take p)) ≡ true
+pub counted_now : (config : ConfigValue) (node : ℕ) (history : List Event) (p : PacketValue)
+    → counts_now config node history p ≡ true → take_outlook config.roles node history p ≡ Ok effect.Counted
 unfolding step_due
-recorded_now config node history p counts =
+counted_now config node history p counts =
     let s : Counts = config.roles.sizes in
     let parts = and_parts _ _ counts in
     let room = and_parts _ _ parts.0 in
     let new = and_parts _ _ parts.1 in
-    let full : nat_le config.limit (length history) ≡ false = not-true _ room.0 in
     let within : p.place < 64 = ltb-true p.place 64 new.0 in
     let open_place : nat_le (reach s p.owner (packets history) + 64) p.place ≡ false = lt-leb _ _ (omega arith) in
     let first : is_some (vote p.kind p.from (takes_at p.owner p.place (packets history))) ≡ false = not-true _ new.1 in
@@ -107,7 +106,15 @@ recorded_now config node history p counts =
     ap (λ b. effect_due (if b then Err (Beyond p.place (reach s p.owner (packets history) + 64)) else Ok
     (step_of s (packets history) p))) open_place
     ∙ ap (λ b. Ok (cond b effect.Idle effect.Counted)) first in
-    λ i. is_recorded (answered (unless_full (full i) (if room.1 i then of_effect_due (due i) else Err fault.Misrouted))
+    λ i. if room.1 i then of_effect_due (due i) else Err fault.Misrouted
+
+pub recorded_now : (config : ConfigValue) (node : ℕ) (history : List Event) (p : PacketValue)
+    → counts_now config node history p ≡ true →
+    is_recorded (answer_due config node history (Take p)) ≡ true
+recorded_now config node history p counts =
+    let room = and_parts _ _ (and_parts _ _ counts).0 in
+    let full : nat_le config.limit (length history) ≡ false = not-true _ room.0 in
+    λ i. is_recorded (answered (unless_full (full i) (counted_now config node history p counts i))
     (reply_to config.roles node history (Take p)))
 
 -- A packet that follows a run.
@@ -131,7 +138,7 @@ sent_now run p = λ i.
       ready = readied-now four (takes_at p.owner p.place (packets (history_of p.from run))) i;
     }))
 
-abbrev follows : Run → PacketValue → Bool
+abbrev pub follows : Run → PacketValue → Bool
 follows run p =
     (honest p.to && counts_now four_nodes p.to (history_of p.to run) p)
     && (((not (same_kind p.kind Send) || (p.from == p.owner)) && nat_lt p.place place_count)
@@ -150,7 +157,7 @@ sound_packet : (p : PacketValue) →
 sound_packet p test =
     let parts = and_parts _ _ test in (own_send p parts.0, ltb-true p.place place_count parts.1)
 
-was_sent : (run : Run) (p : PacketValue) → (not (honest p.from) || is_for p.command (said_now run p)) ≡ true →
+pub was_sent : (run : Run) (p : PacketValue) → (not (honest p.from) || is_for p.command (said_now run p)) ≡ true →
     is_correct four three_lies p.from ≡ true → has_sent four run p.from (message_of p) ≡ true
 was_sent run p test correct =
     ⊎_elim
@@ -161,7 +168,7 @@ was_sent run p test correct =
 same_packet : (p q : PacketValue) → Take p ≡ Take q → p ≡ q
 same_packet p q e = cc
 
-one_more : (run : Run) (p : PacketValue) → IsClusterRun four_nodes three_lies run → follows run p ≡ true →
+pub one_more : (run : Run) (p : PacketValue) → IsClusterRun four_nodes three_lies run → follows run p ≡ true →
     IsClusterRun four_nodes three_lies (run ++ (p.to, Take p) ∷ [])
 one_more run p is test =
     let parts = and_parts _ _ test in
@@ -191,12 +198,19 @@ goes_on run (p ∷ ps) is test =
     subst (IsClusterRun four_nodes three_lies) (append_assoc run ((p.to, Take p) ∷ []) (map (λ q. (q.to, Take q)) ps))
     (goes_on (run ++ (p.to, Take p) ∷ []) ps (one_more run p is parts.0) parts.1)
 
-all_told : all_follow ((0, Issue user_seven) ∷ []) told_in_order ≡ true
+told_first : all_follow ((0, Issue user_seven) ∷ []) told_at_first ≡ true
 unfolding all_follow history_of issued packets takes_at vote echoed at_first_prefix names_end
-all_told = refl
+told_first = refl
+
+pub before_is_run : IsClusterRun four_nodes three_lies before_readys
+before_is_run = goes_on ((0, Issue user_seven) ∷ []) told_at_first first_run told_first
+
+told_last : all_follow before_readys told_at_last ≡ true
+unfolding all_follow history_of issued packets takes_at vote echoed at_first_prefix names_end
+told_last = refl
 
 pub example_is_run : IsClusterRun four_nodes three_lies example_run
-example_is_run = goes_on ((0, Issue user_seven) ∷ []) told_in_order first_run all_told
+example_is_run = goes_on before_readys told_at_last before_is_run told_last
 
 pub example_delivers : (delivered_by four_nodes example_run 0 0 0 ≡ Some user_seven)
     × (delivered_by four_nodes example_run 1 0 0 ≡ Some user_seven)

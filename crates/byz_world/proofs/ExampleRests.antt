@@ -20,6 +20,8 @@ use Rattle.byz_world.specs.Resting.{IsAtRest}
 use Rattle.byz_world.specs.Runs.{history_of, IsClusterRun}
 use Rattle.byz_world.proofs.Computed.{names_end, readied-now}
 use Rattle.byz_world.proofs.Example.{honest, honest-is, example_is_run, example_delivers}
+use Rattle.byz_world.proofs.ExampleGoesOn.{ready_wanted, readys_prolong}
+use Rattle.byz_world.proofs.GivenOut.{rest_is_quiet}
 use Rattle.byz_world.proofs.Histories.{taken_by, taken_whole, IsTakenIn, taken_in}
 use Rattle.byz_world.proofs.Pooled.{pooled_is_sent, has_sent_is}
 use Rattle.byz_world.proofs.Votes.{said_by}
@@ -177,4 +179,7 @@ an_example = record {
   rests = example_rests example_is_run;
   delivered_at_zero = example_delivers.0;
   delivered_at_one = example_delivers.1;
+  wanted = ready_wanted;
+  prolongs = readys_prolong;
+  quiet = rest_is_quiet four_nodes three_lies example_run 0 1 example_is_run (example_rests example_is_run);
 }

@@ -5,7 +5,9 @@
 --     empty_run, cluster_run_push, after_step_runs, after_steps_runs      a world's run is a cluster run, and stays one
 --     pool-length      how many packets the messages of a run are
 --     consistency, integrity, same_policy, at_rest      the laws of every run, or of one at rest
---     nothing_is_stuck, work_is_bounded, fair_schedules_settle      the laws of runs that go on by what was sent
+--     quiet_is_complete, each_owner_goes_on, wanted_is_recorded      how each owner's stream goes on
+--     history_is_bounded, work_is_bounded      how much can be recorded
+--     given_out_is_at_rest, giving_comes_to_rest      the laws of runs that go on by packets of the pool alone
 --     settled_prolongs, settled_is, settled-config      a world that has settled
 --     after_gives-none, after_gives-next, after_gives-pool      packets that are given one after another
 --     ready_for_one ..      their parts, of a run with what is known of it; `taken_by` is what a node took at a place
@@ -20,8 +22,12 @@ pub use Rattle.byz_world.proofs.Safety.{consistency, integrity, ready_for_one, d
 pub use Rattle.byz_world.proofs.Safety.{delivered_was_ready, ready_was_issued, delivered_was_issued, streamed}
 pub use Rattle.byz_world.proofs.Policy.{same_policy, same_stream}
 pub use Rattle.byz_world.proofs.Rest.{ready_by_all, delivered_by_all, issued_reaches_all, at_rest}
-pub use Rattle.byz_world.proofs.Progress.{nothing_is_stuck}
+pub use Rattle.byz_world.proofs.Quiet.{quiet_is_complete}
+pub use Rattle.byz_world.proofs.GoesOn.{each_owner_goes_on}
+pub use Rattle.byz_world.proofs.Wanted.{wanted_is_recorded}
+pub use Rattle.byz_world.proofs.LongHistories.{history_is_bounded}
 pub use Rattle.byz_world.proofs.Prolonging.{work_is_bounded}
-pub use Rattle.byz_world.proofs.Schedules.{fair_schedules_settle, stuck_or_not}
+pub use Rattle.byz_world.proofs.GivenOut.{given_out_is_at_rest}
+pub use Rattle.byz_world.proofs.Schedules.{giving_comes_to_rest, given_out_or_not}
 pub use Rattle.byz_world.proofs.Passes.{settled_prolongs, settled_is, settled-config}
 pub use Rattle.byz_world.proofs.BlockWorld.{after_gives-none, after_gives-next, after_gives-pool}

@@ -12,7 +12,8 @@ use Rattle.role_sessions.specs.declared.verdict.Rule.TheVariants.{NoneAssigned, 
 use Rattle.role_sessions.specs.declared.verdict.Verdict.{Verdict}
 use Rattle.role_sessions.specs.declared.verdict.Verdict.TheVariants.{Allow, Deny}
 use Rattle.byz_world.specs.Headline.{IsFirstRule, IsRightDecision, Headline}
-use Rattle.byz_world.specs.Laws.{stream_of}
+use Rattle.byz_world.specs.AfterSteps.{HeadlineOfSteps}
+use Rattle.byz_world.specs.Runs.{stream_of}
 use Rattle.byz_world.specs.Runs.{history_of, IsClusterRun}
 use Rattle.byz_world.specs.Steps.{after_step, after_steps, IsSoundStep}
 use Rattle.byz_world.specs.Worlds.{WorldValue, new_world, too_many_lie}
@@ -173,11 +174,8 @@ answered : {b : Bool} (P : Verdict → Type 0) (v : Verdict) → b ≡ true → 
 answered {b} P v correct right = subst (λ t. IsSomeAnd (if t then Some v else None) P) (sym correct) right
 
 pub headline : Headline
-headline config liars steps sizes few are =
-    let run = (after_steps (new_world config liars) steps).run in
-    let cluster : IsClusterRun config liars run = run_of_steps config liars steps sizes few are in
+headline config liars run cluster =
     record {
-      is_run = cluster;
       decisions = λ node session user operation object correct.
           let relations = relations_at config.roles (history_of node run) in
           let found = session_at (history_of node run) session in
@@ -190,3 +188,8 @@ headline config liars steps sizes few are =
           (streamed config liars run cluster i owner k c e) (streamed config liars run cluster j owner k d f));
       nothing_forged = λ i owner correct sender. integrity config liars run i owner cluster correct sender;
     }
+
+pub headline_of_steps : HeadlineOfSteps
+headline_of_steps config liars steps sizes few are =
+    let cluster = run_of_steps config liars steps sizes few are in
+    record { is_run = cluster; keeps = headline config liars (after_steps (new_world config liars) steps).run cluster }

@@ -18,6 +18,7 @@ pub mod Counts
 pub mod Rest
 pub mod Computed
 pub mod Example
+pub mod ExampleGoesOn
 pub mod ExampleRests
 pub mod Headline
 pub mod Limits
@@ -37,4 +38,10 @@ pub mod BlockNotes
 pub mod BlockRuns
 pub mod BlockMerge
 pub mod BlockWorld
+pub mod Quiet
+pub mod GivenOut
+pub mod Bounds
+pub mod Wanted
+pub mod GoesOn
+pub mod LongHistories
 pub mod Exported

@@ -1,7 +1,13 @@
--- A run whose nodes keep to different limits is a cluster run under a limit that none of theirs is above.
-use Rattle.std.proofs.Common.{◌≡◌, ℕ, ◌≤◌, Bool, true, false, List, length, Result, Ok, Err, refl, ap, ◌∙◌, arith}
+-- A run whose nodes keep to different limits is a cluster run under a limit that none of theirs is above, and under one
+-- that no history reaches.
+use Rattle.std.proofs.Common.{◌≡◌, ℕ, suc, ◌<◌, ◌≤◌, Bool, true, false, List, length, Result, Ok, Err}
+use Rattle.std.proofs.Common.{refl, ap, ◌∙◌, arith}
 use Rattle.std.specs.Prelude.{nat_le, take}
 use Rattle.std.proofs.lemmas.Bool.Decides.{nat_tests}
+use Rattle.std.proofs.lemmas.List.{length-take-le}
+use Rattle.std.proofs.lemmas.Option.{slice_get_within}
+use Rattle.quorum_sizes.specs.NodeSets.{Nodes}
+use Rattle.role_commands.proofs.Exported.{filter_map-length}
 use Rattle.bracha_instance.specs.declared.instance.Effect.{Effect}
 use Rattle.bracha_instance.specs.declared.instance.Effect.TheVariants as effect
 use Rattle.role_node.specs.Answers.{outlook_with_room, unless_full, answered, reply_to, is_recorded, IsLegal}
@@ -9,8 +15,8 @@ use Rattle.role_node.specs.Configs.{ConfigValue}
 use Rattle.role_node.specs.declared.event.Event.{Event}
 use Rattle.role_node.specs.declared.event.Reply.{Reply}
 use Rattle.role_node.specs.declared.faults.NodeFault.{NodeFault}
-use Rattle.byz_world.specs.Limits.{with_limit, LimitsMayDiffer}
-use Rattle.byz_world.specs.Runs.{history_of}
+use Rattle.byz_world.specs.Limits.{with_limit, IsRunUnderLimits, LimitsMayDiffer}
+use Rattle.byz_world.specs.Runs.{Run, event_at, history_of, IsClusterRun}
 
 -- what is recorded is, where there is more room
 recorded_still : (full fuller : Bool) (o : Result Effect NodeFault) (r : Reply) → (full ≡ false → fuller ≡ false) →
@@ -20,6 +26,9 @@ recorded_still true fuller (Ok effect.Counted) r room e = absurd cc
 recorded_still false fuller (Ok effect.Counted) r room e =
     ap (λ b. is_recorded (answered (unless_full b (Ok effect.Counted)) r)) (room refl) ∙ e
 recorded_still full fuller (Err f) r room e = e
+
+pub spare : (limit count : ℕ) → count < limit → nat_le limit count ≡ false
+spare limit count h = grind (arith, nat_tests)
 
 room_still : (limit most count : ℕ) → limit ≤ most → nat_le limit count ≡ false → nat_le most count ≡ false
 room_still limit most count h e = grind (arith, nat_tests)
@@ -38,6 +47,32 @@ limits_may_differ config liars run limits most h is = record {
   few = is.few;
   correct = is.correct;
   legal = λ node. legal_still config (limits node) most node (history_of node run) (h node) (is.legal node);
+  sound = is.sound;
+  links = is.links;
+}
+
+history-length : (node : ℕ) (run : Run) → length (history_of node run) ≤ length run
+unfolding history_of
+history-length node run = filter_map-length (event_at node) run
+
+roomy_still : (config : ConfigValue) (limit most me : ℕ) (history : List Event) → length history < most →
+    IsLegal (with_limit config limit) me history → IsLegal (with_limit config most) me history
+roomy_still config limit most me history room legal k event at =
+    let past : List Event = take k history in
+    let early : k < length history = slice_get_within history k event at in
+    let short : length past ≡ k = length-take-le k history (omega (arith, early)) in
+    recorded_still (nat_le limit (length past)) (nat_le most (length past))
+    (outlook_with_room config.roles me past event) (reply_to config.roles me past event)
+    (λ _. spare most (length past) (omega (arith, short, early, room))) (legal k event at)
+
+pub under_limits : (config : ConfigValue) (liars : Nodes) (run : Run) (limits : ℕ → ℕ) →
+    IsRunUnderLimits config limits liars run → IsClusterRun (with_limit config (suc (length run))) liars run
+under_limits config liars run limits is = record {
+  sizes = is.sizes;
+  few = is.few;
+  correct = is.correct;
+  legal = λ node. roomy_still config (limits node) (suc (length run)) node (history_of node run)
+      (omega (arith, history-length node run)) (is.legal node);
   sound = is.sound;
   links = is.links;
 }

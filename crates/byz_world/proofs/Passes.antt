@@ -18,7 +18,7 @@ use Rattle.role_node.specs.declared.event.Event.{Event}
 use Rattle.role_node.specs.declared.event.Event.TheVariants as event
 use Rattle.byz_world.specs.inside.Kept.{Members, next_event, run_after, run_in, member_in, history_in, IsWorldIn}
 use Rattle.byz_world.specs.Pools.{Sent, listed, pool}
-use Rattle.byz_world.specs.Progress.{counts_now, IsGivable, IsProlongation, IsStuck}
+use Rattle.byz_world.specs.Giving.{counts_now, IsGivable, IsProlongation, IsGivenOut}
 use Rattle.byz_world.specs.Runs.{Run, history_of, IsClusterRun}
 use Rattle.byz_world.specs.Settled.{IsProlonged, IsSettled, after_pass, pass_adds, after_passes, longest_run, settled}
 use Rattle.byz_world.specs.Steps.{arrival, arrives, given, is_pool_full, recorded_pair, with_run}
@@ -29,7 +29,8 @@ use Rattle.byz_world.specs.declared.step.Step.TheVariants.{Give}
 use Rattle.byz_world.proofs.Elements.{contained, number_of}
 use Rattle.byz_world.proofs.Ordered.{times, times-append, times-own}
 use Rattle.byz_world.proofs.Pooled.{name_at}
-use Rattle.byz_world.proofs.Progress.{nothing_is_stuck, rest_is_stuck, some_within}
+use Rattle.byz_world.proofs.GivenOut.{given_out_is_at_rest, rest_is_given_out, wanted_at_full}
+use Rattle.byz_world.proofs.Progress.{some_within}
 use Rattle.byz_world.specs.Resting.{IsAtRest}
 use Rattle.byz_world.proofs.Prolonging.{total, total_most, total_more, prolonged_is_run}
 use Rattle.byz_world.proofs.Prolonging.{first_given, rest_given}
@@ -90,6 +91,17 @@ one_or_none w k (Some p) at =
 pub prolonged_none : (w : WorldValue) → IsProlonged w w
 prolonged_none w = ([], sym (same_run w), λ t pair at. absurd cc)
 
+-- a packet before a prolongation
+pub given_before : (config : ConfigValue) (liars : Nodes) (run more : Run) (pair : ℕ × Event) →
+    (p : PacketValue) × IsGivable config liars run p × (pair ≡ (p.to, event.Take p)) →
+    IsProlongation config liars (run ++ pair ∷ []) more → IsProlongation config liars run (pair ∷ more)
+given_before config liars run more pair head tail zero next at =
+    let same : pair ≡ next = cc in
+    (head.0, subst (λ r. IsGivable config liars r head.0) (sym (append-nil run)) head.1, sym same ∙ head.2)
+given_before config liars run more pair head tail (suc t) next at =
+    let one = tail t next at in
+    (one.0, subst (λ r. IsGivable config liars r one.0) (append_assoc run (pair ∷ []) (take t more)) one.1, one.2)
+
 prolongation_more : (config : ConfigValue) (liars : Nodes) (run before later : Run) →
     IsProlongation config liars run before → IsProlongation config liars (run ++ before) later →
     IsProlongation config liars run (before ++ later)
@@ -100,17 +112,7 @@ prolongation_more config liars run (one ∷ before) later first then' =
     let tail : IsProlongation config liars (run ++ one ∷ []) before = rest_given config liars run before one first in
     let whole = prolongation_more config liars (run ++ one ∷ []) before later tail
     (subst (λ r. IsProlongation config liars r later) split then') in
-    joined config liars run (before ++ later) one (first_given config liars run before one first) whole
-  where
-    joined : (config : ConfigValue) (liars : Nodes) (run more : Run) (pair : ℕ × Event) →
-        (p : PacketValue) × IsGivable config liars run p × (pair ≡ (p.to, event.Take p)) →
-        IsProlongation config liars (run ++ pair ∷ []) more → IsProlongation config liars run (pair ∷ more)
-    joined config liars run more pair head tail zero next at =
-        let same : pair ≡ next = cc in
-        (head.0, subst (λ r. IsGivable config liars r head.0) (sym (append-nil run)) head.1, sym same ∙ head.2)
-    joined config liars run more pair head tail (suc t) next at =
-        let one = tail t next at in
-        (one.0, subst (λ r. IsGivable config liars r one.0) (append_assoc run (pair ∷ []) (take t more)) one.1, one.2)
+    given_before config liars run (before ++ later) one (first_given config liars run before one first) whole
 
 pub prolonged_more : (a b d : WorldValue) → IsProlonged a b → IsProlonged b d → IsProlonged a d
 prolonged_more a b d first then' =
@@ -192,21 +194,21 @@ pub pass_prolongs : (w : WorldValue) → IsProlonged w (after_pass w)
 pass_prolongs w = gives_prolong w (range_with_len 0 (length (pool w.config w.run)))
 
 -- where no packet of the pool counts, a pass leaves the world
-prolonged_stuck : (w : WorldValue) (more : Run) → IsStuck w.config w.liars w.run →
+prolonged_given_out : (w : WorldValue) (more : Run) → IsGivenOut w.config w.liars w.run →
     IsProlongation w.config w.liars w.run more → more ≡ []
-prolonged_stuck w [] stuck is = refl
-prolonged_stuck w (pair ∷ more) stuck is =
+prolonged_given_out w [] given_out is = refl
+prolonged_given_out w (pair ∷ more) given_out is =
     let one = is 0 pair refl in
     let P : Run → Type 0 = λ run. IsGivable w.config w.liars run one.0 in
     let now : IsGivable w.config w.liars w.run one.0 = subst P (append-nil w.run) one.1 in
-    let not' : counts_now w.config w.run one.0 ≡ false = stuck one.0 now.sent now.to in
+    let not' : counts_now w.config w.run one.0 ≡ false = given_out one.0 now.sent now.to in
     let counts : counts_now w.config w.run one.0 ≡ true = now.counts in
     absurd cc
 
 pub rest_pass : (w : WorldValue) → IsClusterRunOf w → IsAtRest w.config w.liars w.run → after_pass w ≡ w
 rest_pass w is rest =
     let first = pass_prolongs w in
-    let none = prolonged_stuck w first.0 (rest_is_stuck w.config w.liars w.run is rest) first.2 in
+    let none = prolonged_given_out w first.0 (rest_is_given_out w.config w.liars w.run is rest) first.2 in
     first.1 ∙ ap (λ more. with_run w (w.run ++ more)) none ∙ same_run w
 
 less_itself : (n : ℕ) → nat_lt n n ≡ false
@@ -230,9 +232,9 @@ uncounted_by true true c pair e f g = absurd cc
 uncounted_by false b c pair e f g = absurd cc
 
 -- .. and while the pool has room none of its packets counts
-pub idle_pass_is_stuck : (w : WorldValue) → pass_adds w ≡ false → is_pool_full w ≡ false →
-    IsStuck w.config w.liars w.run
-idle_pass_is_stuck w none room p pooled correct =
+pub idle_pass_is_given_out : (w : WorldValue) → pass_adds w ≡ false → is_pool_full w ≡ false →
+    IsGivenOut w.config w.liars w.run
+idle_pass_is_given_out w none room p pooled correct =
     let packets : List PacketValue = pool w.config w.run in
     let at = number_of packets p pooled in
     let nothing : added w at.0 ≡ [] =
@@ -334,10 +336,12 @@ settled_is w is =
     let idle : pass_adds (settled w) ≡ false = last_is_idle (longest_run w.config) w is (omega arith) in
     let runs = prolonged_runs w (settled w) is (settled_prolongs w) in
     record {
-      stuck = idle_pass_is_stuck (settled w) idle;
+      given_out = idle_pass_is_given_out (settled w) idle;
+      wanted = λ room. wanted_at_full (settled w).config (settled w).liars (settled w).run runs
+          (idle_pass_is_given_out (settled w) idle room);
       rests = λ room histories.
-          let both = nothing_is_stuck (settled w).config (settled w).liars (settled w).run runs histories in
-          both.0 (idle_pass_is_stuck (settled w) idle room);
+          let both = given_out_is_at_rest (settled w).config (settled w).liars (settled w).run runs histories in
+          both.0 (idle_pass_is_given_out (settled w) idle room);
     }
 
 -- it keeps its configuration

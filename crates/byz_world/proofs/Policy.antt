@@ -7,7 +7,8 @@ use Rattle.owner_streams.proofs.Exported.{stream_is_one_lem, delivered-none}
 use Rattle.rbac_state.specs.Assignments.{is_user_assigned, is_permission_granted}
 use Rattle.role_node.specs.Configs.{ConfigValue}
 use Rattle.role_node.specs.Histories.{packets}
-use Rattle.byz_world.specs.Laws.{SamePolicy, stream_of, reach_of}
+use Rattle.byz_world.specs.Laws.{SamePolicy}
+use Rattle.byz_world.specs.Runs.{stream_of, reach_of}
 use Rattle.byz_world.specs.Runs.{Run, history_of, IsClusterRun}
 use Rattle.byz_world.proofs.Lists.{same_by_places}
 use Rattle.byz_world.proofs.Histories.{taken_by, taken_whole, IsTakenIn, taken_in, routed}

@@ -1,8 +1,7 @@
--- Where no packet counts any more a cluster is at rest: about one place after another, so each reaches as far as the
--- others, so nothing is beyond a window.
+-- What a node has sent is before the end of its own window, and what is before the end of its receiver's is open there.
 use Rattle.std.proofs.Common.{◌≡◌, ℕ, zero, suc, ◌+◌, ◌<◌, ◌≤◌, ◌⊎◌, inl, inr, ⊎_elim, Bool, true, false, ◌==◌}
-use Rattle.std.proofs.Common.{List, [], ◌∷◌, ◌++◌, length, Some, None, Result, Ok, Err, refl, sym, ap}
-use Rattle.std.proofs.Common.{◌∙◌, subst, length-append, arith, le_refl}
+use Rattle.std.proofs.Common.{List, [], ◌∷◌, ◌++◌, length, Some, None, Result, Ok, refl, sym, ap}
+use Rattle.std.proofs.Common.{◌∙◌, subst, length-append, arith}
 use Rattle.std.specs.Prelude.{if◌then◌else◌, nat_le, slice_get, Contains}
 use Rattle.std.proofs.lemmas.Bool.{and_from, cases_lt, lt-ltb}
 use Rattle.std.proofs.lemmas.Bool.Decides.{nat_tests}
@@ -14,16 +13,15 @@ use Rattle.role_commands.specs.declared.command.Command.{Command}
 use Rattle.link_frames.specs.Packets.{PacketValue, message_of}
 use Rattle.link_frames.specs.declared.kind.Kind.{Kind}
 use Rattle.link_frames.specs.declared.kind.Kind.TheVariants.{Send, Echo, Ready}
-use Rattle.bracha_instance.specs.Broadcast.{echoed, readied, delivered}
-use Rattle.bracha_instance.specs.Taking.{effect_of}
+use Rattle.bracha_instance.specs.Broadcast.{echoed, readied}
 use Rattle.bracha_instance.specs.declared.instance.Effect.{Effect}
 use Rattle.bracha_instance.specs.declared.instance.Effect.TheVariants as effect
-use Rattle.owner_streams.proofs.Exported.{stream_is_exact_lem, stream_grows_lem, echoed-none, readied-none}
-use Rattle.owner_streams.specs.Places.{window, take_of, takes_at, stream, reach}
+use Rattle.owner_streams.proofs.Exported.{stream_grows_lem, echoed-none, readied-none}
+use Rattle.owner_streams.specs.Places.{window, stream, reach}
 use Rattle.role_node.proofs.Exported.{along_legal, issued-none, issued-Issue, issued-Take, issued-Client}
 use Rattle.role_node.proofs.Exported.{packets-Issue, packets-Take, packets-Client}
 use Rattle.role_node.specs.Access.{reach_at}
-use Rattle.role_node.specs.Answers.{outlook, answered, unless_full, or_counted, issue_fault}
+use Rattle.role_node.specs.Answers.{unless_full, or_counted, issue_fault}
 use Rattle.role_node.specs.Answers.{reply_to, answer_due, is_recorded, IsLegal}
 use Rattle.role_node.specs.Configs.{ConfigValue}
 use Rattle.role_node.specs.Histories.{issued, packets}
@@ -31,51 +29,28 @@ use Rattle.role_node.specs.declared.event.Event.{Event}
 use Rattle.role_node.specs.declared.event.Event.TheVariants as event
 use Rattle.role_node.specs.declared.faults.NodeFault.{NodeFault}
 use Rattle.role_node.specs.declared.faults.NodeFault.TheVariants as fault
-use Rattle.byz_world.specs.inside.Kept.{is_idle}
-use Rattle.byz_world.specs.Laws.{stream_of, reach_of}
+use Rattle.byz_world.specs.Runs.{reach_of}
 use Rattle.byz_world.specs.Pools.{pool, WasSent}
-use Rattle.byz_world.specs.Progress.{IsStuck, HasRoom, NothingIsStuck}
-use Rattle.byz_world.specs.Resting.{IsAtRest}
 use Rattle.byz_world.specs.Runs.{Run, history_of, is_correct, IsClusterRun}
 use Rattle.byz_world.proofs.Histories.{taken_by, some_taken}
-use Rattle.byz_world.proofs.Idle.{IsOpen, open_outlook, counted_early, taken_is_open, taken_is_idle, idle_is_taken}
+use Rattle.byz_world.proofs.Idle.{IsOpen, counted_early, taken_is_open}
 use Rattle.byz_world.proofs.Pooled.{has_sent_is, pooled_is_sent}
-use Rattle.byz_world.proofs.Recording.{counted_recorded}
-use Rattle.byz_world.proofs.Rest.{IsAtRestAt, delivered_there}
-use Rattle.byz_world.proofs.Safety.{streamed}
 use Rattle.byz_world.proofs.Sound.{pooled_is_sound}
 use Rattle.byz_world.proofs.Telling.{foreign_is_unsent, correct_is_node}
 use Rattle.byz_world.proofs.Votes.{said_by}
 
--- What is before the end of its window, and does not count, is idle.
+-- What counts, and what is full.
 
-effect_cases : (e : Effect) → (e ≡ effect.Idle) ⊎ (e ≡ effect.Counted)
+pub effect_cases : (e : Effect) → (e ≡ effect.Idle) ⊎ (e ≡ effect.Counted)
 effect_cases effect.Idle = inl refl
 effect_cases effect.Counted = inr refl
 
-roomy : (full : Bool) (e : Effect) → full ≡ false → unless_full full (Ok e) ≡ Ok e
+pub roomy : (full : Bool) (e : Effect) → full ≡ false → unless_full full (Ok e) ≡ Ok e
 roomy full effect.Idle spare = refl
 roomy full effect.Counted spare = ap (λ b. unless_full b (Ok effect.Counted)) spare
 
-not_full : (limit count : ℕ) → count < limit → nat_le limit count ≡ false
+pub not_full : (limit count : ℕ) → count < limit → nat_le limit count ≡ false
 not_full limit count h = grind (arith, nat_tests)
-
-open_is_idle : (config : ConfigValue) (me : ℕ) (history : List Event) (p : PacketValue) →
-    IsOpen config.roles.sizes me (packets history) p → length history < config.limit →
-    is_recorded (answer_due config me history (event.Take p)) ≡ false →
-    is_idle (outlook config me history (event.Take p)) ≡ true
-open_is_idle config me history p open' room uncounted =
-    let e : Effect = effect_of (takes_at p.owner p.place (packets history)) (take_of p) in
-    let full : Bool = nat_le config.limit (length history) in
-    let is : outlook config me history (event.Take p) ≡ Ok e =
-    ap (unless_full full) (open_outlook config me history p open') ∙ roomy full e (not_full _ _ room) in
-    ⊎_elim
-    (λ (idle : e ≡ effect.Idle). ap is_idle (is ∙ ap Ok idle))
-    (λ (counted : e ≡ effect.Counted).
-    let clash : true ≡ false =
-    sym (counted_recorded config me history (event.Take p) (is ∙ ap Ok counted)) ∙ uncounted in
-    absurd cc)
-    (effect_cases e)
 
 -- How far ahead of its own stream a node issues.
 
@@ -215,65 +190,3 @@ module _ (config : ConfigValue) (liars : Nodes) (run : Run) (cluster : IsCluster
     where
       same : (a : ℕ) → (a == a) ≡ true
       same a = grind (arith, nat_tests)
-
-  -- Where nothing counts any more.
-
-  module _ (room : HasRoom config liars run) (stuck : IsStuck config liars run) where
-    within_taken : (p : PacketValue) → Contains (pool config run) p → IsHonest p.to →
-        p.place < reach_of config run p.to p.owner + window → Contains (packets (history_of p.to run)) p
-    within_taken p pooled correct within =
-        idle_is_taken config liars run p cluster (pooled_is_sent config liars run p cluster pooled)
-        (open_is_idle config p.to (history_of p.to run) p (pooled_is_open p pooled within) (room p.to correct)
-        (stuck p pooled correct))
-
-    -- a place that each correct node's stream reaches, or ends at, is at rest
-    rests_at : (owner m : ℕ) → ((k : ℕ) → IsHonest k → m ≤ reach_of config run k owner) →
-        IsAtRestAt config liars run owner m
-    rests_at owner m all p pooled correct own there =
-        let P : ℕ → Type 0 = λ o. m ≤ reach_of config run p.to o in
-        let reached : m ≤ reach_of config run p.to p.owner = subst P (sym own) (all p.to correct) in
-        within_taken p pooled correct (omega (arith, reached, there))
-
-    -- how far one correct node's stream of an owner reaches, each does
-    reaches : (owner m j : ℕ) → IsHonest j → m ≤ reach_of config run j owner → (i : ℕ) → IsHonest i →
-        m ≤ reach_of config run i owner
-    reaches owner zero j _ h i _ = omega arith
-    reaches owner (suc m) j one h i other =
-        let all : (k : ℕ) → IsHonest k → m ≤ reach_of config run k owner = reaches owner m j one (omega (arith, h)) in
-        let rest = rests_at owner m all in
-        let there = some_within (stream_of config run j owner) m (omega (arith, h)) in
-        let now : delivered s (taken_by run i owner m) ≡ Some there.0 =
-        delivered_there config liars run owner m cluster rest j i there.0 other
-        (streamed config liars run cluster j owner m there.0 there.1) in
-        let at : slice_get (stream_of config run i owner) m ≡ Some there.0 =
-        sym (stream_is_exact_lem s owner (packets (history_of i run)) m (all i other)) ∙ now in
-        omega (arith, slice_get_within (stream_of config run i owner) m there.0 at)
-
-    rests : IsAtRest config liars run
-    rests p pooled correct =
-        let was = pooled_is_sent config liars run p cluster pooled in
-        let far = reaches p.owner (reach_of config run p.from p.owner) p.from was.from (le_refl _) p.to correct in
-        within_taken p pooled correct (omega (arith, far, pooled_within p pooled))
-
-idle_uncounted : (config : ConfigValue) (me : ℕ) (history : List Event) (e : Event) →
-    is_idle (outlook config me history e) ≡ true → is_recorded (answer_due config me history e) ≡ false
-idle_uncounted config me history e idle = by (outlook config me history e) idle
-  where
-    by : (o : Result Effect NodeFault) → is_idle o ≡ true →
-        is_recorded (answered o (reply_to config.roles me history e)) ≡ false
-    by (Ok effect.Idle) is = refl
-    by (Ok effect.Counted) is = absurd cc
-    by (Err f) is = absurd cc
-
--- at rest no packet counts, also where a history is full
-pub rest_is_stuck : (config : ConfigValue) (liars : Nodes) (run : Run) → IsClusterRun config liars run →
-    IsAtRest config liars run → IsStuck config liars run
-rest_is_stuck config liars run cluster rest p pooled correct =
-    idle_uncounted config p.to (history_of p.to run) (event.Take p)
-    (taken_is_idle config p.to (history_of p.to run) p (cluster.legal p.to) (rest p pooled correct))
-
-pub nothing_is_stuck : NothingIsStuck
-nothing_is_stuck config liars run cluster room = (
-  λ stuck. rests config liars run cluster room stuck,
-  λ rest. rest_is_stuck config liars run cluster rest,
-)

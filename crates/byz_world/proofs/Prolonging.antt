@@ -25,9 +25,10 @@ use Rattle.role_node.specs.declared.event.Event.{Event}
 use Rattle.role_node.specs.declared.event.Event.TheVariants as event
 use Rattle.role_node.specs.declared.faults.NodeFault.{NodeFault}
 use Rattle.std.specs.Prelude.{Result, Ok, Err}
-use Rattle.byz_world.specs.Laws.{reach_of}
+use Rattle.byz_world.specs.Runs.{reach_of}
 use Rattle.byz_world.specs.Pools.{Sent, sends_next, listed, messages, packets_of, pool}
-use Rattle.byz_world.specs.Progress.{IsGivable, IsProlongation, IsPoolBelow, most_at_place, most_work}
+use Rattle.byz_world.specs.Progress.{most_at_place}
+use Rattle.byz_world.specs.Giving.{IsGivable, IsProlongation, IsPoolBelow, most_work}
 use Rattle.byz_world.specs.Progress.{WorkIsBounded}
 use Rattle.byz_world.specs.Runs.{Run, history_of, has_sent, IsClusterRun}
 use Rattle.byz_world.proofs.Elements.{contains_flat, flat_contains, contains_listed, number_of}
@@ -55,7 +56,7 @@ total_most f (suc n) most each =
     let product : suc n * most ≡ most + n * most = grind arith in
     omega (arith, one, rest, product)
 
-total_keeps : (f g : ℕ → ℕ) (n : ℕ) → ((k : ℕ) → f k ≤ g k) → total f n ≤ total g n
+pub total_keeps : (f g : ℕ → ℕ) (n : ℕ) → ((k : ℕ) → f k ≤ g k) → total f n ≤ total g n
 unfolding total
 total_keeps f g zero keeps = omega arith
 total_keeps f g (suc n) keeps = omega (arith, keeps n, total_keeps f g n keeps)
@@ -93,7 +94,7 @@ work_most config liars run places cluster =
     (λ owner. total_most (λ place. length (taken_by run node owner place)) places (most_at_place s)
     (λ place. few_at_place config liars run node owner place cluster)))
 
-longer : (run : Run) (pair : ℕ × Event) (node owner place : ℕ) →
+pub longer : (run : Run) (pair : ℕ × Event) (node owner place : ℕ) →
     length (taken_by run node owner place) ≤ length (taken_by (run ++ pair ∷ []) node owner place)
 longer run pair node owner place =
     let whole : Run = run ++ pair ∷ [] in
@@ -270,8 +271,12 @@ work_is_bounded config liars run cluster = record {
   none_beyond = λ node owner place past.
       none_past (taken_by run node owner place) place (reach_of config run node owner + window)
       (taken_within config liars run cluster node owner place) past;
-  ends = λ more places below prolongs.
-      let work_done = prolonged_work config liars run more places cluster
-      (below_sent config run places (nodes_are config liars run cluster) below) prolongs in
-      omega (arith, work_done);
 }
+
+pub prolonging_ends : (config : ConfigValue) (liars : Nodes) (run more : Run) (places : ℕ) →
+    IsClusterRun config liars run → IsPoolBelow config run places → IsProlongation config liars run more →
+    length more ≤ most_work config.roles.sizes places
+prolonging_ends config liars run more places cluster below prolongs =
+    let work_done = prolonged_work config liars run more places cluster
+    (below_sent config run places (nodes_are config liars run cluster) below) prolongs in
+    omega (arith, work_done)

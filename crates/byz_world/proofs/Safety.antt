@@ -19,7 +19,8 @@ use Rattle.owner_streams.proofs.Exported.{stream_is_exact_lem}
 use Rattle.role_node.specs.Configs.{ConfigValue}
 use Rattle.role_node.specs.Histories.{issued, packets}
 use Rattle.byz_world.specs.Agreement.{common_length}
-use Rattle.byz_world.specs.Laws.{Consistency, Integrity, stream_of}
+use Rattle.byz_world.specs.Laws.{Consistency, Integrity}
+use Rattle.byz_world.specs.Runs.{stream_of}
 use Rattle.byz_world.specs.Runs.{Run, history_of, is_correct, IsClusterRun}
 use Rattle.byz_world.proofs.Lists.{IsFront, front_taken, front_of_front, front_by_places}
 use Rattle.byz_world.proofs.Histories.{taken_by, taken_front, taken_whole}

@@ -23,7 +23,7 @@ use Rattle.bracha_instance.specs.Broadcast.{is_for}
 use Rattle.byz_world.specs.Steps.{is_forged}
 use Rattle.byz_world.specs.Agreement.{common_length, agree_due}
 use Rattle.byz_world.specs.Checks.{decision_due}
-use Rattle.byz_world.specs.Laws.{reach_of}
+use Rattle.byz_world.specs.Runs.{reach_of}
 use Rattle.byz_world.specs.Worlds.{IsClusterRunOf}
 use Rattle.byz_world.proofs.Safety.{consistency}
 use Rattle.byz_world.specs.Runs.{Run, history_of, is_correct, of_kind, has_sent, IsClusterRun}

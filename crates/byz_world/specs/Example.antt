@@ -12,7 +12,9 @@ use Rattle.link_frames.specs.declared.kind.Kind.TheVariants.{Send, Echo, Ready}
 use Rattle.link_frames.specs.Packets.{PacketValue}
 use Rattle.role_node.specs.Configs.{ConfigValue}
 use Rattle.role_node.specs.declared.event.Event.TheVariants.{Issue, Take}
+use Rattle.byz_world.specs.Giving.{IsProlongation}
 use Rattle.byz_world.specs.Laws.{delivered_by}
+use Rattle.byz_world.specs.Progress.{IsWanted, IsQuiet}
 use Rattle.byz_world.specs.Resting.{IsAtRest}
 use Rattle.byz_world.specs.Runs.{Run, IsClusterRun}
 
@@ -41,18 +43,29 @@ abbrev pub told_to_all : Kind → List ℕ → List PacketValue
 told_to_all kind senders = flat_map (λ from. map (told kind user_seven from) correct_nodes) senders
 
 -- the packets of the run, each taken where it is sent to: the liar tells node 1 of another command
-abbrev pub told_in_order : List PacketValue
-told_in_order =
-    told_to_all Send (0 ∷ []) ++ told Echo (Assign 9 2) 3 1 ∷ []
-    ++ told_to_all Echo correct_nodes ++ told_to_all Ready correct_nodes
+abbrev pub told_at_first : List PacketValue
+told_at_first = told_to_all Send (0 ∷ []) ++ told Echo (Assign 9 2) 3 1 ∷ [] ++ told_to_all Echo correct_nodes
 
--- node 0 publishes a command, and all this is taken
+abbrev pub told_at_last : List PacketValue
+told_at_last = told_to_all Ready correct_nodes
+
+abbrev pub taken : List PacketValue → Run
+taken told = map (λ p. (p.to, Take p)) told
+
+-- node 0 publishes a command, and all this is taken, the READYs last
+abbrev pub before_readys : Run
+before_readys = (0, Issue user_seven) ∷ taken told_at_first
+
 abbrev pub example_run : Run
-example_run = (0, Issue user_seven) ∷ map (λ p. (p.to, Take p)) told_in_order
+example_run = before_readys ++ taken told_at_last
 
--- It is a run of a cluster, which is at rest, and two correct nodes deliver the command.
+-- It is a run of a cluster, which is at rest, and two correct nodes deliver the command. Before the READYs node 0 wants
+-- its own; they prolong the run by packets of the pool; and then nothing about place 0 is wanted.
 pub record AnExample : Type 0 where
   pub is_run : IsClusterRun four_nodes three_lies example_run
   pub rests : IsAtRest four_nodes three_lies example_run
   pub delivered_at_zero : delivered_by four_nodes example_run 0 0 0 ≡ Some user_seven
   pub delivered_at_one : delivered_by four_nodes example_run 1 0 0 ≡ Some user_seven
+  pub wanted : IsWanted four_nodes three_lies before_readys (told Ready user_seven 0 0)
+  pub prolongs : IsProlongation four_nodes three_lies before_readys (taken told_at_last)
+  pub quiet : IsQuiet four_nodes three_lies example_run 0 1

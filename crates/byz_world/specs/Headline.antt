@@ -1,6 +1,5 @@
--- The promise of the product, for the run of any list of steps.
-use Rattle.std.specs.Prelude.{◌≡◌, ◌≢◌, ℕ, min, false, List, [], take, find, All, IsSomeAnd, Option, Some, None}
-use Rattle.quorum_sizes.specs.Sizes.{AreSizes}
+-- The promise of the product, for every run of a cluster.
+use Rattle.std.specs.Prelude.{◌≡◌, ◌≢◌, ℕ, min, [], take, find, IsSomeAnd, Option, Some, None}
 use Rattle.quorum_sizes.specs.NodeSets.{Nodes}
 use Rattle.owner_streams.specs.Laws.{IsPrefixOf}
 use Rattle.role_sessions.specs.Sessions.{Session}
@@ -14,11 +13,7 @@ use Rattle.role_node.specs.Access.{relations_at, session_at}
 use Rattle.role_node.specs.Configs.{ConfigValue}
 use Rattle.role_node.specs.Histories.{issued}
 use Rattle.byz_world.specs.Checks.{decision_due}
-use Rattle.byz_world.specs.Laws.{stream_of, reach_of}
-use Rattle.byz_world.specs.Runs.{Run, history_of, IsCorrect, IsClusterRun}
-use Rattle.byz_world.specs.Steps.{after_steps, IsSoundStep}
-use Rattle.byz_world.specs.Worlds.{new_world, too_many_lie}
-use Rattle.byz_world.specs.declared.step.Step.{Step}
+use Rattle.byz_world.specs.Runs.{Run, history_of, stream_of, reach_of, IsCorrect, IsClusterRun}
 
 -- the rule is the first that denies the access
 abbrev pub IsFirstRule : Relations → Option Session → ℕ → ℕ → ℕ → Rule → Type 0
@@ -44,11 +39,10 @@ pub record IsRightDecision (relations : Relations) (found : Option Session) (use
       × (find (relations.granted operation object) (counted_roles relations session) ≡ Some role))
   pub denies : (rule : Rule) → v ≡ Deny rule → IsFirstRule relations found user operation object rule
 
--- The run is one of a cluster. A correct node answers each access: it allows exactly what Core RBAC allows over the
--- streams that it delivered, else names the first rule that denies it; two correct nodes' streams of an owner agree as
--- far as both reach; and a correct owner's stream is a front of what it issued.
+-- A correct node answers each access: it allows exactly what Core RBAC allows over the streams that it delivered, else
+-- names the first rule that denies it; two correct nodes' streams of an owner agree as far as both reach; and a correct
+-- owner's stream is a front of what it issued.
 pub record KeepsThePromise (config : ConfigValue) (liars : Nodes) (run : Run) : Type 0 where
-  pub is_run : IsClusterRun config liars run
   pub decisions : (node session user operation object : ℕ) → IsCorrect config liars node →
       IsSomeAnd (decision_due config liars run node session user operation object)
       (IsRightDecision (relations_at config.roles (history_of node run)) (session_at (history_of node run) session)
@@ -61,11 +55,8 @@ pub record KeepsThePromise (config : ConfigValue) (liars : Nodes) (run : Run) : 
       IsCorrect config liars i → IsCorrect config liars owner →
       IsPrefixOf (stream_of config run i owner) (issued (history_of owner run))
 
--- For every configuration and set of liars, of whom no more are nodes than may lie, and for every list of steps:
--- deliveries, losses, repeats, forgeries, any bytes and client calls. A packet that a step brings is one (a SEND comes
--- from its owner, and the place is one of a stream); of bytes nothing is asked.
+-- Every run of a cluster keeps the promise, whatever its liars and the network do.
 abbrev pub Headline : Type 0
 Headline =
-    (config : ConfigValue) (liars : Nodes) (steps : List Step) → AreSizes config.roles.sizes →
-    too_many_lie config.roles.sizes liars ≡ false → All IsSoundStep steps →
-    KeepsThePromise config liars (after_steps (new_world config liars) steps).run
+    (config : ConfigValue) (liars : Nodes) (run : Run) → IsClusterRun config liars run →
+    KeepsThePromise config liars run

@@ -1,5 +1,5 @@
 -- The promises of the cluster, about every run of it.
-use Rattle.std.specs.Prelude.{◌≡◌, ℕ, ◌<◌, ◌≤◌, min, IsTrue, List, slice_get, Contains, ◌↔◌, Option, Some}
+use Rattle.std.specs.Prelude.{◌≡◌, ℕ, ◌<◌, ◌≤◌, min, IsTrue, slice_get, Contains, ◌↔◌, Option, Some}
 use Rattle.std.specs.FinSet as sets
 use Rattle.quorum_sizes.specs.Sizes.{amplify_of}
 use Rattle.quorum_sizes.specs.NodeSets.{Nodes}
@@ -10,8 +10,8 @@ use Rattle.owner_streams.specs.Places.{takes_at, delivered_at}
 use Rattle.link_frames.specs.Packets.{PacketValue, IsSound}
 use Rattle.role_node.specs.Configs.{ConfigValue}
 use Rattle.role_node.specs.Histories.{issued, packets}
-use Rattle.role_node.specs.Access.{stream_at, reach_at, relations_at}
-use Rattle.byz_world.specs.Runs.{Run, history_of, IsCorrect, IsClusterRun}
+use Rattle.role_node.specs.Access.{relations_at}
+use Rattle.byz_world.specs.Runs.{Run, history_of, stream_of, reach_of, IsCorrect, IsClusterRun}
 use Rattle.byz_world.specs.Pools.{pool, WasSent}
 use Rattle.byz_world.specs.Resting.{IsAtRest}
 use Rattle.byz_world.specs.Agreement.{common_length}
@@ -26,13 +26,6 @@ readied_by config run node owner place =
 
 abbrev pub delivered_by : ConfigValue → Run → ℕ → ℕ → ℕ → Option Command
 delivered_by config run node owner place = delivered_at config.roles.sizes owner place (packets (history_of node run))
-
--- a node's stream of an owner, and how far it reaches
-abbrev pub stream_of : ConfigValue → Run → ℕ → ℕ → List Command
-stream_of config run node owner = stream_at config.roles.sizes (history_of node run) owner
-
-abbrev pub reach_of : ConfigValue → Run → ℕ → ℕ → ℕ
-reach_of config run node owner = reach_at config.roles.sizes (history_of node run) owner
 
 -- A packet stands in the pool of a cluster run exactly where its sender is a correct node that has sent its message,
 -- and its receiver is a node.

@@ -6,12 +6,14 @@ pub mod Steps
 pub mod Settled
 pub mod Faults
 pub mod Resting
-pub mod Progress
 pub mod Agreement
 pub mod Laws
 pub mod Limits
+pub mod Progress
+pub mod Giving
 pub mod Example
 pub mod Checks
 pub mod Headline
+pub mod AfterSteps
 pub mod Asking
 pub mod inside

@@ -1,99 +1,95 @@
--- How far a run goes on by what its correct nodes have sent, and when that can go no further.
-use Rattle.std.specs.Prelude.{◌≡◌, ℕ, ◌+◌, ◌*◌, ◌<◌, ◌≤◌, ◌⊎◌, ◌↔◌, Bool, false, IsTrue}
-use Rattle.std.specs.Prelude.{[], ◌++◌, length, take, slice_get, Contains, Some}
+-- How each owner's stream goes on, whatever liars, clients and the other owners do meanwhile: by what correct nodes
+-- have sent about its first places and others still want.
+use Rattle.std.specs.Prelude.{◌≡◌, ℕ, ◌+◌, ◌*◌, ◌<◌, ◌≤◌, ◌==◌, ◌⊎◌, Bool, ◌&&◌, nat_lt, false, [], ◌∷◌, ◌++◌}
+use Rattle.std.specs.Prelude.{length, take, filter, Contains, Ok}
+use Rattle.std.specs.Option.{option_map_or}
 use Rattle.quorum_sizes.specs.Sizes.{Counts}
 use Rattle.quorum_sizes.specs.NodeSets.{Nodes}
 use Rattle.link_frames.specs.Packets.{PacketValue}
+use Rattle.bracha_instance.specs.declared.instance.Effect.TheVariants.{Counted}
 use Rattle.owner_streams.specs.Places.{window, takes_at}
-use Rattle.role_node.specs.Answers.{answer_due, is_recorded}
+use Rattle.role_node.specs.Answers.{take_outlook}
 use Rattle.role_node.specs.Configs.{ConfigValue}
-use Rattle.role_node.specs.Histories.{packets}
+use Rattle.role_node.specs.Histories.{packet_in, packets, issued, client_events}
 use Rattle.role_node.specs.declared.event.Event.{Event}
 use Rattle.role_node.specs.declared.event.Event.TheVariants.{Take}
-use Rattle.byz_world.specs.Laws.{reach_of, HasSettled}
-use Rattle.byz_world.specs.Pools.{pool}
-use Rattle.byz_world.specs.Resting.{IsAtRest}
-use Rattle.byz_world.specs.Runs.{Run, history_of, IsCorrect, IsClusterRun}
+use Rattle.byz_world.specs.Limits.{IsRunUnderLimits}
+use Rattle.byz_world.specs.Pools.{WasSent}
+use Rattle.byz_world.specs.Runs.{Run, history_of, stream_of, reach_of, IsCorrect, IsClusterRun}
 
--- its receiver would record the packet if it were given now
-abbrev pub counts_now : ConfigValue → Run → PacketValue → Bool
-counts_now config run p = is_recorded (answer_due config p.to (history_of p.to run) (Take p))
-
--- no packet of the pool to a correct node counts any more
-abbrev pub IsStuck : ConfigValue → Nodes → Run → Type 0
-IsStuck config liars run =
-    (p : PacketValue) → Contains (pool config run) p → IsCorrect config liars p.to →
-    counts_now config run p ≡ false
-
--- no correct node's history is full
-abbrev pub HasRoom : ConfigValue → Nodes → Run → Type 0
-HasRoom config liars run =
-    (node : ℕ) → IsCorrect config liars node → length (history_of node run) < config.limit
-
--- Nothing is stuck. Of a cluster in which no history is full: where no packet of the pool counts any more, it is at
--- rest, and only there. So none waits beyond a window for ever.
-abbrev pub NothingIsStuck : Type 0
-NothingIsStuck =
-    (config : ConfigValue) (liars : Nodes) (run : Run) → IsClusterRun config liars run → HasRoom config liars run →
-    IsStuck config liars run ↔ IsAtRest config liars run
-
--- the packet may be given, and counts: a correct node has sent it to a correct node, which would record it
-pub record IsGivable (config : ConfigValue) (liars : Nodes) (run : Run) (p : PacketValue) : Type 0 where
-  pub sent : Contains (pool config run) p
+-- a correct node has sent the packet to a correct node that would record it now, room in its history apart
+pub record IsWanted (config : ConfigValue) (liars : Nodes) (run : Run) (p : PacketValue) : Type 0 where
+  pub sent : WasSent config liars run p
   pub to : IsCorrect config liars p.to
-  pub counts : IsTrue (counts_now config run p)
+  pub counts : take_outlook config.roles p.to (history_of p.to run) p ≡ Ok Counted
 
--- The run is prolonged by packets of the pool alone, in whatever order: each of these pairs is such a packet, which
--- counted when it was given, and its receiver.
-abbrev pub IsProlongation : ConfigValue → Nodes → Run → Run → Type 0
-IsProlongation config liars run more =
-    (t : ℕ) (pair : ℕ × Event) → slice_get more t ≡ Some pair →
-    (p : PacketValue) × IsGivable config liars (run ++ take t more) p × (pair ≡ (p.to, Take p))
+-- nothing about the owner's places before this one is wanted
+abbrev pub IsQuiet : ConfigValue → Nodes → Run → ℕ → ℕ → Type 0
+IsQuiet config liars run owner places =
+    (p : PacketValue) → IsWanted config liars run p → p.owner ≡ owner → p.place < places → ⊥
+
+-- so much of the owner's stream is one list at all correct nodes, and where the owner is correct what it issued
+pub record IsComplete (config : ConfigValue) (liars : Nodes) (run : Run) (owner places : ℕ) : Type 0 where
+  pub alike : (i j : ℕ) → IsCorrect config liars i → IsCorrect config liars j →
+      take places (stream_of config run i owner) ≡ take places (stream_of config run j owner)
+  pub issued_is_delivered : (i : ℕ) → IsCorrect config liars i → IsCorrect config liars owner →
+      take places (stream_of config run i owner) ≡ take places (issued (history_of owner run))
+
+-- Where nothing about an owner's first places is wanted, these are complete, whatever is under way of others and
+-- whichever histories are full.
+abbrev pub QuietIsComplete : Type 0
+QuietIsComplete =
+    (config : ConfigValue) (liars : Nodes) (run : Run) (owner places : ℕ) → IsClusterRun config liars run →
+    IsQuiet config liars run owner places → IsComplete config liars run owner places
 
 -- so many packets about a place can count at a node: a SEND of the owner, and an ECHO and a READY of each node
 abbrev pub most_at_place : Counts → ℕ
 most_at_place s = 2 * s.nodes + 1
 
--- so many can count in all, about the places before this one of each owner at each node
-abbrev pub most_work : Counts → ℕ → ℕ
-most_work s places = s.nodes * (s.nodes * (places * most_at_place s))
+-- the event is a packet about the owner's places before this one
+abbrev pub is_about : ℕ → ℕ → ℕ × Event → Bool
+is_about owner places pair =
+    option_map_or (λ p. p.owner == owner && nat_lt p.place places) (packet_in pair.1) false
 
--- no packet of the pool is about this place or a later one
-abbrev pub IsPoolBelow : ConfigValue → Run → ℕ → Type 0
-IsPoolBelow config run places = (p : PacketValue) → Contains (pool config run) p → p.place < places
+-- An owner's first places are complete, or something about them is wanted. Only so many packets about them are recorded
+-- in all, those of liars too. And what is wanted stays so until it is recorded, however the run goes on.
+pub record GoesOn (config : ConfigValue) (liars : Nodes) (run : Run) (owner places : ℕ) : Type 0 where
+  pub complete_or_wanted : IsComplete config liars run owner places
+      ⊎ ((p : PacketValue) × IsWanted config liars run p × (p.owner ≡ owner) × (p.place < places))
+  pub ends : length (filter (is_about owner places) run)
+      ≤ config.roles.sizes.nodes * (places * most_at_place config.roles.sizes)
+  pub stays : (p : PacketValue) (more : Run) → IsClusterRun config liars (run ++ more) → IsWanted config liars run p →
+      IsWanted config liars (run ++ more) p ⊎ Contains (packets (history_of p.to (run ++ more))) p
 
--- Work is bounded: no more was recorded about a place than can count there, nothing about a place beyond the window,
--- and by packets of the pool alone a run gets only so much longer, whatever liars did before.
-pub record IsWorkBounded (config : ConfigValue) (liars : Nodes) (run : Run) : Type 0 where
+abbrev pub EachOwnerGoesOn : Type 0
+EachOwnerGoesOn =
+    (config : ConfigValue) (liars : Nodes) (run : Run) (owner places : ℕ) → IsClusterRun config liars run →
+    GoesOn config liars run owner places
+
+-- What is wanted is recorded when it is given, where its receiver is below its own limit.
+abbrev pub WantedIsRecorded : Type 0
+WantedIsRecorded =
+    (config : ConfigValue) (limits : ℕ → ℕ) (liars : Nodes) (run : Run) (p : PacketValue) →
+    IsRunUnderLimits config limits liars run → IsWanted config liars run p →
+    length (history_of p.to run) < limits p.to → IsRunUnderLimits config limits liars (run ++ (p.to, Take p) ∷ [])
+
+-- A history that has only packets about places before this one is no longer than what its node issued, what its clients
+-- did, and what can count about these places.
+abbrev pub HistoryIsBounded : Type 0
+HistoryIsBounded =
+    (config : ConfigValue) (liars : Nodes) (run : Run) (node places : ℕ) → IsClusterRun config liars run →
+    ((p : PacketValue) → Contains (packets (history_of node run)) p → p.place < places) →
+    length (history_of node run)
+    ≤ length (issued (history_of node run)) + length (client_events (history_of node run))
+    + config.roles.sizes.nodes * (places * most_at_place config.roles.sizes)
+
+-- No more is recorded about a place than can count there, and nothing about a place beyond the window.
+pub record IsWorkBounded (config : ConfigValue) (run : Run) : Type 0 where
   pub at_place : (node owner place : ℕ) →
       length (takes_at owner place (packets (history_of node run))) ≤ most_at_place config.roles.sizes
   pub none_beyond : (node owner place : ℕ) → reach_of config run node owner + window ≤ place →
       takes_at owner place (packets (history_of node run)) ≡ []
-  pub ends : (more : Run) (places : ℕ) → IsPoolBelow config run places → IsProlongation config liars run more →
-      length more ≤ most_work config.roles.sizes places
 
 abbrev pub WorkIsBounded : Type 0
 WorkIsBounded =
-    (config : ConfigValue) (liars : Nodes) (run : Run) → IsClusterRun config liars run →
-    IsWorkBounded config liars run
-
--- What holds of a run that is prolonged by packets of the pool, in whatever order they are given. It is a run of a
--- cluster and gets only so much longer, so it fills no history that has room for that; and while no history is full,
--- some packet counts until the cluster is at rest, and where none does, all is delivered.
-pub record ComesToRest (config : ConfigValue) (liars : Nodes) (run more : Run) : Type 0 where
-  pub is_run : IsClusterRun config liars (run ++ more)
-  pub ends : (places : ℕ) → IsPoolBelow config run places → length more ≤ most_work config.roles.sizes places
-  pub has_room : (places : ℕ) → IsPoolBelow config run places →
-      ((node : ℕ) → IsCorrect config liars node →
-      length (history_of node run) + most_work config.roles.sizes places < config.limit) →
-      HasRoom config liars (run ++ more)
-  pub goes_on : HasRoom config liars (run ++ more) →
-      IsAtRest config liars (run ++ more) ⊎ ((p : PacketValue) × IsGivable config liars (run ++ more) p)
-  pub settles : HasRoom config liars (run ++ more) → IsStuck config liars (run ++ more) →
-      HasSettled config liars (run ++ more)
-
--- Whoever goes on giving packets that count comes to an end, and there the cluster is at rest.
-abbrev pub FairSchedulesSettle : Type 0
-FairSchedulesSettle =
-    (config : ConfigValue) (liars : Nodes) (run more : Run) → IsClusterRun config liars run →
-    IsProlongation config liars run more → ComesToRest config liars run more
+    (config : ConfigValue) (liars : Nodes) (run : Run) → IsClusterRun config liars run → IsWorkBounded config run

@@ -13,7 +13,7 @@ use Rattle.link_frames.specs.declared.packet.Message.{Message}
 use Rattle.link_frames.specs.Packets.{PacketValue, IsSound, message_of}
 use Rattle.bracha_instance.specs.Broadcast.{is_for}
 use Rattle.role_node.specs.Configs.{ConfigValue}
-use Rattle.role_node.specs.Access.{sent_at}
+use Rattle.role_node.specs.Access.{sent_at, stream_at, reach_at}
 use Rattle.role_node.specs.Answers.{IsLegal}
 use Rattle.role_node.specs.declared.event.Event.{Event}
 use Rattle.role_node.specs.declared.event.Event.TheVariants.{Take}
@@ -29,6 +29,13 @@ event_at node pair = if pair.0 == node then Some pair.1 else None
 -- a node's history in the run
 unfoldable pub history_of : ℕ → Run → List Event
 history_of node run = filter_map (event_at node) run
+
+-- a node's stream of an owner, and how far it reaches
+abbrev pub stream_of : ConfigValue → Run → ℕ → ℕ → List Command
+stream_of config run node owner = stream_at config.roles.sizes (history_of node run) owner
+
+abbrev pub reach_of : ConfigValue → Run → ℕ → ℕ → ℕ
+reach_of config run node owner = reach_at config.roles.sizes (history_of node run) owner
 
 -- a node that does not lie
 abbrev pub is_correct : Counts → Nodes → ℕ → Bool

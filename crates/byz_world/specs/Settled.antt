@@ -1,12 +1,15 @@
 -- What it is to settle a world: its packets are given until none counts any more.
-use Rattle.std.specs.Prelude.{◌≡◌, ℕ, zero, suc, ◌*◌, ◌++◌, Bool, false, nat_lt, if◌then◌else◌, length, map}
+use Rattle.std.specs.Prelude.{◌≡◌, ℕ, zero, suc, ◌*◌, ◌≤◌, ◌++◌, Bool, false, IsTrue, nat_lt, if◌then◌else◌}
+use Rattle.std.specs.Prelude.{length, map}
 use Rattle.std.specs.List.{range_with_len}
+use Rattle.link_frames.specs.Packets.{PacketValue}
 use Rattle.role_node.specs.Configs.{ConfigValue}
 use Rattle.byz_world.specs.Pools.{pool}
-use Rattle.byz_world.specs.Progress.{IsProlongation, IsStuck, HasRoom}
+use Rattle.byz_world.specs.Giving.{IsProlongation, IsGivenOut, HasRoom}
 use Rattle.byz_world.specs.Resting.{IsAtRest}
-use Rattle.byz_world.specs.Runs.{Run}
-use Rattle.byz_world.specs.Steps.{after_steps, with_run, is_pool_full}
+use Rattle.byz_world.specs.Progress.{IsWanted}
+use Rattle.byz_world.specs.Runs.{Run, history_of}
+use Rattle.byz_world.specs.Steps.{after_steps, with_run, is_pool_full, adds}
 use Rattle.byz_world.specs.Worlds.{WorldValue}
 use Rattle.byz_world.specs.declared.step.Step.TheVariants.{Give}
 
@@ -15,10 +18,17 @@ abbrev pub IsProlonged : WorldValue → WorldValue → Type 0
 IsProlonged old new =
     (more : Run) × (new ≡ with_run old (old.run ++ more)) × IsProlongation old.config old.liars old.run more
 
--- while the pool has room no packet of it counts any more, so where no history is full either, the world is at rest
+-- While the pool has room no packet of it counts any more: what is still wanted, a full history keeps out. So where no
+-- history is full either, the world is at rest.
 pub record IsSettled (w : WorldValue) : Type 0 where
-  pub stuck : is_pool_full w ≡ false → IsStuck w.config w.liars w.run
+  pub given_out : is_pool_full w ≡ false → IsGivenOut w.config w.liars w.run
+  pub wanted : is_pool_full w ≡ false → (p : PacketValue) → IsWanted w.config w.liars w.run p →
+      w.config.limit ≤ length (history_of p.to w.run)
   pub rests : is_pool_full w ≡ false → HasRoom w.config w.liars w.run → IsAtRest w.config w.liars w.run
+
+-- some packet of the pool would be recorded if it were given now
+abbrev pub MayAdd : WorldValue → Type 0
+MayAdd w = (packet : ℕ) × IsTrue (adds w (Give packet))
 
 -- the world after so many packets of the pool were given, one after another from this number on
 abbrev pub after_gives : WorldValue → ℕ → ℕ → WorldValue

@@ -2,10 +2,11 @@
 //! into the order of the packets afterwards.
 
 ghost use Rattle.std.specs.Prelude.{◌≡◌, ◌+◌, ◌*◌, ◌<◌, ◌≤◌, [], ◌++◌, length, drop, slice_get};
-ghost use Rattle.std.specs.Prelude.{IfOk, OnOk, OnErr, Some, None};
+ghost use Rattle.std.specs.Prelude.{IfOk, IsTrue, OnOk, OnErr, Some, None};
 ghost use Rattle.std.specs.Vec.{vec_len, vec_capacity};
 ghost use Rattle.byz_world.specs.inside.Blocks.{kind_of, mark_due, mark_of, after_take, taken, TookSome};
-ghost use Rattle.byz_world.specs.inside.Blocks.{GaveSome, AreGiven};
+ghost use Rattle.byz_world.specs.inside.Blocks.{GaveSome, AreGiven, counts_at, wants, MayWant, SomeMayWant};
+ghost use Rattle.byz_world.specs.inside.Kept.{member_in};
 ghost use Rattle.byz_world.specs.inside.Blocks.{noted_names, noted_messages, mark_of_row, row_names, row_messages};
 ghost use Rattle.byz_world.specs.inside.Blocks.{block_most, block_names, block_messages};
 ghost use Rattle.byz_world.specs.declared.block.Mark.TheVariants.{Counted};
@@ -42,6 +43,7 @@ fn take_packet(node: &mut Node, packet: Packet) -> Result<Mark, AllocError>
     ensures node { OnOk result (node.new ≡ taken node.old (Some packet)) }
     ensures mark { IfOk result (λ mark. mark ≡ mark_of node.old (Some packet)) }
     ensures err { OnErr result (node.new ≡ node.old) }
+    ensures memory { OnErr result (IsTrue (counts_at node.old packet)) }
 {
     let event = Event::Take(packet);
     match node.look(&event) {
@@ -59,6 +61,7 @@ fn take_message(node: &mut Node, sent: &(NodeName, Message)) -> Result<Mark, All
     ensures node { OnOk result (node.new ≡ after_take node.old sent.now) }
     ensures mark { IfOk result (λ mark. mark ≡ mark_due node.old sent.now) }
     ensures err { OnErr result (node.new ≡ node.old) }
+    ensures memory { OnErr result (IsTrue (wants node.old sent.now)) }
 {
     match Packet::new(sent.0, node.me(), sent.1) {
         Some(packet) => take_packet(node, packet),
@@ -66,62 +69,96 @@ fn take_message(node: &mut Node, sent: &(NodeName, Message)) -> Result<Mark, All
     }
 }
 
-/// Has a node take messages, one after another, and marks what came of each.
+/// Has a node take messages, one after another, and marks what came of each, where there is room.
 #[inline(never)]
 fn take_messages(
     node: &mut Node,
     sent: &[(NodeName, Message)],
     marks: &mut Vec<Mark>,
 ) -> Result<(), AllocError>
+    requires { vec_len marks.old + length sent.now ≤ vec_capacity marks.old }
     ensures some { TookSome (Some node.old) (Some node.new) sent.now marks.old.items marks.new.items }
     ensures all { OnOk result (length marks.new.items ≡ length marks.old.items + length sent.now) }
+    ensures memory { OnErr result (MayWant (Some node.new) sent.now) }
+    ensures room { vec_capacity marks.new ≡ vec_capacity marks.old }
 {
     for one in sent {
-        marks.try_reserve(1)?;
         let mark = take_message(node, one)?;
         marks.push_reserved(mark);
     }
     Ok(())
 }
 
-/// Marks that messages went to a liar.
-fn pass_messages(sent: &[(NodeName, Message)], marks: &mut Vec<Mark>) -> Result<(), AllocError>
+/// Marks that messages went to a liar, where there is room.
+fn pass_messages(sent: &[(NodeName, Message)], marks: &mut Vec<Mark>)
+    requires { vec_len marks.old + length sent.now ≤ vec_capacity marks.old }
     ensures some { TookSome None None sent.now marks.old.items marks.new.items }
-    ensures all { OnOk result (length marks.new.items ≡ length marks.old.items + length sent.now) }
+    ensures all { length marks.new.items ≡ length marks.old.items + length sent.now }
+    ensures room { vec_capacity marks.new ≡ vec_capacity marks.old }
 {
     for one in sent {
         let _sent = one;
-        marks.push(Mark::Passed)?;
+        marks.push_reserved(Mark::Passed);
     }
-    Ok(())
 }
 
-/// Gives messages to the member of this name.
+/// Gives messages to the member of this name, where there is room for the marks.
 fn give_to(
     members: &mut Vec<Option<Node>>,
     name: usize,
     sent: &[(NodeName, Message)],
     marks: &mut Vec<Mark>,
 ) -> Result<(), AllocError>
-    requires { name < length members.old.items }
+    requires name { name < length members.old.items }
+    requires room { vec_len marks.old + length sent.now ≤ vec_capacity marks.old }
     ensures some { GaveSome members.old.items members.new.items name sent.now marks.old.items marks.new.items }
     ensures all { OnOk result (length marks.new.items ≡ length marks.old.items + length sent.now) }
+    ensures memory { OnErr result (MayWant (member_in members.new.items name) sent.now) }
+    ensures room { vec_capacity marks.new ≡ vec_capacity marks.old }
 {
     match &mut members[name] {
         Some(node) => take_messages(node, sent, marks),
-        None => pass_messages(sent, marks),
+        None => {
+            pass_messages(sent, marks);
+            Ok(())
+        }
     }
 }
 
-/// Gives messages to each member, and marks what came of them.
+/// Makes room for what so many packets may cause, and for their marks, if there is memory for it.
+pub(crate) fn make_room(
+    order: &mut Vec<NodeName>,
+    sent: &mut Vec<(NodeName, Message)>,
+    marks: &mut Vec<Mark>,
+    packets: usize,
+) -> Result<(), AllocError>
+    ensures order { order.new.items ≡ order.old.items }
+    ensures sent { sent.new.items ≡ sent.old.items }
+    ensures marks { marks.new.items ≡ marks.old.items }
+    ensures order_room { OnOk result (vec_len order.new + packets ≤ vec_capacity order.new) }
+    ensures sent_room { OnOk result (vec_len sent.new + packets ≤ vec_capacity sent.new) }
+    ensures marks_room { OnOk result (vec_len marks.new + packets ≤ vec_capacity marks.new) }
+{
+    order.try_reserve(packets)?;
+    sent.try_reserve(packets)?;
+    marks.try_reserve(packets)
+}
+
+/// Gives messages to each member, and marks what came of them, where there is room.
+///
+/// # Errors
+///
+/// Only for want of memory, where a member would record one of them.
 pub(crate) fn give_to_each(
     members: &mut Vec<Option<Node>>,
     sent: &[(NodeName, Message)],
     marks: &mut Vec<Mark>,
 ) -> Result<(), AllocError>
-    requires { marks.old.items ≡ [] }
+    requires none { marks.old.items ≡ [] }
+    requires room { length members.old.items * length sent.now ≤ vec_capacity marks.old }
     ensures given { AreGiven members.old.items members.new.items sent.now marks.new.items }
     ensures all { OnOk result (length marks.new.items ≡ length members.old.items * length sent.now) }
+    ensures memory { OnErr result (SomeMayWant members.new.items sent.now) }
 {
     for name in 0..members.len() {
         give_to(members, name, sent, marks)?;

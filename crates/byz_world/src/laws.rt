@@ -1,12 +1,15 @@
 //! The promises of the cluster, about every run of it.
 //!
 //! Each function's contract is its law, and its body is empty. `specs/Laws.antt` spells the laws out.
+ghost use Rattle.byz_world.specs.AfterSteps.{HeadlineOfSteps};
 ghost use Rattle.byz_world.specs.Example.{AnExample};
 ghost use Rattle.byz_world.specs.Headline.{Headline};
 ghost use Rattle.byz_world.specs.Laws.{PoolIsWhatWasSent, PoolIsSound, Consistency, Integrity, SamePolicy, ReadyByAll};
 ghost use Rattle.byz_world.specs.Laws.{DeliveredByAll, IssuedReachesAll, AtRest};
 ghost use Rattle.byz_world.specs.Limits.{LimitsMayDiffer};
-ghost use Rattle.byz_world.specs.Progress.{NothingIsStuck, WorkIsBounded, FairSchedulesSettle};
+ghost use Rattle.byz_world.specs.Progress.{QuietIsComplete, EachOwnerGoesOn, WantedIsRecorded, HistoryIsBounded};
+ghost use Rattle.byz_world.specs.Progress.{WorkIsBounded};
+ghost use Rattle.byz_world.specs.Giving.{GivenOutIsAtRest, GivingComesToRest};
 
 /// A run whose correct nodes keep to different limits is one of a cluster whose limit is at least the largest of them,
 /// so that all that is said here holds of it.
@@ -62,31 +65,46 @@ pub fn law_at_rest()
     ensures { AtRest }
 {}
 
-/// Of a cluster in which no correct node's history is full: where no packet of the pool would be recorded by its
-/// correct receiver if it were given once more, the cluster is at rest, and only there.
+/// Where nothing about an owner's first places is wanted, these are complete, whatever is under way of others. And of a
+/// cluster in which no correct node's history is full: where no packet of the pool would be recorded by its correct
+/// receiver if it were given once more, the cluster is at rest, and only there.
 pub fn law_nothing_is_stuck()
-    ensures { NothingIsStuck }
+    ensures quiet { QuietIsComplete }
+    ensures given_out { GivenOutIsAtRest }
 {}
 
 /// About one place a node records a SEND of its owner, an ECHO and a READY of each node at most, and nothing beyond its
-/// window; and by packets of the pool alone a run gets only so much longer, whatever liars did before.
+/// window; so a history is bounded by what its node issued, what its clients did, and the places that packets are
+/// about.
 pub fn law_work_is_bounded()
-    ensures { WorkIsBounded }
+    ensures work { WorkIsBounded }
+    ensures history { HistoryIsBounded }
 {}
 
-/// Of every run of a cluster, each way to prolong it by packets of the pool, each recorded, ends; and where none counts
-/// any more and no history is full, it is at rest, and all is delivered.
+/// Each owner's stream goes on, whatever else does: it is complete up to a place, or something about it is wanted,
+/// which its receiver records when it is given, where that node is below its own limit; and only so much can be. And where
+/// nothing happens but that packets of the pool are given, each recorded, this ends, and where none counts any more and
+/// no history is full, the cluster is at rest, and all is delivered.
 pub fn law_fair_schedules_settle()
-    ensures { FairSchedulesSettle }
+    ensures goes_on { EachOwnerGoesOn }
+    ensures recorded { WantedIsRecorded }
+    ensures given { GivingComesToRest }
 {}
 
-/// There is a run of a cluster in which a node lies and two correct nodes deliver a command.
+/// There is a run of a cluster in which a node lies and two correct nodes deliver a command; it can be prolonged before
+/// its end, and there something is wanted.
 pub fn an_example()
     ensures { AnExample }
 {}
 
-/// For every list of steps, any bytes included, with no more liars than may lie: correct nodes decide as Core RBAC does
-/// over the streams that they delivered, these agree as far as they reach, and nothing in them is forged.
+/// Of every run of a cluster: correct nodes decide as Core RBAC does over the streams that they delivered, these agree
+/// as far as they reach, and nothing in them is forged.
 pub fn law_headline()
     ensures { Headline }
+{}
+
+/// The run after any list of steps, any bytes included, with no more liars than may lie, is one of a cluster, and keeps
+/// this promise.
+pub fn headline_of_steps()
+    ensures { HeadlineOfSteps }
 {}

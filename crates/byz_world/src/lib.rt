@@ -1,8 +1,8 @@
 //! A cluster with lying nodes: correct nodes, and all that liars and the network may do to them, as a list of steps.
 //!
 //! `specs/Runs.antt` says what a run of a cluster is, `specs/Pools.antt` which packets it has sent, `specs/Steps.antt`
-//! what a step does, `specs/Laws.antt` what holds of every run, `specs/Progress.antt` how it comes to rest, and
-//! `specs/Headline.antt` the promise of the whole.
+//! what a step does, `specs/Laws.antt` what holds of every run, `specs/Progress.antt` how each owner's stream goes on,
+//! and `specs/Headline.antt` the promise of the whole.
 #![tactic(auto)]
 
 mod block;

@@ -1,7 +1,7 @@
 //! Giving the packets of a world until none counts any more.
 
-ghost use Rattle.std.specs.Prelude.{◌≡◌, ◌+◌, length, IfOk, OnOk};
-ghost use Rattle.byz_world.specs.Settled.{IsProlonged, IsSettled, after_pass, pass_adds, longest_run, settled};
+ghost use Rattle.std.specs.Prelude.{◌≡◌, ◌+◌, length, IfOk, OnOk, OnErr};
+ghost use Rattle.byz_world.specs.Settled.{IsProlonged, IsSettled, MayAdd, after_pass, pass_adds, longest_run, settled};
 ghost use Rattle.byz_world.specs.Worlds.{IsClusterRunOf};
 
 use crate::step::Step;
@@ -15,12 +15,14 @@ impl World {
     ///
     /// # Errors
     ///
-    /// Only for want of memory. What was given until then stays so.
+    /// Only for want of memory, where some packet of the pool would still be recorded. What was given until then stays
+    /// so.
     pub fn settle(&mut self) -> Result<u64, AllocError>
         ensures prolonged { IsProlonged self.old self.new }
         ensures settled { OnOk result (IsSettled self.new) }
         ensures count { IfOk result (λ count. length self.new.run ≡ length self.old.run + count) }
         ensures after { OnOk result (self.new ≡ settled self.old) }
+        ensures memory { OnErr result (MayAdd self.new) }
         ensures run { IsClusterRunOf self.new }
     {
         let before = self.run_len();
@@ -47,6 +49,7 @@ impl World {
         ensures prolonged { IsProlonged self.old self.new }
         ensures adds { IfOk result (λ adds. adds ≡ pass_adds self.old) }
         ensures after { OnOk result (self.new ≡ after_pass self.old) }
+        ensures memory { OnErr result (MayAdd self.new) }
         ensures run { IsClusterRunOf self.new }
     {
         let before = self.run_len();

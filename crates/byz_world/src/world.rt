@@ -19,10 +19,10 @@ ghost use Rattle.byz_world.specs.Worlds.{new_world, is_correct_in, node_due};
 ghost use Rattle.byz_world.specs.Steps.{arrival, opened_at, unless_forged, arrives, is_forged, is_pool_full};
 ghost use Rattle.byz_world.specs.Steps.{with_run, adds, after_step, after_steps, IsStepAnswer};
 ghost use Rattle.byz_world.specs.Settled.{after_gives};
-ghost use Rattle.byz_world.specs.Settled.{IsProlonged};
+ghost use Rattle.byz_world.specs.Settled.{IsProlonged, MayAdd};
 ghost use Rattle.byz_world.specs.inside.Blocks.{IsBlock, StartsBlock};
 ghost use Rattle.byz_world.specs.Agreement.{agree_due};
-ghost use Rattle.byz_world.specs.Laws.{reach_of};
+ghost use Rattle.byz_world.specs.Runs.{reach_of};
 ghost use Rattle.byz_world.specs.Resting.{IsAtRest};
 ghost use Rattle.byz_world.specs.Asking.{IsMade, IsQuestionAnswer};
 ghost use Rattle.byz_world.specs.Checks.{decision_due};
@@ -31,7 +31,7 @@ ghost use Rattle.byz_world.specs.Worlds.{IsClusterRunOf};
 ghost use Rattle.byz_world.specs.declared.step.Step.{Step};
 ghost use Rattle.byz_world.specs.declared.step.Step.TheVariants.{Issue, Give, Lie, Bytes, Client};
 
-use crate::block::{give_to_each, note_block};
+use crate::block::{give_to_each, make_room, note_block};
 use crate::cursor::PacketCursor;
 use crate::faults::WorldFault;
 use crate::keys::{keys_of, new_keys};
@@ -160,7 +160,8 @@ impl World {
     ///
     /// # Errors
     ///
-    /// Only for want of memory. What was given until then stays so.
+    /// Only for want of memory, where some packet of the pool would still be recorded. What was given until then stays
+    /// so.
     pub fn give_some(&mut self, first: u32, most: u32) -> Result<u32, AllocError>
         requires first { first < length (pool self.old.config self.old.run) }
         requires most { 0 < most }
@@ -169,16 +170,31 @@ impl World {
         ensures pooled { IfOk result (λ count. first + count ≤ length (pool self.old.config self.old.run)) }
         ensures after { IfOk result (λ count. self.new ≡ after_gives self.old first count) }
         ensures prolonged { IsProlonged self.old self.new }
+        ensures memory { OnErr result (MayAdd self.new) }
         ensures run { IsClusterRunOf self.new }
     {
         let count = self.block_at(first, most);
         if count == 0 {
-            self.pass_packet(first)?;
-            return Ok(1);
+            return self.give_one(first);
         }
         let nodes = u32::from(self.sizes().n());
-        self.give_block((first / nodes) as usize, count as usize)?;
-        Ok(count * nodes)
+        let given = self.give_block((first / nodes) as usize, count as usize)?;
+        if given {
+            return Ok(count * nodes);
+        }
+        self.give_one(first)
+    }
+
+    /// Gives one packet, whatever comes of it. How many it was.
+    fn give_one(&mut self, packet: u32) -> Result<u32, AllocError>
+        ensures one { IfOk result (λ count. count ≡ 1) }
+        ensures after { IfOk result (λ count. self.new ≡ after_gives self.old packet count) }
+        ensures prolonged { IsProlonged self.old self.new }
+        ensures memory { OnErr result (MayAdd self.new) }
+        ensures run { IsClusterRunOf self.new }
+    {
+        self.pass_packet(packet)?;
+        Ok(1)
     }
 
     /// How many messages may be given at once from this packet on: none where it is not the first of a message, or
@@ -200,19 +216,23 @@ impl World {
         count
     }
 
-    /// Gives so many messages of the pool from this one on, to one node after another.
-    fn give_block(&mut self, first: usize, count: usize) -> Result<(), AllocError>
+    /// Gives so many messages of the pool from this one on, to one node after another, where there is memory for what
+    /// they may cause. Whether there was.
+    fn give_block(&mut self, first: usize, count: usize) -> Result<bool, AllocError>
         requires { IsBlock self.old first count }
-        ensures after { let n = self.old.config.roles.sizes.nodes in
-            OnOk result (self.new ≡ after_gives self.old (first * n) (count * n)) }
+        ensures after { let n = self.old.config.roles.sizes.nodes in IfOk result (λ given.
+            self.new ≡ (if given then after_gives self.old (first * n) (count * n) else self.old)) }
         ensures prolonged { IsProlonged self.old self.new }
+        ensures memory { OnErr result (MayAdd self.new) }
         ensures run { IsClusterRunOf self.new }
     {
         let sizes = self.sizes();
-        let room = count * usize::from(sizes.n());
+        let packets = count * usize::from(sizes.n());
         let mut marks = Vec::new(*self.order.allocator());
-        self.order.try_reserve(room)?;
-        self.sent.try_reserve(room)?;
+        let room = make_room(&mut self.order, &mut self.sent, &mut marks, packets);
+        if room.is_err() {
+            return Ok(false);
+        }
         let given = give_to_each(
             &mut self.members,
             &self.sent[first..first + count],
@@ -226,7 +246,8 @@ impl World {
             count,
             &marks,
         );
-        given
+        given?;
+        Ok(true)
     }
 
     /// As `pass`. Packets of the pool come by the million: this hands on no answer.
@@ -514,6 +535,7 @@ impl World {
         ensures answer { IfOk result (IsAnswerTo self.old.config.roles (history_of name self.old.run) question) }
         ensures within { IfOk result IsWithin }
         ensures same { self.new ≡ self.old }
+        ensures run { IsClusterRunOf self.new }
     {
         if !self.is_correct(name) {
             return Err(WorldFault::NotCorrect);
@@ -533,6 +555,7 @@ impl World {
         ensures decision { let w = self.old in
             result ≡ decision_due w.config w.liars w.run name session user operation object }
         ensures same { self.new ≡ self.old }
+        ensures run { IsClusterRunOf self.new }
     {
         if !self.is_correct(name) {
             return None;
@@ -606,6 +629,7 @@ impl World {
     pub fn sent_len(&self) -> u32
         ensures value { result ≡ length (pool self.now.config self.now.run) }
         ensures limit { result ≤ self.now.config.limit }
+        ensures run { IsClusterRunOf self.now }
     {
         self.sent.len() as u32 * u32::from(self.sizes().n())
     }
@@ -624,6 +648,7 @@ impl World {
         ensures due { result ≡ agree_due self.now i j owner }
         ensures least { IfSome result (λ length. let w = self.now in
             length ≡ min (reach_of w.config w.run i owner) (reach_of w.config w.run j owner)) }
+        ensures run { IsClusterRunOf self.now }
     {
         let (Some(a), Some(b)) = (self.node(i), self.node(j)) else {
             return None;
@@ -636,7 +661,8 @@ impl World {
 
     /// Whether each packet that a correct node has sent to a correct node was taken there.
     pub fn at_rest(&self) -> bool
-        ensures { IsTrue result ↔ IsAtRest self.now.config self.now.liars self.now.run }
+        ensures value { IsTrue result ↔ IsAtRest self.now.config self.now.liars self.now.run }
+        ensures run { IsClusterRunOf self.now }
     {
         self.members
             .iter()

@@ -1,6 +1,7 @@
 -- A block of messages that is given node by node. Serves the code, and no public contract.
 use Rattle.std.specs.Prelude.{◌≡◌, ◌≢◌, ℕ, zero, suc, ◌+◌, ◌-◌, ◌*◌, ◌<◌, ◌≤◌, Bool, if◌then◌else◌, List, [], ◌∷◌, ◌++◌}
-use Rattle.std.specs.Prelude.{◌/◌, length, take, slice_get, Option, Some, None, option_map}
+use Rattle.std.specs.Prelude.{◌/◌, length, take, slice_get, Option, Some, None, option_map, false, IsTrue}
+use Rattle.std.specs.Option.{option_map_or}
 use Rattle.link_frames.specs.Packets.{PacketValue, packet_due}
 use Rattle.link_frames.specs.declared.kind.Kind.{Kind}
 use Rattle.link_frames.specs.declared.packet.Message.{Message}
@@ -40,6 +41,19 @@ mark_due node sent = mark_of node (packet_to node sent)
 
 abbrev pub after_take : NodeValue → Sent → NodeValue
 after_take node sent = taken node (packet_to node sent)
+
+-- the node would record the message
+abbrev pub wants : NodeValue → Sent → Bool
+wants node sent = option_map_or (counts_at node) (packet_to node sent) false
+
+-- .. one of these, at a member
+abbrev pub MayWant : Option NodeValue → List Sent → Type 0
+MayWant None sent = ⊥
+MayWant (Some node) sent = (j : ℕ) × (s : Sent) × (slice_get sent j ≡ Some s) × IsTrue (wants node s)
+
+-- .. at some member
+abbrev pub SomeMayWant : Members → List Sent → Type 0
+SomeMayWant members sent = (name : ℕ) × MayWant (member_in members name) sent
 
 -- the node after these messages, one after another, and what came of each
 unfoldable pub after_takes : NodeValue → List Sent → NodeValue

@@ -19,4 +19,5 @@ returns c =
     record {
       due = ap Some least ∙ agree_is w c.args.i c.args.j c.args.owner a b c.node.ensures.run here there within;
       least = least ∙ least_is w c.args.i c.args.j c.args.owner a b here there;
+      run = c.node.ensures.run;
     }

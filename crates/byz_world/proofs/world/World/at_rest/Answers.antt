@@ -9,8 +9,8 @@ use Rattle.byz_world.specs.Worlds.{WorldValue}
 use Rattle.byz_world.proofs.Settling.{rest_is}
 use Rattle.byz_world.proofs.world.World.at_rest.Goals as goal
 
-pub returns : goal.returns
-returns c =
+pub returns-clause-value : goal.returns-clause-value
+returns-clause-value c =
     let a = c.self.inside in
     let all : c.all.result ≡ list_all (has_taken_all a.sent.items) a.members.items =
     all_from_yields_List (has_taken_all a.sent.items)

@@ -1,6 +1,9 @@
-use Rattle.std.proofs.Common.{◌≡◌, nat_lt, length, ap, sym, ◌∙◌, subst}
+use Rattle.std.proofs.Common.{◌≡◌, nat_lt, length, Result, Ok, Err, ap, sym, ◌∙◌, subst}
+use Rattle.std.specs.Prelude.{IsTrue, OnErr}
 use Rattle.byz_world.specs.Settled.{IsProlonged, after_pass}
+use Rattle.byz_world.specs.Steps.{adds}
 use Rattle.byz_world.specs.Worlds.{WorldValue}
+use Rattle.byz_world.specs.declared.step.Step.TheVariants.{Give}
 use Rattle.byz_world.proofs.Passes.{given_first, given_next, given_prolongs, given_all, rest_adds, rest_pass}
 use Rattle.byz_world.proofs.world.World.give_each.Goals as goal
 
@@ -15,6 +18,18 @@ loop-packet-preserved c =
 pub returns-in_err-pass-clause-prolonged : goal.returns-in_err-pass-clause-prolonged
 returns-in_err-pass-clause-prolonged c =
     subst (IsProlonged c.args.self.now) (sym c.in_err-pass.ensures.err) (given_prolongs c.loop-packet.invariant)
+
+pub returns-in_err-pass-clause-memory : goal.returns-in_err-pass-clause-memory
+returns-in_err-pass-clause-memory c =
+    let K : WorldValue → Type 0 = λ w. IsTrue (adds w (Give c.loop-packet.packet)) in
+    on_err c.from_residual.result (
+      c.loop-packet.packet,
+      subst K (sym c.in_err-pass.ensures.err) c.in_err-pass.ensures.memory,
+    )
+  where
+    on_err : {A E : Type 0} (r : Result A E) → {P : Type 0} → P → OnErr r P
+    on_err (Ok x) p = tt
+    on_err (Err x) p = p
 
 pub returns-clause-prolonged : goal.returns-clause-prolonged
 returns-clause-prolonged c = given_prolongs c.loop-packet.invariant
@@ -36,8 +51,8 @@ returns-clause-after c =
 pub returns-then-at_rest-clause-adds : goal.returns-then-at_rest-clause-adds
 returns-then-at_rest-clause-adds c =
     let first : WorldValue = c.args.self.now in
-    sym (rest_adds first (rest_pass first c.run_len-before.ensures.run (c.at_rest.ensures.0 c.if-at_rest.true)))
+    sym (rest_adds first (rest_pass first c.run_len-before.ensures.run (c.at_rest.ensures.value.0 c.if-at_rest.true)))
 
 pub returns-then-at_rest-clause-after : goal.returns-then-at_rest-clause-after
 returns-then-at_rest-clause-after c =
-    sym (rest_pass c.args.self.now c.run_len-before.ensures.run (c.at_rest.ensures.0 c.if-at_rest.true))
+    sym (rest_pass c.args.self.now c.run_len-before.ensures.run (c.at_rest.ensures.value.0 c.if-at_rest.true))

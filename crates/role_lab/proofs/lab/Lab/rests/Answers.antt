@@ -4,4 +4,5 @@ use Rattle.role_lab.proofs.lab.Lab.rests.Goals as goal
 
 pub returns : goal.returns
 returns c =
-    same_truth c.at_rest.result (rests c.args.self.now.world) c.at_rest.ensures (rests_is_rest c.args.self.now.world)
+    same_truth c.at_rest.result (rests c.args.self.now.world) c.at_rest.ensures.value
+    (rests_is_rest c.args.self.now.world)
