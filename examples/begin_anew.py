@@ -12,7 +12,6 @@ anew, and a role that is in no new file is left out, with a line that says so.
 import json
 import os
 import sys
-import time
 
 import tundelca
 
@@ -59,35 +58,26 @@ def files(folder, paths):
 
 
 def publish(kept, paths):
-    """Each command once, at the owner of its role; returns when that owner has delivered them."""
-    held, published = read(kept), set()
-    for text in map(read, paths):
+    """Each command once, at the owner of its role; returns when most of these nodes have delivered them."""
+    held, texts, published = read(kept), [read(path) for path in paths], set()
+    for text in texts:
+        mine = [role for role, owner in text["roles"] if owner == text["me"] and str(role) in held]
+        published.update(mine)
+        commands = [command for role in mine for command in commands_of(role, held[str(role)])]
+        others = [other["client"] for other in texts if other is not text]
         with tundelca.Client(text["client"]) as owner:
-            issued = 0
-            for role, name in text["roles"]:
-                if name != text["me"] or str(role) not in held:
-                    continue
-                published.add(str(role))
-                rows = held[str(role)]
-                for user in rows["users"]:
-                    issued = tell(owner, "assign", user=user, role=role)
-                for operation, object in rows["permissions"]:
-                    issued = tell(owner, "grant", role=role, operation=operation, object=object)
-            owner.wait_for_reach(text["me"], issued)
-            print(f"node {text['me']}: {issued} commands")
-    for role in sorted(set(held) - published, key=int):
+            done = owner.publish(commands, text["me"], others, text["f"])
+        print(f"node {text['me']}: {done.commands} commands" + (f" ({done})" if done.behind else ""), flush=True)
+    for role in sorted(set(map(int, held)) - published):
         print(f"role {role}: left out, no node of these files owns it")
 
 
-def tell(owner, op, **members):
-    """Publishes a command, as soon as few enough are on their way. How many the owner has published then."""
-    while True:
-        try:
-            return owner.ask(op, **members)["issued"] + 1
-        except tundelca.Refused as refusal:
-            if refusal.code != "F3":
-                raise
-            time.sleep(0.001)
+def commands_of(role, rows):
+    """The commands after which the role holds what it held."""
+    for user in rows["users"]:
+        yield {"op": "assign", "user": user, "role": role}
+    for operation, object in rows["permissions"]:
+        yield {"op": "grant", "role": role, "operation": operation, "object": object}
 
 
 def main():

@@ -5,6 +5,8 @@
     with Client(7400) as node:
         node.ask("assign", user=7, role=2)
         print(node.check(session=1, user=7, operation=5, object=9))
+        commands = [{"op": "assign", "user": user, "role": 2} for user in range(20_000)]
+        print(node.publish(commands, owner=0, others=[7401, 7402, 7403], may_lie=1))
 
 As a program it makes cluster files, and puts a question to a node:
 
@@ -16,10 +18,12 @@ answer for each, and whoever reaches that port may say anything in any user's na
 that knows its users (gateway.py).
 """
 import argparse
+import contextlib
 import json
 import os
 import random
 import secrets
+import select
 import socket
 import subprocess
 import sys
@@ -28,7 +32,10 @@ from dataclasses import dataclass
 from typing import Optional
 
 LOOPBACK = "127.0.0.1"
+PUBLISHED = ("assign", "deassign", "grant", "revoke", "clear")
+PLACES = 1_048_576  # of a stream
 WINDOW = 64  # a node takes messages for so many places beyond its reach
+AHEAD = WINDOW // 2  # what is published in bulk keeps to so many places beyond what most nodes have
 
 
 class NodeFault(Exception):
@@ -46,6 +53,32 @@ class Refused(NodeFault):
         self.code, self.name = answer["error"].split(" ", 1)
         self.member = answer.get("name")
         super().__init__(f"{answer['error']}{' ' + self.member if self.member else ''}, to {json.dumps(request)}")
+
+
+@dataclass(frozen=True)
+class Published:
+    """How far a publication came: so many `commands` are published, the last at place `end` - 1.
+
+    `behind` are the ports of the nodes that haven't all of them, with how far they said last that they are; None where
+    one never said it.
+    """
+
+    commands: int
+    end: int
+    behind: dict
+
+    def __str__(self):
+        late = [f"the node at port {port} " + ("doesn't answer" if reach is None else f"has {reach}")
+                for port, reach in self.behind.items()]
+        return "; ".join([f"the stream goes up to {self.end}", *late])
+
+
+class Unfinished(NodeFault):
+    """A publication that ended early. `done` is how far it came, and the cause is a `Refused` or an `Unreachable`."""
+
+    def __init__(self, owner, done, total, fault):
+        self.done = done
+        super().__init__(f"{done.commands} of {total} commands of node {owner} are published: {fault} ({done})")
 
 
 @dataclass(frozen=True)
@@ -99,6 +132,30 @@ class Client:
             raise Refused(request, answer)
         return answer
 
+    def publish(self, commands, owner, others=(), may_lie=0, patience=30.0, deadline=None):
+        """Publishes the commands, such as {"op": "clear", "role": 2}, each once and in their order. A `Published`.
+
+        This is the node of `owner`, `others` are client ports of other nodes, and of all these at most `may_lie` lie or
+        stand still: those that are behind the others are left out. No command goes out at a place more than 32 beyond
+        what the remaining nodes have delivered, and at the end they have delivered all. Raises `Unfinished` where a
+        command is refused, where nothing moves for `patience` seconds, and `deadline` seconds after the begin.
+        """
+        commands = list(commands)
+        for command in commands:
+            if command["op"] not in PUBLISHED:
+                raise ValueError(f"nothing is published by {json.dumps(command)}")
+        with contextlib.closing(Publication(self, owner, others, may_lie, patience, deadline)) as publication:
+            try:
+                publication.hear()
+                for command in commands:
+                    publication.issue(command)
+                publication.arrive()
+            except (Refused, Unreachable) as fault:
+                with contextlib.suppress(Unreachable):
+                    publication.linger()
+                raise Unfinished(owner, publication.done(), len(commands), fault) from fault
+            return publication.done()
+
     def clear(self, role):
         """Ends all assignments and grants of the role, at the node that owns it. The place of the command."""
         return self.ask("clear", role=role)["issued"]
@@ -132,6 +189,130 @@ class Client:
             if time.monotonic() > deadline:
                 raise Unreachable(f"the node at port {self.port} has not {reach} commands of node {owner} yet")
             time.sleep(0.005)
+
+
+class Watched:
+    """A node that says how far it has an owner's stream. Nobody waits for it: it may stand still, or say anything."""
+
+    LONGEST = 200  # bytes of an answer
+
+    def __init__(self, port, owner):
+        self.port, self.reach = port, None
+        self.question = json.dumps({"op": "reach", "owner": owner}).encode("ascii") + b"\n"
+        self.socket, self.text, self.is_asked, self.next_try = None, b"", False, 0.0
+
+    def ask(self):
+        """Asks, if the last question is answered. A connection that broke is made anew after a second."""
+        try:
+            if self.socket is None and time.monotonic() >= self.next_try:
+                self.next_try = time.monotonic() + 1.0
+                self.socket = socket.socket()
+                self.socket.setblocking(False)
+                self.socket.connect_ex((LOOPBACK, self.port))
+            if self.socket is not None and not self.is_asked:
+                self.socket.send(self.question)
+                self.is_asked = True
+        except BlockingIOError:
+            pass  # not connected yet
+        except OSError:
+            self.close()
+
+    def take(self):
+        """Takes what it said. What is no answer ends the connection."""
+        try:
+            came = self.socket.recv(self.LONGEST)
+            self.text += came
+            if not came or len(self.text) > self.LONGEST:
+                raise ValueError
+            if self.text.endswith(b"\n"):
+                reach = json.loads(self.text)["reach"]
+                if reach not in range(PLACES + 1):
+                    raise ValueError
+                self.reach, self.text, self.is_asked = reach, b"", False
+        except BlockingIOError:
+            pass
+        except (OSError, ValueError, KeyError, TypeError):
+            self.close()
+
+    def close(self):
+        if self.socket is not None:
+            self.socket.close()
+        self.socket, self.text, self.is_asked = None, b"", False
+
+
+class Publication:
+    """Commands on their way from an owner to the nodes. What it keeps to is said at `Client.publish`."""
+
+    LAST = 2.0  # seconds for what is on its way at the end, before those that are behind are named
+
+    def __init__(self, node, owner, others, may_lie, patience, deadline):
+        self.node, self.owner, self.patience = node, owner, patience
+        self.watched = [Watched(port, owner) for port in others]
+        self.quorum = max(1, 1 + len(self.watched) - may_lie)
+        self.commands = self.end = self.reach = self.front = 0
+        self.moved = time.monotonic()
+        self.deadline = float("inf") if deadline is None else self.moved + deadline
+
+    def issue(self, command):
+        """Has the command published as soon as it may be."""
+        while True:
+            while self.end - self.front >= AHEAD:
+                self.look()
+            try:
+                answer = self.node.ask(**command)
+                break
+            except Refused as refusal:
+                if refusal.code != "F3":
+                    raise
+                self.look()  # others publish here too
+        self.commands, self.end, self.moved = self.commands + 1, answer["issued"] + 1, time.monotonic()
+
+    def arrive(self):
+        """Waits until all is delivered, and not long for those that are left out."""
+        while self.front < self.end:
+            self.look()
+        self.linger()
+
+    def linger(self):
+        """Waits for what is on its way, but not long."""
+        last = min(time.monotonic() + self.LAST, self.deadline)
+        while self.behind() and time.monotonic() < last:
+            self.hear()
+
+    def hear(self):
+        """Hears how far the nodes are, and waits a moment for those that were asked."""
+        for one in self.watched:
+            one.ask()
+        self.reach = self.node.reach(self.owner)
+        self.end = max(self.end, self.reach)
+        asked = {one.socket: one for one in self.watched if one.is_asked}
+        for come in select.select(list(asked), [], [], 0.001)[0]:
+            asked[come].take()
+        heard = sorted([self.reach, *(one.reach or 0 for one in self.watched)], reverse=True)
+        front = min(self.reach, heard[self.quorum - 1])
+        if front > self.front:
+            self.front, self.moved = front, time.monotonic()
+
+    def look(self):
+        """Hears how far the nodes are. Raises `Unreachable` where they aren't further for too long."""
+        self.hear()
+        now = time.monotonic()
+        if now > self.deadline:
+            raise Unreachable("the deadline is over")
+        if now > self.moved + self.patience:
+            raise Unreachable(f"for {self.patience:g} seconds too few nodes say that they have more than {self.front}")
+
+    def behind(self):
+        """The ports of the nodes that haven't all, and how far they are."""
+        heard = [(self.node.port, self.reach), *((one.port, one.reach) for one in self.watched)]
+        return {port: reach for port, reach in heard if reach is None or reach < self.end}
+
+    def done(self):
+        return Published(self.commands, self.end, self.behind())
+
+    def close(self):
+        for one in self.watched:
+            one.close()
 
 
 def catch_up(behind, others, owner, patience=30.0):

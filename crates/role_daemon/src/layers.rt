@@ -3,4 +3,5 @@
 mod client_lines_json_tests;
 mod client_lines_op_tests;
 mod client_lines_tests;
+mod frame_queues_tests;
 mod node_lock_tests;

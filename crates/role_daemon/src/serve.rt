@@ -10,6 +10,8 @@ ghost use Rattle.role_daemon.specs.Linked.{ring_of};
 ghost use Rattle.role_daemon.specs.Setups.{IsNodeSetup, IsServerSetup};
 
 mod accept;
+#[cfg(test)]
+mod ahead_tests;
 mod caller;
 mod clients;
 mod connection;
@@ -40,6 +42,7 @@ use caller::MOST_CLIENTS;
 use connection::connections;
 use crew::Crew;
 use frame_jobs::FrameNews;
+use frame_queues::FirstPackets;
 use job_queue::{JobQueue, job_queues};
 use links::Links;
 use node_lock::{Inbox, Seat, SharedNode};
@@ -225,7 +228,8 @@ fn shared_of<'a, L: Ledger>(
         unreachable!()
     };
     let clients = connections(alloc, &mut queues, MOST_CLIENTS)?;
-    let crew = crew_of(alloc, seats, queues)?;
+    let first = FirstPackets::new(alloc, links.sizes().n())?;
+    let crew = crew_of(alloc, seats, queues, first)?;
     Ok(Shared {
         node,
         view_seat: Mutex::new(view_seat),
@@ -239,7 +243,7 @@ fn shared_of<'a, L: Ledger>(
     })
 }
 
-/// A worker for each seat, with a queue of its own.
+/// A worker for each seat, with a queue of its own, and what comes before these.
 ///
 /// # Errors
 ///
@@ -248,6 +252,7 @@ fn crew_of<'a, L: Ledger>(
     alloc: Global,
     seats: Vec<Seat<L>>,
     mut queues: Vec<JobQueue<'a>>,
+    first: FirstPackets,
 ) -> Result<Crew<'a, L>, AllocError> {
     let mut workers = Vec::new(alloc);
     for seat in seats {
@@ -256,7 +261,7 @@ fn crew_of<'a, L: Ledger>(
         };
         workers.push(Worker::new(alloc, queue, seat)?)?;
     }
-    Ok(Crew::new(workers))
+    Ok(Crew::new(workers, first))
 }
 
 /// An empty outbox for each other node.

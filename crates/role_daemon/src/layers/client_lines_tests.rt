@@ -115,7 +115,7 @@ const CHECK: Request = Request::Ask(Question::Check {
     object: 9,
 });
 
-/// The second line is as Python's `json.dumps` writes it; the others have blanks at other places.
+/// Row 0 has no blanks, row 1 those that Python's `json.dumps` writes, and the others have them at other places.
 #[test]
 fn blanks_between_the_parts_change_nothing(rt: HostRuntime) {
     let cases: [&[u8]; 9] = [
@@ -148,17 +148,118 @@ fn of_a_member_given_twice_the_last_counts(rt: HostRuntime) {
 }
 
 /// A plain line of at most 256 bytes is read in another way than a longer one.
+const LENGTHS: [usize; 8] = [127, 128, 129, 255, 256, 257, 1024, 4096];
+
 #[test]
 fn a_line_is_read_at_each_length(rt: HostRuntime) -> Result<(), Fail> {
     let plain =
         b"{\"op\": \"check\", \"session\": 1, \"user\": 7, \"operation\": 5, \"object\": 9}";
-    for length in [128, 255, 256, 257, 1024, 4096] {
+    for length in LENGTHS {
         let mut line = plain.to_vec(rt.alloc())?;
         line.resize(length, b' ')?;
         let came = read(rt.alloc(), &line);
         assert!(rt; came == Ok(CHECK), "{length} bytes: {came:?}");
     }
     Ok(())
+}
+
+/// What a check with a member more is read as, the name of which fills the line up to a length.
+fn read_with(
+    alloc: Global,
+    length: usize,
+    value: &[u8],
+) -> Result<Result<Request, LineFault>, Fail> {
+    let mut line =
+        b"{\"op\":\"check\",\"session\":1,\"user\":7,\"operation\":5,\"object\":9,\"".to_vec(
+            alloc,
+        )?;
+    line.resize(length.saturating_sub(value.len() + 3), b'X')?;
+    line.extend_from_slice(b"\":")?;
+    line.extend_from_slice(value)?;
+    line.push(b'}')?;
+    Ok(read(alloc, &line))
+}
+
+/// Some of these values end the reading of a plain line late, and the line is read in the other way.
+#[test]
+fn a_member_more_changes_nothing_at_any_length(rt: HostRuntime) -> Result<(), Fail> {
+    let values: [&[u8]; 15] = [
+        b"true",
+        b"false",
+        b"null",
+        b"0",
+        b"18446744073709551615",
+        b"18446744073709551616",
+        b"-0",
+        b"7.5e1",
+        b"[null]",
+        b"{\"op\":7}",
+        b"\"\"",
+        b"\"Req-17: a note, {[!]}\"",
+        b"\"\\n\"",
+        b"\"\x7f \xc3\xb6\"",
+        b"\"\\\"}\"",
+    ];
+    for length in LENGTHS {
+        for value in values {
+            let came = read_with(rt.alloc(), length, value)?;
+            assert!(rt;
+                came == Ok(CHECK),
+                "{length} bytes with {value:?}: {came:?}"
+            );
+        }
+    }
+    Ok(())
+}
+
+#[test]
+fn a_value_that_is_none_is_refused_at_any_length(rt: HostRuntime) -> Result<(), Fail> {
+    let values: [&[u8]; 12] = [
+        b"tru",
+        b"trues",
+        b"true7",
+        b"true\"\"",
+        b"nul",
+        b"False",
+        b"00",
+        b"7:",
+        b"\"a\tb\"",
+        b"\"a\x1f\"",
+        b"\"\xc3\"",
+        b"\"\\\"",
+    ];
+    for length in LENGTHS {
+        for value in values {
+            let came = read_with(rt.alloc(), length, value)?;
+            assert!(rt;
+                came == Err(LineFault::NotJson),
+                "{length} bytes with {value:?}: {came:?}"
+            );
+        }
+    }
+    Ok(())
+}
+
+/// Bytes of a text stand for themselves from the blank on, but for the quote, the backslash and what is no UTF-8.
+#[test]
+fn each_byte_of_a_text_is_judged(rt: HostRuntime) {
+    for byte in 0..=255u8 {
+        let came = read(
+            rt.alloc(),
+            &[
+                b'{', b'"', b'o', b'p', b'"', b':', b'"', b's', byte, b'p', b'"', b'}',
+            ],
+        );
+        let due = if byte >= 128 || byte < b' ' || byte == b'"' || byte == b'\\' {
+            LineFault::NotJson
+        } else {
+            LineFault::UnknownOp
+        };
+        assert!(rt;
+            came == Err(due),
+            "byte {byte}: {due:?} is due, not {came:?}"
+        );
+    }
 }
 
 #[test]
@@ -225,6 +326,27 @@ fn answers(rt: HostRuntime) -> Result<(), Fail> {
     let fault = LineFault::Missing(Member::User);
     let text = answer_text(alloc, &ClientAnswer::BadLine(fault))?;
     assert!(rt; text.as_str() == "{\"error\":\"J5 Missing\",\"name\":\"user\"}");
+    Ok(())
+}
+
+/// For so many the square of their room is more memory than there is.
+#[test]
+fn a_long_listing_is_written(rt: HostRuntime) -> Result<(), Fail> {
+    let mut permissions = Vec::new(rt.alloc());
+    for object in 100_000..300_000 {
+        permissions.push((7, object))?;
+    }
+    let permissions = Items::new(permissions);
+    let text = answer_text(
+        rt.alloc(),
+        &ClientAnswer::Permissions { at: 9, permissions },
+    )?;
+    assert!(rt; text.len() == 24 + 11 * 200_000);
+    assert!(rt;
+        text.as_str()
+            .starts_with("{\"at\":9,\"permissions\":[[7,100000],[7,100001],")
+    );
+    assert!(rt; text.as_str().ends_with(",[7,299999]]}"));
     Ok(())
 }
 

@@ -12,6 +12,9 @@ pub const MOST_PEERS: u32 = 128;
 /// The number of the first job of a peer.
 const FIRST_PEER: u32 = MOST_CLIENTS * MOST_LINES;
 
+/// The number of the first packet that a client has sent again.
+const FIRST_AGAIN: u32 = FIRST_PEER + MOST_PEERS;
+
 /// Who waits for a job. A job has its number.
 #[derive(Clone, Copy, Debug, PartialEq, Eq)]
 pub enum Caller {
@@ -19,8 +22,10 @@ pub enum Caller {
     Client { slot: u32, line: u32 },
     /// A connection of frames.
     Peer { slot: u32 },
-    /// The node itself, whose packet it is.
-    Itself,
+    /// A client that has the node's packets sent again, for one of these to itself. It has no answer.
+    Again { slot: u32 },
+    /// Nobody: the packet is the node's own, or has waited for its turn.
+    Nobody,
 }
 
 impl Caller {
@@ -28,7 +33,8 @@ impl Caller {
         match self {
             Caller::Client { slot, line } => slot.saturating_mul(MOST_LINES).saturating_add(line),
             Caller::Peer { slot } => slot.saturating_add(FIRST_PEER),
-            Caller::Itself => u32::MAX,
+            Caller::Again { slot } => slot.saturating_add(FIRST_AGAIN),
+            Caller::Nobody => u32::MAX,
         }
     }
 
@@ -38,12 +44,16 @@ impl Caller {
                 slot: number / MOST_LINES,
                 line: number % MOST_LINES,
             }
-        } else if number - FIRST_PEER < MOST_PEERS {
+        } else if number < FIRST_AGAIN {
             Caller::Peer {
                 slot: number - FIRST_PEER,
             }
+        } else if number - FIRST_AGAIN < MOST_CLIENTS {
+            Caller::Again {
+                slot: number - FIRST_AGAIN,
+            }
         } else {
-            Caller::Itself
+            Caller::Nobody
         }
     }
 }

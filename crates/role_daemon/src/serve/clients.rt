@@ -12,10 +12,10 @@ use crate::serve::connection::{Connection, LineAnswers};
 use crate::serve::job_queue::JobQueue;
 use crate::serve::last_writes::LastWrites;
 use crate::serve::line_reader::LineReader;
-use crate::serve::shared::{Room, Shared, put_own};
+use crate::serve::shared::{Room, Shared};
 use crate::serve::workers::answer_of;
 use client_lines::{ClientAnswer, LineFault, MOST_LINE_BYTES, Request, RequestReader};
-use link_frames::{Ahead, Held, Kind, Message, Next, Place, Watched};
+use link_frames::{Ahead, Held, Kind, Message, Next, Packet, Place, Watched};
 use node_lock::{Call, Job, View};
 use quorum_sizes::NodeName;
 use role_node::{Event, NodeAgain, Question};
@@ -52,8 +52,9 @@ struct Client<'a, 'b, L: Ledger> {
     stream: &'b TcpStream,
     queue: JobQueue<'a>,
     slot: u32,
-    /// How many jobs were put.
+    /// How many jobs were put, and how many of them are known to be done.
     put: u64,
+    done: u64,
     /// How many of them the answers of which are still to come.
     in_flight: u32,
     /// How many questions were asked at once since it was last seen whether much is held.
@@ -90,6 +91,7 @@ pub fn answer_client<L: Ledger, R: Wait + Clock>(
         queue,
         slot,
         put: 0,
+        done: 0,
         in_flight: 0,
         at_once: 0,
         asked: false,
@@ -301,21 +303,29 @@ impl<L: Ledger> Client<'_, '_, L> {
         self.call(rt, &Call::Ask(question))
     }
 
-    /// Puts a job for a line, again until the inbox takes it. No answer is held back meanwhile.
+    /// Puts a job for a line.
     fn call<R: Wait + Clock>(&mut self, rt: &R, call: &Call) -> Result<AfterLine, PipeFault> {
+        self.put(rt, call, true)?;
+        self.in_flight = self.in_flight.saturating_add(1);
+        Ok(AfterLine::Continue)
+    }
+
+    /// Puts a job, again until the inbox takes it: one with an answer, or one of a packet that is sent again. No answer
+    /// is held back meanwhile.
+    fn put<R: Wait + Clock>(
+        &mut self,
+        rt: &R,
+        call: &Call,
+        is_answered: bool,
+    ) -> Result<(), PipeFault> {
         for _ in rt.forever() {
-            let caller = Caller::Client {
-                slot: self.slot,
-                line: self.in_flight,
-            };
             let job = Job {
-                number: caller.number(),
+                number: self.caller(is_answered).number(),
                 call: *call,
             };
             if self.queue.put(rt, job).is_ok() {
                 self.put = self.put.saturating_add(1);
-                self.in_flight = self.in_flight.saturating_add(1);
-                return Ok(AfterLine::Continue);
+                return Ok(());
             }
             self.shared.ring(rt);
             self.settle(rt)?;
@@ -328,6 +338,18 @@ impl<L: Ledger> Client<'_, '_, L> {
         unreachable!()
     }
 
+    /// Who waits for the next job.
+    fn caller(&self, is_answered: bool) -> Caller {
+        if is_answered {
+            Caller::Client {
+                slot: self.slot,
+                line: self.in_flight,
+            }
+        } else {
+            Caller::Again { slot: self.slot }
+        }
+    }
+
     /// Has the answers to all lines that are in flight, and holds them. Those that are held are written first where
     /// the others have to be waited for.
     ///
@@ -335,7 +357,7 @@ impl<L: Ledger> Client<'_, '_, L> {
     ///
     /// As [`collect`](Client::collect).
     fn settle<R: Wait + Clock>(&mut self, rt: &R) -> Result<(), PipeFault> {
-        if self.in_flight == 0 {
+        if self.done == self.put {
             return Ok(());
         }
         self.shared.ring(rt);
@@ -355,6 +377,7 @@ impl<L: Ledger> Client<'_, '_, L> {
         if !self.connection.wait(rt, self.put, &mut self.answers) {
             return Err(PipeFault::Device);
         }
+        self.done = self.put;
         let mut next = 0u32;
         for _ in 0..due {
             let Some(at) = self
@@ -387,35 +410,24 @@ impl<L: Ledger> Client<'_, '_, L> {
         self.shared.view(rt, owner, place).ok_or(PipeFault::Memory)
     }
 
-    /// Sends to all once more what was sent at a place.
+    /// Sends to all once more what was sent at a place. What goes to the node itself is done before the answer, so that
+    /// who asks again and again has no more in the inbox than by other lines.
     fn send_again<R: Wait + Clock>(
         &mut self,
         rt: &R,
         owner: NodeName,
         place: Place,
         sent: &NodeAgain,
-    ) -> Result<(), AllocError> {
-        let mut messages = Vec::new(self.alloc);
-        for (kind, command) in [
-            (Kind::Send, sent.send),
-            (Kind::Echo, sent.echo),
-            (Kind::Ready, sent.ready),
-        ] {
-            if let Some(command) = command {
-                messages.push(Message {
-                    kind,
-                    owner,
-                    place,
-                    command,
-                })?;
-            }
-        }
+    ) -> Result<(), PipeFault> {
+        let messages = messages_of(self.alloc, owner, place, sent)?;
         let mut room = Room::new(self.alloc, messages.len())?;
         self.shared.send_to_peers(rt, &messages, &mut room);
+        let me = self.shared.links.me();
         for message in &messages {
-            put_own(rt, &mut self.queue, self.shared.links.me(), message);
+            if let Some(packet) = Packet::new(me, me, *message) {
+                self.put(rt, &Call::Step(Event::Take(packet)), false)?;
+            }
         }
-        self.shared.ring(rt);
         Ok(())
     }
 
@@ -424,6 +436,31 @@ impl<L: Ledger> Client<'_, '_, L> {
         self.shared.ring(rt);
         self.connection.free(rt, self.queue, self.put);
     }
+}
+
+/// What was sent at a place, as messages.
+fn messages_of(
+    alloc: Global,
+    owner: NodeName,
+    place: Place,
+    sent: &NodeAgain,
+) -> Result<Vec<Message>, AllocError> {
+    let mut messages = Vec::new(alloc);
+    for (kind, command) in [
+        (Kind::Send, sent.send),
+        (Kind::Echo, sent.echo),
+        (Kind::Ready, sent.ready),
+    ] {
+        if let Some(command) = command {
+            messages.push(Message {
+                kind,
+                owner,
+                place,
+                command,
+            })?;
+        }
+    }
+    Ok(messages)
 }
 
 /// Whether a wait that began then was short.

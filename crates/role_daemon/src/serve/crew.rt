@@ -3,6 +3,7 @@
 use crate::serve::shared::Shared;
 use crate::serve::waiting::Awaited;
 use crate::serve::workers::{Worker, call};
+use frame_queues::FirstPackets;
 use node_lock::{Call, Outcome, View};
 use role_node::Question;
 use std::sync::Wait;
@@ -16,42 +17,47 @@ const MOST_TURNS: u32 = 4;
 #[derive(Drop)]
 pub struct Crew<'a, L: Ledger> {
     idle: Vec<Worker<'a, L>>,
-    /// A worker takes jobs. One does so at a time, so that jobs are done in the order in which they came.
-    taking: bool,
-    /// Jobs were put, and no worker has looked since.
+    /// What comes before the jobs of the inbox. Who takes jobs has it meanwhile: so one does so at a time, and jobs are
+    /// done in the order in which they came.
+    first: Option<FirstPackets>,
+    /// Jobs were put, and no worker has looked since; or a worker has left some, since its batch was full.
     jobs: bool,
 }
 
 impl<L: Ledger> Awaited for Crew<'_, L> {
     fn is_due(&self) -> bool {
-        self.jobs && !self.taking && !self.idle.is_empty()
+        self.jobs && self.first.is_some() && !self.idle.is_empty()
     }
 }
 
 impl<'a, L: Ledger> Crew<'a, L> {
-    /// All these workers are idle.
-    pub fn new(idle: Vec<Worker<'a, L>>) -> Crew<'a, L> {
+    /// All these workers are idle, and nothing comes before the inbox.
+    pub fn new(idle: Vec<Worker<'a, L>>, first: FirstPackets) -> Crew<'a, L> {
         Crew {
             idle,
-            taking: false,
+            first: Some(first),
             jobs: false,
         }
     }
 
     /// Whether all jobs that the workers were told of are done.
     fn is_at_rest(&self) -> bool {
-        !self.taking && !self.jobs
+        self.first.is_some() && !self.jobs
     }
 
-    /// An idle worker takes jobs from now on, if none does.
-    fn begin(&mut self) -> Option<Worker<'a, L>> {
-        if self.taking {
-            return None;
+    /// An idle worker takes jobs from now on, if none does, with what comes before them.
+    fn begin(&mut self) -> Option<(Worker<'a, L>, FirstPackets)> {
+        let first = self.first.take()?;
+        match self.idle.pop() {
+            Some(worker) => {
+                self.jobs = false;
+                Some((worker, first))
+            }
+            None => {
+                self.first = Some(first);
+                None
+            }
         }
-        let worker = self.idle.pop()?;
-        self.taking = true;
-        self.jobs = false;
-        Some(worker)
     }
 }
 
@@ -59,13 +65,13 @@ impl<'a, L: Ledger> Shared<'a, L> {
     /// Jobs were put. This thread does them with an idle worker. Where a worker takes jobs now, or all are at work,
     /// those look again.
     pub fn ring<R: Wait + Clock>(&self, rt: &R) {
-        let worker = {
+        let begun = {
             let mut crew = self.crew.lock(rt);
             crew.value.jobs = true;
             crew.value.begin()
         };
-        if let Some(worker) = worker {
-            self.work(rt, worker);
+        if let Some((worker, first)) = begun {
+            self.work(rt, worker, first);
         }
     }
 
@@ -88,49 +94,63 @@ impl<'a, L: Ledger> Shared<'a, L> {
             let Some(mut crew) = self.crew.wait(rt, crew) else {
                 return;
             };
-            let worker = crew.value.begin();
+            let begun = crew.value.begin();
             drop(crew);
-            if let Some(worker) = worker {
-                self.work(rt, worker);
+            if let Some((worker, first)) = begun {
+                self.work(rt, worker, first);
             }
         }
     }
 
     /// Does jobs with a worker, a batch at a time, until there are none or it did many.
-    fn work<R: Wait + Clock>(&self, rt: &R, mut worker: Worker<'a, L>) {
+    fn work<R: Wait + Clock>(&self, rt: &R, mut worker: Worker<'a, L>, mut first: FirstPackets) {
         for turn in 1..=MOST_TURNS {
-            for _ in rt.forever() {
-                let is_full = worker.take_jobs(rt, self);
-                if !self.takes_on(rt, is_full) {
-                    break;
-                }
-            }
+            self.take_batch(rt, &mut worker, first);
             worker.send(rt, self);
             worker.answer(rt, self);
             match self.rest(rt, worker, turn < MOST_TURNS) {
-                Some(busy) => worker = busy,
+                Some((busy, next)) => {
+                    worker = busy;
+                    first = next;
+                }
                 None => return,
             }
         }
     }
 
-    /// Whether the worker that takes jobs takes more, which were put since it looked. If its batch is full they are
-    /// left to others.
-    fn takes_on<R: Wait>(&self, rt: &R, is_full: bool) -> bool {
+    /// Takes jobs with a worker, until there are none or its batch is full.
+    fn take_batch<R: Wait>(&self, rt: &R, worker: &mut Worker<'a, L>, mut first: FirstPackets) {
+        for _ in rt.forever() {
+            let is_full = worker.take_jobs(rt, self, &mut first);
+            match self.takes_on(rt, is_full, first) {
+                Some(kept) => first = kept,
+                None => return,
+            }
+        }
+    }
+
+    /// What comes before the inbox, for the worker that takes jobs, if it takes more that were put since it looked. If
+    /// its batch is full they are left to others, who look at once.
+    fn takes_on<R: Wait>(
+        &self,
+        rt: &R,
+        is_full: bool,
+        first: FirstPackets,
+    ) -> Option<FirstPackets> {
         let is_due = {
             let mut crew = self.crew.lock(rt);
             if crew.value.jobs && !is_full {
                 crew.value.jobs = false;
-                return true;
+                return Some(first);
             }
             crew.value.jobs |= is_full;
-            crew.value.taking = false;
+            crew.value.first = Some(first);
             crew.value.is_due()
         };
         if is_due {
             self.crew.wake();
         }
-        false
+        None
     }
 
     /// A worker has done its batch. It goes on, if it may and there are jobs; else it is idle.
@@ -139,7 +159,7 @@ impl<'a, L: Ledger> Shared<'a, L> {
         rt: &R,
         worker: Worker<'a, L>,
         may_go_on: bool,
-    ) -> Option<Worker<'a, L>> {
+    ) -> Option<(Worker<'a, L>, FirstPackets)> {
         let is_due = {
             let mut crew = self.crew.lock(rt);
             // there is room for each worker

@@ -11,11 +11,14 @@ use std::alloc::{AllocError, Global};
 use std::mem;
 use std::sync::Wait;
 use std::sync::ledger::Ledger;
-use std::time::Clock;
+use std::time::{Clock, Duration};
 
-/// How many jobs of all peers together are in flight at most. With 32 lines of 16 clients these are 992, so that there
-/// is room in the inbox, which has 1,024 places, for the node itself.
+/// How many jobs of all peers together are in flight at most. With 32 lines of 16 clients these are 992, for which
+/// there is room in the inbox, which has 1,024 places.
 const MOST_IN_FLIGHT: u64 = 480;
+
+/// The milliseconds before a job is put again that the inbox did not take.
+const NEXT_PUT: u64 = 1;
 
 /// What is told of the jobs of frames.
 #[derive(Drop)]
@@ -107,7 +110,7 @@ impl<'a, 'b, L: Ledger> FrameJobs<'a, 'b, L> {
         self.shared.links.open(frame)
     }
 
-    /// Puts a packet into the inbox, where it is lost if there is no room. Waits where too many jobs are in flight.
+    /// Puts a packet into the inbox. Waits where too many jobs are in flight, and while there is no room.
     pub fn put<R: Wait + Clock>(&mut self, rt: &R, slot: usize, packet: Packet) {
         if self.put.saturating_sub(self.done) >= MOST_IN_FLIGHT {
             self.wait(rt, self.put.saturating_sub(MOST_IN_FLIGHT / 2));
@@ -115,12 +118,21 @@ impl<'a, 'b, L: Ledger> FrameJobs<'a, 'b, L> {
         let Ok(slot) = u32::try_from(slot) else {
             return;
         };
-        let job = Job {
-            number: Caller::Peer { slot }.number(),
-            call: Call::Step(Event::Take(packet)),
-        };
-        if self.queue.put(rt, job).is_ok() {
-            self.put = self.put.saturating_add(1);
+        // The bounds of lines and frames leave room, so this is the way out only where they are wrong. It ends: who
+        // rings does the jobs that fill the inbox, or another does them now, up to the node's end.
+        for _ in rt.forever() {
+            let job = Job {
+                number: Caller::Peer { slot }.number(),
+                call: Call::Step(Event::Take(packet)),
+            };
+            if self.queue.put(rt, job).is_ok() {
+                self.put = self.put.saturating_add(1);
+                return;
+            }
+            self.shared.ring(rt);
+            if !self.shared.life.pause(rt, Duration::from_millis(NEXT_PUT)) {
+                return;
+            }
         }
     }
 

@@ -57,6 +57,10 @@ pub struct Peer {
     begin: Instant,
     /// The node whose frame was the first that opened.
     pub from: Option<NodeName>,
+    /// That, where it opened since the connection was last seen to be the node's.
+    pub speaker: Option<NodeName>,
+    /// What the last read gave.
+    pub came: Came,
     /// It is noted that there may be bytes.
     pub is_ready: bool,
     /// The peer writes no more, so that the end comes behind its bytes.
@@ -78,19 +82,20 @@ impl Block {
         self.bytes[..self.have].as_chunks::<FRAME_LEN>().0
     }
 
-    /// Reads on behind the part of a frame that is left.
-    fn read(&mut self, stream: &TcpStream) -> Came {
+    /// Reads on behind the part of a frame that is left, up to so many bytes with that.
+    fn read(&mut self, stream: &TcpStream, most: usize) -> Came {
         let rest = self.have % FRAME_LEN;
         let whole = self.have - rest;
         self.bytes.copy_within(whole..self.have, 0);
         self.have = rest;
+        let end = most.min(self.bytes.len()).max(rest);
         let mut reader = stream;
-        match reader.read(&mut self.bytes[rest..]) {
+        match reader.read(&mut self.bytes[rest..end]) {
             Ok(0) => Came::End,
             Ok(count) => {
                 self.interruptions = 0;
                 self.have = rest + count;
-                if self.have < self.bytes.len() {
+                if self.have < end {
                     Came::Some
                 } else {
                     Came::More
@@ -133,6 +138,8 @@ impl Peer {
                 number,
                 begin,
                 from: None,
+                speaker: None,
+                came: Came::Nothing,
                 is_ready: false,
                 has_end: false,
             }),
@@ -154,15 +161,19 @@ impl Peer {
         is_past(rt, &self.begin, SILENT_LIFE)
     }
 
-    /// Reads a block at most, and notes whether there may be more.
-    pub fn read(&mut self) -> Came {
-        let came = self.block.read(&self.stream);
-        self.is_ready = match came {
+    /// Reads a block at most, or one frame where none has opened yet, and notes whether there may be more. So who can't
+    /// seal frames takes little of each turn.
+    pub fn read(&mut self) {
+        let most = match self.from {
+            Some(_) => BLOCK_FRAMES * FRAME_LEN,
+            None => FRAME_LEN,
+        };
+        self.came = self.block.read(&self.stream, most);
+        self.is_ready = match self.came {
             Came::Nothing | Came::End => false,
             Came::Some => self.has_end,
             Came::More => true,
         };
-        came
     }
 
     /// The whole frames of the last block.

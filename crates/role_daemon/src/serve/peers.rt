@@ -6,6 +6,7 @@ use crate::serve::frame_jobs::FrameJobs;
 use crate::serve::job_queue::JobQueue;
 use crate::serve::peer::{Came, Peer};
 use crate::serve::shared::Shared;
+use frame_queues::{Turn, Turns};
 use mio::unix::SourceFd;
 use mio::{Events, Interest, Poll, Token};
 use quorum_sizes::NodeName;
@@ -46,6 +47,8 @@ pub struct PeerPort {
     places: Vec<Option<Peer>>,
     /// The places of the connections that may have bytes.
     ready: Vec<usize>,
+    /// The turns in which the frames of their blocks are put.
+    turns: Turns,
     /// How many connections have come.
     count: u64,
     /// How many of them are there on which no frame has opened.
@@ -85,6 +88,7 @@ impl PeerPort {
             events: Events::with_capacity(alloc, LISTENER + 1)?,
             places,
             ready: Vec::with_capacity(alloc, LISTENER)?,
+            turns: Turns::new(alloc, LISTENER)?,
             count: 0,
             silent: 0,
             asked: None,
@@ -276,14 +280,55 @@ impl PeerPort {
         }
     }
 
-    /// Reads of each connection that may have bytes, one block at most. Those that may have more stay ready.
+    /// Reads of each connection that may have bytes, one block at most, and puts the frames of these blocks in turns, a
+    /// few of each: so no connection's block is behind another's. Those that may have more stay ready.
     fn read_ready<L: Ledger, R: Wait + Clock>(&mut self, rt: &R, jobs: &mut FrameJobs<'_, '_, L>) {
+        for slot in &self.ready {
+            if let Some(Some(peer)) = self.places.get_mut(*slot) {
+                peer.read();
+                // there is room for each place
+                let _ = self.turns.add(*slot, peer.frames().len());
+            }
+        }
+        // each turn takes some frames of those that were read
+        for _ in rt.forever() {
+            let Some(turn) = self.turns.next() else {
+                break;
+            };
+            self.put(rt, jobs, turn);
+        }
+        self.keep_ready();
+    }
+
+    /// Puts the packets of some frames of a connection's block into the inbox. A frame that does not open is lost.
+    fn put<L: Ledger, R: Wait + Clock>(
+        &mut self,
+        rt: &R,
+        jobs: &mut FrameJobs<'_, '_, L>,
+        turn: Turn,
+    ) {
+        let Some(Some(peer)) = self.places.get_mut(turn.block) else {
+            return;
+        };
+        let mut speaker = peer.from.or(peer.speaker);
+        for frame in peer.frames().get(turn.from..turn.to).unwrap_or(&[]) {
+            if let Some(packet) = jobs.open(frame) {
+                speaker = speaker.or(Some(packet.from()));
+                jobs.put(rt, turn.block, packet);
+            }
+        }
+        peer.speaker = speaker;
+    }
+
+    /// Closes the connections that have ended, and the older ones of those whose first frame has opened. Keeps those
+    /// that may have more.
+    fn keep_ready(&mut self) {
         let mut kept = 0usize;
         for at in 0..self.ready.len() {
             let Some(slot) = self.ready.get(at).copied() else {
                 break;
             };
-            if self.read(rt, jobs, slot) {
+            if self.goes_on(slot) {
                 if let Some(place) = self.ready.get_mut(kept) {
                     *place = slot;
                 }
@@ -293,26 +338,13 @@ impl PeerPort {
         self.ready.truncate(kept);
     }
 
-    /// Reads a block of a connection, and puts the packets of its frames into the inbox. A frame that does not open is
-    /// lost. Whether there may be more.
-    fn read<L: Ledger, R: Wait + Clock>(
-        &mut self,
-        rt: &R,
-        jobs: &mut FrameJobs<'_, '_, L>,
-        slot: usize,
-    ) -> bool {
-        let Some(Some(peer)) = self.places.get_mut(slot) else {
+    /// Whether a connection may have more. It is closed at its end.
+    fn goes_on(&mut self, slot: usize) -> bool {
+        let Some(Some(peer)) = self.places.get(slot) else {
             return false;
         };
-        let came = peer.read();
-        let mut speaker = peer.from;
-        for frame in peer.frames() {
-            if let Some(packet) = jobs.open(frame) {
-                speaker = speaker.or(Some(packet.from()));
-                jobs.put(rt, slot, packet);
-            }
-        }
         let is_ready = peer.is_ready;
+        let (came, speaker) = (peer.came, peer.speaker);
         if came == Came::End {
             self.close(slot);
         } else if let Some(name) = speaker {

@@ -1,17 +1,14 @@
 //! What the threads of a serving node share.
 
-use crate::serve::caller::Caller;
 use crate::serve::connection::Connection;
 use crate::serve::crew::Crew;
 use crate::serve::frame_jobs::FrameNews;
-use crate::serve::job_queue::JobQueue;
 use crate::serve::links::Links;
 use crate::serve::outbox::{Outbox, batch_room};
 use crate::serve::waiting::{Awaited, Waiting};
-use link_frames::{Frame, Message, Packet, Place};
-use node_lock::{Call, Job, Seat, SharedNode, View};
+use link_frames::{Frame, Message, Place};
+use node_lock::{Seat, SharedNode, View};
 use quorum_sizes::NodeName;
-use role_node::Event;
 use std::alloc::{AllocError, Global};
 use std::net::{Ipv4Addr, SocketAddr, SocketAddrV4};
 use std::sync::ledger::Ledger;
@@ -84,17 +81,6 @@ pub fn left_of<R: Clock>(rt: &R, begin: &Instant, millis: u64) -> Option<Duratio
 /// Whether so many milliseconds went by.
 pub fn is_past<R: Clock>(rt: &R, begin: &Instant, millis: u64) -> bool {
     left_of(rt, begin, millis).is_none()
-}
-
-/// Puts the packet of a message to the node itself into the inbox. Where there is no room it is lost.
-pub fn put_own<R: Wait>(rt: &R, queue: &mut JobQueue<'_>, me: NodeName, message: &Message) {
-    if let Some(packet) = Packet::new(me, me, *message) {
-        let job = Job {
-            number: Caller::Itself.number(),
-            call: Call::Step(Event::Take(packet)),
-        };
-        let _ = queue.put(rt, job);
-    }
 }
 
 impl<L: Ledger> Shared<'_, L> {

@@ -8,12 +8,14 @@ use crate::answers::{hold_answer, listed};
 use crate::serve::caller::Caller;
 use crate::serve::connection::LineAnswers;
 use crate::serve::job_queue::JobQueue;
-use crate::serve::shared::{Room, Shared, put_own};
+use crate::serve::shared::{Room, Shared};
 use client_lines::ClientAnswer;
-use link_frames::{Held, Message};
-use node_lock::{Call, Locked, Outcome, Seat, View};
+use frame_queues::FirstPackets;
+use link_frames::{Held, Message, Packet};
+use node_lock::{Call, Job, Locked, Outcome, Seat, View};
+use owner_streams::WINDOW;
 use quorum_sizes::NodeName;
-use role_node::{NodeFault, Reply};
+use role_node::{Event, NodeFault, Reply};
 use role_sessions::SessionFault;
 use std::alloc::{AllocError, Global};
 use std::sync::Wait;
@@ -75,26 +77,48 @@ impl<'a, L: Ledger> Worker<'a, L> {
         })
     }
 
-    /// Makes the calls of jobs, each by one hold, all under one lock, until the inbox is empty or the batch is full.
-    /// Whether it is full. What the node sends to itself is put into the inbox at once.
-    pub fn take_jobs<R: Wait>(&mut self, rt: &R, shared: &Shared<'a, L>) -> bool {
+    /// Makes the calls of what comes first and of jobs, each by one hold, all under one lock, until nothing is left or
+    /// the batch is full. Whether it is full.
+    pub fn take_jobs<R: Wait>(
+        &mut self,
+        rt: &R,
+        shared: &Shared<'a, L>,
+        first: &mut FirstPackets,
+    ) -> bool {
         let me = shared.links.me();
         let mut locked = shared.node.node.lock(rt);
         for _ in self.done.len()..MOST_BATCH {
-            let Some(job) = self.queue.take(rt) else {
+            let Some(job) = next_job(rt, first, &mut self.queue) else {
                 return false;
             };
+            let caller = Caller::of(job.number);
+            let packet = taken_packet(&job.call);
             let said = call(&mut locked, &mut self.seat, job.call, me);
             if let Some((outcome, _)) = &said {
-                if let Some(message) = message_of(outcome) {
-                    let _ = self.messages.push(message);
-                    put_own(rt, &mut self.queue, me, &message);
-                }
+                self.note(first, me, packet, outcome);
             }
-            let caller = Caller::of(job.number);
             let _ = self.done.push(Done { caller, said });
         }
         true
+    }
+
+    /// Notes what is to be done next after a call: the node's own packet comes first, before all others.
+    fn note(
+        &mut self,
+        first: &mut FirstPackets,
+        me: NodeName,
+        packet: Option<Packet>,
+        outcome: &Outcome,
+    )
+        requires { first.old.own ≡ None }
+    {
+        note_packet(first, packet, outcome);
+        if let Some(message) = message_of(outcome) {
+            if let Some(own) = own_packet(me, &message) {
+                first.put_own(own);
+            }
+            let _ = self.messages.push(message);
+        }
     }
 
     /// Sends what the outcomes have the node send.
@@ -120,7 +144,12 @@ impl<'a, L: Ledger> Worker<'a, L> {
                         shared.frame_news.lock(rt).value.refuse(slot);
                     }
                 }
-                Caller::Itself => {}
+                Caller::Again { slot } => {
+                    if let Some(share) = share_of(self.alloc, &mut self.shares, slot, 0) {
+                        share.count = share.count.saturating_add(1);
+                    }
+                }
+                Caller::Nobody => {}
             }
         }
         if frames > 0 {
@@ -131,6 +160,59 @@ impl<'a, L: Ledger> Worker<'a, L> {
                 connection.done(rt, share.count, share.answers);
             }
         }
+    }
+}
+
+/// The packet of a message that a node sends to itself.
+fn own_packet(me: NodeName, message: &Message) -> Option<Packet> {
+    Packet::new(me, me, *message)
+}
+
+/// The next job: a packet that comes first, else what waits in the inbox.
+fn next_job<R: Wait>(rt: &R, first: &mut FirstPackets, queue: &mut JobQueue<'_>) -> Option<Job>
+    ensures { first.new.own ≡ None }
+{
+    match first.next() {
+        Some(packet) => Some(job_of(packet)),
+        None => queue.take(rt),
+    }
+}
+
+/// The job of a packet for which nobody waits.
+fn job_of(packet: Packet) -> Job {
+    Job {
+        number: Caller::Nobody.number(),
+        call: Call::Step(Event::Take(packet)),
+    }
+}
+
+/// The packet that a call has the node take.
+fn taken_packet(call: &Call) -> Option<Packet> {
+    match call {
+        Call::Step(Event::Take(packet)) => Some(*packet),
+        _ => None,
+    }
+}
+
+/// A packet that is beyond the window now waits until its owner's stream has grown. One that made the stream grow lets
+/// those go on that wait for that.
+fn note_packet(first: &mut FirstPackets, packet: Option<Packet>, outcome: &Outcome)
+    ensures { first.new.own ≡ first.old.own }
+{
+    let Some(packet) = packet else {
+        return;
+    };
+    match outcome {
+        Outcome::Reply(Reply::Counted { from, to, .. }) => {
+            if *from < *to {
+                first.reached(packet.owner(), to.saturating_add(WINDOW));
+            }
+        }
+        Outcome::Refused(NodeFault::Beyond { .. }) => {
+            // without memory it is lost, as on any network
+            let _ = first.park(packet);
+        }
+        _ => {}
     }
 }
 

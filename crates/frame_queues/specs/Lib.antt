@@ -1,0 +1,4 @@
+pub mod Waiting
+pub mod Parking
+pub mod Firsts
+pub mod Turns
