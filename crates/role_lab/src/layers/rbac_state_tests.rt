@@ -427,7 +427,7 @@ fn many_permissions_in_order(rt: HostRuntime) -> Result<(), Fail> {
     for k in 0..5000 {
         let (operation, object) = permission(k);
         if k % 2 == 1 {
-            due.push((operation, object + 65_536))?;
+            due.push((operation, object.wrapping_add(65_536)))?;
         }
     }
     due.sort_unstable();
