@@ -115,7 +115,7 @@ const CHECK: Request = Request::Ask(Question::Check {
     object: 9,
 });
 
-/// The first has no blanks, the second those that Python's `json.dumps` writes, and the others have them at other places.
+/// The first has no blanks, the second those that Python's `json.dumps` writes, and the others have them elsewhere.
 #[test]
 fn blanks_between_the_parts_change_nothing(rt: HostRuntime) {
     let cases: [&[u8]; 9] = [
