@@ -2,6 +2,7 @@
 
 mod bracha_instance_tests;
 mod byz_world_tests;
+mod byz_world_windows_tests;
 mod link_frames_device_tests;
 mod link_frames_tag_tests;
 mod link_frames_tests;
