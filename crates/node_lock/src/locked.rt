@@ -1,11 +1,13 @@
 //! What is behind a shared node's lock, and the calls under it.
 
 ghost use Rattle.std.specs.Prelude.{◌≡◌, ◌<◌, ◌≤◌, ◌↔◌, [], ◌∷◌, ◌++◌, length, IsTrue};
-ghost use Rattle.std.specs.Prelude.{option_map, Ok, IfOk, IfErr, OnOk, OnErr, MatchResult};
+ghost use Rattle.std.specs.Prelude.{option_map, Ok, IfOk, IfErr, IfSome, OnOk, OnErr, MatchResult};
+ghost use Rattle.owner_streams.specs.Places.{place_count};
 ghost use Rattle.role_node.specs.Configs.{most_events};
 ghost use Rattle.bracha_instance.specs.declared.instance.Effect.TheVariants.{Counted};
 ghost use Rattle.role_node.specs.Answers.{outlook, is_recorded};
 ghost use Rattle.role_node.specs.Nodes.{IsLegalNode, due_at, with_event};
+ghost use Rattle.role_node.specs.Windows.{last_vote_at};
 ghost use Rattle.node_lock.specs.Receipts.{outcome_due};
 ghost use Rattle.node_lock.specs.Holds.{end_of, Fits, receipt_of, held_after, seat_after};
 ghost use Rattle.node_lock.specs.Holds.{seat_after_question, IsStepFault, IsMisfit};
@@ -254,6 +256,17 @@ impl<L: Ledger> Locked<L> {
         ensures { IsTrue result ↔ (name < node_count self.now) }
     {
         self.node.config().roles().sizes().has(name)
+    }
+
+    /// The greatest place of the owner's stream at which a vote, an ECHO or a READY, of the peer stands in the history.
+    /// Both must be nodes of the sizes ([`has`](Self::has)). It takes no memory.
+    pub fn last_vote(&self, owner: NodeName, peer: NodeName) -> Option<Place>
+        requires owner { owner < node_count self.now }
+        requires peer { peer < node_count self.now }
+        ensures value { result ≡ last_vote_at self.now.node.history owner peer }
+        ensures bound { IfSome result (λ place. place < place_count) }
+    {
+        self.node.last_vote(owner, peer)
     }
 
     /// Makes the call, where there is one, as [`step`](Self::step) or [`ask`](Self::ask) does, and then reads the view

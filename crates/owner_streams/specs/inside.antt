@@ -1,3 +1,4 @@
 -- What serves the code and no public contract.
 pub mod Kept
 pub mod Slots
+pub mod VoteEnds

@@ -8,6 +8,7 @@ pub mod laws;
 mod owner_stream;
 mod steps;
 mod streams;
+mod vote_ends;
 
 pub use link_frames::PLACES;
 pub use owner_stream::WINDOW;

@@ -1,16 +1,18 @@
 //! The streams of all owners, as one node delivers them.
 
 ghost use Rattle.std.specs.Prelude.{◌≡◌, ◌≢◌, ℕ, ◌+◌, ◌<◌, ◌≤◌, List, [], ◌∷◌, ◌++◌, Ok, IfOk, OnOk, OnErr};
-ghost use Rattle.std.specs.Prelude.{slice_get};
+ghost use Rattle.std.specs.Prelude.{slice_get, IfSome};
 ghost use Rattle.link_frames.specs.Packets.{PacketValue};
 ghost use Rattle.bracha_instance.specs.declared.instance.Effect.TheVariants.{Idle, Counted};
 ghost use Rattle.owner_streams.specs.Places.{place_count, window, stream, reach as reach_of};
+ghost use Rattle.owner_streams.specs.LastVotes.{last_vote as last_vote_of};
 ghost use Rattle.owner_streams.specs.Steps.{SendsAreOwners, step_due, IsAnswer, effect_due, again_due};
 ghost use Rattle.owner_streams.specs.Values.{IsStateOf, WouldCount};
 ghost use Rattle.owner_streams.specs.inside.Kept.{AreOwnerStreams};
 
 use crate::owner_stream::OwnerStream;
 use crate::steps::{Again, StreamFault, StreamStep};
+use crate::vote_ends::VoteEnds;
 use bracha_instance::Effect;
 use link_frames::{Packet, Place};
 use quorum_sizes::{NodeName, Sizes};
@@ -26,6 +28,7 @@ use std::marker::Model;
 pub struct Streams {
     sizes: Sizes,
     owners: Vec<OwnerStream>,
+    ends: VoteEnds,
 }
 
 impl Model for Streams {
@@ -56,7 +59,12 @@ impl Streams {
         for _name in 0..sizes.n() {
             owners.push(OwnerStream::new(alloc))?;
         }
-        Ok(Streams { sizes, owners })
+        let ends = VoteEnds::new(alloc, &sizes)?;
+        Ok(Streams {
+            sizes,
+            owners,
+            ends,
+        })
     }
 
     /// Takes a packet, whose owner and sender must be of these sizes.
@@ -87,7 +95,9 @@ impl Streams {
         ensures err { OnErr result (self.new ≡ self.old) }
     {
         let owner = usize::from(packet.owner().index());
-        self.owners[owner].take(&self.sizes, packet)
+        let step = self.owners[owner].take(&self.sizes, packet)?;
+        self.ends.count(&self.sizes, packet);
+        Ok(step)
     }
 
     /// Takes a packet that counts, as [`take`](Self::take) does: these are the streams of some packets after which it
@@ -114,7 +124,9 @@ impl Streams {
         ensures err { OnErr result (self.new ≡ self.old) }
     {
         let message = packet.message();
-        self.owners[usize::from(message.owner.index())].take_new(&self.sizes, packet)
+        let step = self.owners[usize::from(message.owner.index())].take_new(&self.sizes, packet)?;
+        self.ends.count(&self.sizes, packet);
+        Ok(step)
     }
 
     /// The effect that [`take`](Self::take) would answer, or its refusal. Its conditions are those of `take`.
@@ -163,5 +175,17 @@ impl Streams {
             result ≡ again_due self.now.sizes owner place packets }
     {
         self.owners[usize::from(owner.index())].again(place)
+    }
+
+    /// The greatest place of the owner's stream at which a vote, an ECHO or a READY, of this node was counted. Both
+    /// must be of these sizes. Takes no memory.
+    pub fn last_vote(&self, owner: NodeName, voter: NodeName) -> Option<Place>
+        requires owner { owner < self.now.sizes.nodes }
+        requires voter { voter < self.now.sizes.nodes }
+        ensures due { (packets : List PacketValue) → IsStateOf self.now packets →
+            result ≡ last_vote_of owner voter packets }
+        ensures bound { IfSome result (λ place. place < place_count) }
+    {
+        self.ends.last_vote(&self.sizes, owner, voter)
     }
 }

@@ -1,9 +1,11 @@
 //! A node, with its history.
 
-ghost use Rattle.std.specs.Prelude.{◌≡◌, ◌<◌, ◌≤◌, length, map, slice_get, IfOk, OnOk, OnErr, Ok};
+ghost use Rattle.std.specs.Prelude.{◌≡◌, ◌<◌, ◌≤◌, length, map, slice_get, IfOk, IfSome, OnOk, OnErr, Ok};
 ghost use Rattle.bracha_instance.specs.declared.instance.Effect.TheVariants.{Counted};
+ghost use Rattle.owner_streams.specs.Places.{place_count};
 ghost use Rattle.role_node.specs.Configs.{most_events};
 ghost use Rattle.role_node.specs.Access.{stream_at, reach_at, sessions_at, verdict_at, sent_at};
+ghost use Rattle.role_node.specs.Windows.{last_vote_at};
 ghost use Rattle.role_node.specs.Listed.{IsWithin};
 ghost use Rattle.role_node.specs.Questions.{ask_due, IsAsked, IsAnswerTo};
 ghost use Rattle.role_node.specs.Answers.{outlook, reply_to, is_recorded, IsAnswer, event_of};
@@ -214,5 +216,16 @@ impl Node {
         ensures { result ≡ sent_at self.now.config.roles.sizes self.now.me self.now.history owner place }
     {
         self.state.again(self.me, owner, place)
+    }
+
+    /// The greatest place of the owner's stream at which a vote, an ECHO or a READY, of the peer stands in the history.
+    /// Both must be of the node's sizes. It takes no memory.
+    pub fn last_vote(&self, owner: NodeName, peer: NodeName) -> Option<Place>
+        requires owner { owner < self.now.config.roles.sizes.nodes }
+        requires peer { peer < self.now.config.roles.sizes.nodes }
+        ensures value { result ≡ last_vote_at self.now.history owner peer }
+        ensures bound { IfSome result (λ place. place < place_count) }
+    {
+        self.state.streams.last_vote(owner, peer)
     }
 }

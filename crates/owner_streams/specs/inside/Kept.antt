@@ -12,8 +12,9 @@ use Rattle.bracha_instance.specs.declared.instance.Effect.TheVariants.{Idle, Cou
 use Rattle.owner_streams.specs.declared.steps.StreamFault.{StreamFault}
 use Rattle.owner_streams.specs.declared.steps.StreamFault.TheVariants.{Beyond}
 use Rattle.owner_streams.specs.Places.{place_count, window, takes_at}
-use Rattle.owner_streams.specs.Values.{Instances, StreamsValue}
+use Rattle.owner_streams.specs.Values.{Instances, StreamsValue, IsStateOf}
 use Rattle.owner_streams.specs.inside.Slots.{slot_at, state_in, delivered_in, voted_in, instances_from}
+use Rattle.owner_streams.specs.inside.VoteEnds.{AreEndsOf}
 use Rattle.owner_streams.specs.declared.owner_stream.OwnerStream.{OwnerStream}
 use Rattle.owner_streams.specs.declared.streams.Streams.TheInside.{Inside}
 
@@ -66,7 +67,8 @@ instances_in a = instances_from 0 (map (held a) (range_with_len 0 (reach_in a + 
 abbrev pub streams_value : Inside → StreamsValue
 streams_value a = record { sizes = a.sizes; owners = map instances_in a.owners.items }
 
--- there is a stream for each node
+-- There is a stream for each node, and the last votes that are kept are those of packets of which these are the streams.
 pub record AreOwnerStreams (a : Inside) : Type 0 where
   pub one_each : length a.owners.items ≡ a.sizes.nodes
   pub each : All (IsOwnerStream a.sizes) a.owners.items
+  pub ends : (packets : List PacketValue) × IsStateOf (streams_value a) packets × AreEndsOf a.sizes packets a.ends
