@@ -1,5 +1,6 @@
 pub mod Answers
 pub mod Taken
+pub mod LastVotes
 pub mod StreamLaws
 pub mod Senders
 pub mod Reaching

@@ -1,5 +1,5 @@
 -- How far a node has voted in an owner's stream, by the packets that another one took.
-use Rattle.std.specs.Prelude.{ℕ, ◌+◌, ◌==◌, ◌&&◌, not, max, if◌then◌else◌, List, [], ◌∷◌, Option, Some, None}
+use Rattle.std.specs.Prelude.{ℕ, ◌==◌, ◌&&◌, not, max, if◌then◌else◌, List, [], ◌∷◌, Option, Some, None}
 use Rattle.std.specs.List.{filter_map}
 use Rattle.std.specs.Option.{option_map_or}
 use Rattle.link_frames.specs.Kinds.{same_kind}
