@@ -192,6 +192,10 @@ no_place : (o : Option ℕ) → ((place : ℕ) → o ≡ Some place → ⊥) →
 no_place None h = refl
 no_place (Some place) h = absurd (h place refl)
 
+pub no_vote : (owner voter : ℕ) (p : PacketValue) → ((place : ℕ) → IsVoteAt owner voter place p → ⊥)
+    → vote_place owner voter p ≡ None
+no_vote owner voter p h = no_place (vote_place owner voter p) (λ place e. h place (is_vote owner voter place p e))
+
 -- where there is none, no packet is a vote
 pub last_vote-nothing : (owner voter : ℕ) (packets : List PacketValue) (p : PacketValue)
     → last_vote owner voter packets ≡ None → Contains packets p → vote_place owner voter p ≡ None

@@ -11,4 +11,5 @@ pub mod OneTake
 pub mod Slots
 pub mod Rings
 pub mod Owners
+pub mod VoteEnds
 pub mod Exported

@@ -1,11 +1,10 @@
 -- The streams of all owners, one of which takes a packet.
 use Rattle.std.proofs.Common.{◌≡◌, ◌≢◌, ℕ, ◌<◌, ◌≤◌, ⊎_elim, false, ◌&&◌, List, [], ◌∷◌, ◌++◌, length}
-use Rattle.std.proofs.Common.{map, get_or, Option, Some, None, Result, refl, sym, ap, ◌∙◌, subst, arith}
-use Rattle.std.specs.Prelude.{◌==◌, slice_get, slice_set, unwrap_or, slice_index_or, option_map, OnOk, All}
+use Rattle.std.proofs.Common.{map, get_or, Option, Some, None, refl, sym, ap, ◌∙◌, subst, arith}
+use Rattle.std.specs.Prelude.{◌==◌, slice_get, slice_set, unwrap_or, slice_index_or, option_map, All}
 use Rattle.std.specs.FinMap as maps
 use Rattle.std.specs.Ordering.{nat_cmp}
 use Rattle.std.proofs.lemmas.Bool.{cases_eq, cases_lt}
-use Rattle.std.proofs.lemmas.Result.{on_ok_weaker}
 use Rattle.std.proofs.lemmas.Bool.Decides.{nat_tests}
 use Rattle.std.proofs.lemmas.List.{map-set, set-get_or, get_or-set_same, get_or-set_other, length-set}
 use Rattle.std.proofs.lemmas.Option.{slice_get-map, unwrap_or-slice_get, slice_get_within}
@@ -18,7 +17,9 @@ use Rattle.owner_streams.specs.Values.{StreamsValue, state_at, IsStateOf}
 use Rattle.owner_streams.specs.inside.Slots.{state_in, delivered_in}
 use Rattle.owner_streams.specs.inside.Kept.{reach_in, held_in, held, IsOwnerStream, AreStatesOf, SamePlaces}
 use Rattle.owner_streams.specs.inside.Kept.{instances_in}
+use Rattle.owner_streams.specs.inside.VoteEnds.{AreEndsOf}
 use Rattle.owner_streams.specs.declared.owner_stream.OwnerStream.{OwnerStream}
+use Rattle.owner_streams.specs.declared.vote_ends.VoteEnds.{VoteEnds}
 use Rattle.owner_streams.proofs.Taken.{takes_at-other}
 use Rattle.owner_streams.proofs.Rings.{held-window, held-beyond, get-instances_in, same_instances_in}
 
@@ -174,25 +175,42 @@ by_owner {s} {rows} {i} {owner} {row} {v} P o one =
     let Holds : StreamsValue → Type 0 = λ w. (packets : List PacketValue) → IsStateOf w packets → P w.sizes packets in
     subst Holds o.is (λ packets known. one packets (are_states_of s rows owner row o.here packets known))
 
-pub states_go_on : {A B : Type 0} {s : Counts} {rows : List OwnerStream} {i : ℕ} {row : OwnerStream} {v : StreamsValue}
-    (p : PacketValue) (new : OwnerStream) (r : Result A B) →
-    IsOwners s rows i p.owner row v →
-    OnOk r ((packets : List PacketValue) → AreStatesOf s p.owner row packets
-    → AreStatesOf s p.owner new (packets ++ p ∷ [])) →
-    OnOk r ((packets : List PacketValue) → IsStateOf v packets
-    → IsStateOf (seen s (slice_set rows i new)) (packets ++ p ∷ []))
-states_go_on {s = s} {rows = rows} {i = i} {row = row} {v = v} p new r o one =
-    let GoesOn : ℕ → StreamsValue → Type 0 =
-    λ k w. OnOk r ((packets : List PacketValue) → IsStateOf w packets
-    → IsStateOf (seen s (slice_set rows k new)) (packets ++ p ∷ [])) in
-    let all : GoesOn p.owner (seen s rows) =
-    on_ok_weaker r (λ take packets known.
-    state_push s rows row new p o.here packets known
-    (take packets (are_states_of s rows p.owner row o.here packets known))) one in
-    subst (GoesOn i) o.is (subst (λ k. GoesOn k (seen s rows)) (sym o.at) all)
+-- one owner's stream goes on by a packet, and so do all together
+pub state_goes_on : {s : Counts} {rows : List OwnerStream} {i : ℕ} {row : OwnerStream} {v : StreamsValue}
+    (p : PacketValue) (new : OwnerStream) → IsOwners s rows i p.owner row v →
+    ((packets : List PacketValue) → AreStatesOf s p.owner row packets → AreStatesOf s p.owner new (packets ++ p ∷ [])) →
+    (packets : List PacketValue) → IsStateOf v packets →
+    IsStateOf (seen s (slice_set rows i new)) (packets ++ p ∷ [])
+state_goes_on {s = s} {rows = rows} {i = i} {row = row} {v = v} p new o one packets is =
+    let known : IsStateOf (seen s rows) packets = subst (λ w. IsStateOf w packets) (sym o.is) is in
+    subst (λ k. IsStateOf (seen s (slice_set rows k new)) (packets ++ p ∷ [])) (sym o.at)
+    (state_push s rows row new p o.here packets known
+    (one packets (are_states_of s rows p.owner row o.here packets known)))
 
 pub same_as_before : {s : Counts} {rows : List OwnerStream} {i owner : ℕ} {row : OwnerStream} {v : StreamsValue}
     (new : OwnerStream) →
     IsOwners s rows i owner row v → SamePlaces row new → seen s (slice_set rows i new) ≡ v
 same_as_before {s} {rows} {i} {owner} {row} {v} new o same =
     ap (λ k. seen s (slice_set rows k new)) o.at ∙ same_seen s rows owner row new o.here same ∙ o.is
+
+-- there are packets of which these are the streams and the last votes
+abbrev AreOfPackets : Counts → List OwnerStream → VoteEnds → Type 0
+AreOfPackets s rows ends =
+    (packets : List PacketValue) × IsStateOf (seen s rows) packets × AreEndsOf s packets ends
+
+pub still_of_packets : {s : Counts} {rows : List OwnerStream} {i owner : ℕ} {row : OwnerStream} {v : StreamsValue}
+    {ends : VoteEnds} (new : OwnerStream) → IsOwners s rows i owner row v → SamePlaces row new →
+    AreOfPackets s rows ends → AreOfPackets s (slice_set rows i new) ends
+still_of_packets new o same known =
+    (known.0, subst (λ w. IsStateOf w known.0) (o.is ∙ sym (same_as_before new o same)) known.1, known.2)
+
+pub of_one_more : {s : Counts} {rows : List OwnerStream} {i : ℕ} {row : OwnerStream} {v : StreamsValue}
+    {ends counted : VoteEnds} (p : PacketValue) (new : OwnerStream) → IsOwners s rows i p.owner row v →
+    ((packets : List PacketValue) → AreStatesOf s p.owner row packets → AreStatesOf s p.owner new (packets ++ p ∷ [])) →
+    ((packets : List PacketValue) → AreEndsOf s packets ends → AreEndsOf s (packets ++ p ∷ []) counted) →
+    AreOfPackets s rows ends → AreOfPackets s (slice_set rows i new) counted
+of_one_more p new o one count known = (
+  known.0 ++ p ∷ [],
+  state_goes_on p new o one known.0 (subst (λ w. IsStateOf w known.0) o.is known.1),
+  count known.0 known.2,
+)

@@ -2,8 +2,8 @@
 
 ghost use Rattle.std.specs.Prelude.{◌≡◌, ◌<◌, ◌≤◌, ◌+◌, ◌*◌, List, [], ◌∷◌, ◌++◌, length, IfOk, IfSome};
 ghost use Rattle.link_frames.specs.Packets.{PacketValue, place_count};
-ghost use Rattle.owner_streams.specs.LastVotes.{last_vote};
-ghost use Rattle.owner_streams.specs.inside.VoteEnds.{AreEndsOf};
+ghost use Rattle.owner_streams.specs.LastVotes.{vote_place, last_vote};
+ghost use Rattle.owner_streams.specs.inside.VoteEnds.{voted_to, AreEndsOf};
 
 use link_frames::{Kind, Packet, Place};
 use quorum_sizes::{NodeName, Sizes};
@@ -36,11 +36,8 @@ impl VoteEnds {
         ensures { (packets : List PacketValue) → AreEndsOf sizes.now packets self.old →
             AreEndsOf sizes.now (packets ++ packet.now ∷ []) self.new }
     {
-        if let Kind::Send = packet.kind() {
-            return;
-        }
         let at = index_of(sizes, packet.owner(), packet.from());
-        self.ends[at] = self.ends[at].max(packet.place() + 1);
+        self.ends[at] = self.ends[at].max(end_of(packet));
     }
 
     /// The place of the node's last vote in the owner's stream.
@@ -66,4 +63,16 @@ fn index_of(sizes: &Sizes, owner: NodeName, voter: NodeName) -> usize
     ensures within { result < sizes.now.nodes * sizes.now.nodes }
 {
     usize::from(owner.index()) * usize::from(sizes.n()) + usize::from(voter.index())
+}
+
+/// The place behind a vote, and 0 where the packet is none.
+#[inline(always)]
+fn end_of(packet: &Packet) -> u32
+    ensures value { result ≡ voted_to (vote_place packet.now.owner packet.now.from packet.now) }
+    ensures bound { result ≤ place_count }
+{
+    match packet.kind() {
+        Kind::Send => 0,
+        Kind::Echo | Kind::Ready => packet.place() + 1,
+    }
 }

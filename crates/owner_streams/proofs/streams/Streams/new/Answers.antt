@@ -1,4 +1,4 @@
-use Rattle.std.proofs.Common.{arith}
+use Rattle.std.proofs.Common.{[], arith}
 use Rattle.std.proofs.lemmas.List.Elements.{All-weaker}
 use Rattle.owner_streams.specs.inside.Kept.{IsOwnerStream}
 use Rattle.owner_streams.proofs.Owners.{IsFresh, fresh_is_kept, fresh_state}
@@ -9,6 +9,7 @@ invariant_of-result c = record {
   one_each = omega arith;
   each = All-weaker IsFresh (IsOwnerStream c.args.sizes) (fresh_is_kept c.args.sizes) c.loop-name.owners.items
       c.loop-name.invariant.fresh;
+  ends = ([], fresh_state c.args.sizes c.loop-name.owners.items c.loop-name.invariant.fresh, c.in_ok-ends.ensures);
 }
 
 pub returns-clause-state : goal.returns-clause-state
