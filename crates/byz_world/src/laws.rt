@@ -83,9 +83,9 @@ pub fn law_work_is_bounded()
 {}
 
 /// Each owner's stream goes on, whatever else does: it is complete up to a place, or something about it is wanted,
-/// which its receiver records when it is given, where that node is below its own limit; and only so much can be. And where
-/// nothing happens but that packets of the pool are given, each recorded, this ends, and where none counts any more and
-/// no history is full, the cluster is at rest, and all is delivered.
+/// which its receiver records when it is given, where that node is below its own limit; and only so much can be. And
+/// where nothing happens but that packets of the pool are given, each recorded, this ends, and where none counts any
+/// more and no history is full, the cluster is at rest, and all is delivered.
 pub fn law_fair_schedules_settle()
     ensures goes_on { EachOwnerGoesOn }
     ensures recorded { WantedIsRecorded }
