@@ -3,6 +3,7 @@
 ghost use Rattle.std.specs.Prelude.{◌≡◌, ◌<◌, [], All, IfOk, vec_len};
 ghost use Rattle.node_lock.specs.Inboxes.{IsPassTo, IsNewPassTo};
 
+use link_frames::{Kind, Message, Packet};
 use node_lock::*;
 use quorum_sizes::{NodeName, Sizes};
 use role_commands::{Command, RoleTable, TableFault};
@@ -220,7 +221,7 @@ fn issue_in_a_hold<L: Ledger, R: Wait + Abort>(
     issue(rt, &shared, &mut seat, owner)
 }
 
-/// The hold, which issues the command and reads its place.
+/// The hold, which issues the command and reads its place. The node's own ECHO of it is its last vote then.
 fn issue<L: Ledger, R: Wait + Abort>(
     rt: &R,
     shared: &SharedNode<L>,
@@ -242,6 +243,20 @@ fn issue<L: Ledger, R: Wait + Abort>(
         view.again.send == Some(ASSIGN),
         "the command is sent: {view:?}"
     );
+    let echo = Message {
+        kind: Kind::Echo,
+        owner,
+        place: 0,
+        command: ASSIGN,
+    };
+    let packet = Packet::new(owner, owner, echo).ok_or("no packet")?;
+    let _taken = node.step(seat, Event::Take(packet))?;
+    if node.has(owner) {
+        assert!(rt;
+            node.last_vote(owner, owner) == Some(0),
+            "the vote is at place 0"
+        );
+    }
     Ok(())
 }
 

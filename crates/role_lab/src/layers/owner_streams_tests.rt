@@ -62,6 +62,8 @@ enum Act {
     Command(Place, Option<Command>),
     /// What is sent again at a place.
     Again(Place, Again),
+    /// The last vote of this node.
+    LastVote(u8, Option<Place>),
 }
 
 /// The streams of a node among four, of which one may lie. Node 0 is the owner of all packets.
@@ -152,6 +154,10 @@ impl Four {
             Act::Again(place, due) => {
                 check_row(rt, row, &self.streams.again(self.owner, *place), due);
             }
+            Act::LastVote(voter, due) => {
+                let voter = self.sizes.name(*voter).ok_or("no node")?;
+                check_row(rt, row, &self.streams.last_vote(self.owner, voter), due);
+            }
         }
         Ok(())
     }
@@ -234,4 +240,21 @@ static LATE: [Act; 9] = [
 #[test]
 fn late_messages_count(rt: HostRuntime) -> Result<(), Fail> {
     play(&rt, rt.alloc(), &LATE)
+}
+
+static VOTES: [Act; 9] = [
+    Act::LastVote(3, None),
+    Act::Take(Kind::Echo, 3, 5, FIRST, Due::Counts(0)),
+    Act::LastVote(3, Some(5)),
+    Act::Take(Kind::Ready, 3, 0, FIRST, Due::Counts(0)),
+    Act::LastVote(3, Some(5)),
+    Act::Take(Kind::Send, 0, 7, SECOND, Due::Sends(Kind::Echo, 0)),
+    Act::LastVote(0, None),
+    Act::Take(Kind::Ready, 3, 63, SECOND, Due::Counts(0)),
+    Act::LastVote(3, Some(63)),
+];
+
+#[test]
+fn the_last_vote_is_the_furthest(rt: HostRuntime) -> Result<(), Fail> {
+    play(&rt, rt.alloc(), &VOTES)
 }

@@ -90,6 +90,8 @@ enum Step {
     Lists(Question, Listed),
     /// Of node 0's stream: the reach, and the command and the READY sent at a place.
     Stream(u32, Place, Option<Command>, Option<Command>),
+    /// The last vote of a node in node 0's stream.
+    LastVote(u8, Option<Place>),
     Recorded(usize),
     /// 64 commands get the places 0 to 63.
     Window,
@@ -243,6 +245,7 @@ enum Came {
     Verdict(Verdict),
     Lists(Option<Listed>),
     Stream(u32, Option<Command>, Option<Command>),
+    LastVote(Option<Place>),
     Recorded(usize),
 }
 
@@ -279,6 +282,7 @@ fn due_to(node: &Node, step: &Step) -> Result<Came, Fail> {
         Step::Check(_, _, verdict) => Came::Verdict(*verdict),
         Step::Lists(_, listed) => Came::Lists(Some(*listed)),
         Step::Stream(reach, _, command, ready) => Came::Stream(*reach, *command, *ready),
+        Step::LastVote(_, place) => Came::LastVote(*place),
         Step::Recorded(count) => Came::Recorded(*count),
     })
 }
@@ -306,6 +310,9 @@ fn came_of(node: &mut Node, step: &Step) -> Result<Came, Fail> {
         Step::Check(session, user, _) => Came::Verdict(node.check(*session, *user, 5, 9)),
         Step::Lists(question, _) => Came::Lists(listed_one(&ask(node, *question))),
         Step::Stream(_, place, ..) => stream(node, *place)?,
+        Step::LastVote(peer, _) => {
+            Came::LastVote(node.last_vote(name(node, 0)?, name(node, *peer)?))
+        }
         Step::Recorded(_) => Came::Recorded(node.history().len()),
         Step::Window => Came::Holds(fills_window(node)?),
         Step::ManyRoles => Came::Holds(activates_many_roles(node)?),
@@ -358,7 +365,7 @@ fn play(
     run(rt, &mut new_node(alloc, config, me)?, steps)
 }
 
-static NO_GAP: [Step; 8] = [
+static NO_GAP: [Step; 9] = [
     Step::Ready(0, 0, 1, SECOND, Due::Counts(0)),
     Step::Ready(2, 0, 1, SECOND, Due::Sends(0)),
     Step::Ready(3, 0, 1, SECOND, Due::Delivers(0, 0)),
@@ -367,6 +374,7 @@ static NO_GAP: [Step; 8] = [
     Step::Ready(3, 0, 0, FIRST, Due::Delivers(0, 2)),
     Step::Stream(2, 1, Some(SECOND), Some(SECOND)),
     Step::Stream(2, 0, Some(FIRST), Some(FIRST)),
+    Step::LastVote(3, Some(1)),
 ];
 
 #[test]
