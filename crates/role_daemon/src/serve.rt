@@ -32,7 +32,6 @@ mod peer;
 mod peers;
 mod senders;
 mod shared;
-mod taking;
 mod task;
 mod waiting;
 mod workers;
@@ -47,9 +46,7 @@ use frame_queues::FirstPackets;
 use job_queue::{JobQueue, job_queues};
 use links::Links;
 use node_lock::{Inbox, Seat, SharedNode};
-use mio::Waker;
 use outbox::Outbox;
-use peer_windows::{Pairs, PeerRoom};
 use peers::PeerPort;
 use role_node::Node;
 use shared::{Life, Shared, local};
@@ -59,9 +56,8 @@ use std::net::{Net, TcpListener, TcpStream};
 use std::sync::ledger::{Blank, Ledger};
 use std::sync::{Mutex, Wait};
 use std::thread::Threads;
-use std::time::{Clock, Duration, Instant};
+use std::time::{Clock, Duration};
 use std::{io, thread};
-use taking::Taking;
 use task::Task;
 use waiting::Waiting;
 use workers::Worker;
@@ -77,13 +73,6 @@ const IDLE: u64 = 600_000;
 
 /// One pass for each worker, one for each client, and one for all peers.
 const PASSES: u8 = WORKERS + MOST_CLIENTS as u8 + 1;
-
-/// When the node began, and what wakes the thread of the peers.
-#[derive(Drop)]
-struct Alarm {
-    begin: Instant,
-    waker: Waker,
-}
 
 /// The two ports.
 #[derive(Drop)]
@@ -143,8 +132,7 @@ where
     let Some(queue) = queues.pop() else {
         return Err(ServeFault::Memory);
     };
-    let alarm = ports.alarm(rt)?;
-    let shared = shared_of::<L>(alloc, blank, setup, idle, alarm, queues)?;
+    let shared = shared_of::<L>(alloc, blank, setup, idle, queues)?;
     serve_shared(rt, alloc, &shared, ports, queue)
 }
 
@@ -186,15 +174,6 @@ impl Ports {
             Err(error) => Err(fault_of(&error)),
         }
     }
-
-    /// What wakes the thread of the peers, from now on.
-    fn alarm<R: Clock>(&self, rt: &R) -> Result<Alarm, ServeFault> {
-        match (Instant::now(rt), self.peers.waker()) {
-            (Ok(begin), Ok(waker)) => Ok(Alarm { begin, waker }),
-            (_, Err(error)) => Err(fault_of(&error)),
-            (Err(_), Ok(_)) => Err(ServeFault::Device),
-        }
-    }
 }
 
 fn listener<R: Net<Listener = TcpListener, Stream = TcpStream>>(
@@ -231,7 +210,6 @@ fn shared_of<'a, L: Ledger>(
     blank: Blank,
     setup: Setup,
     idle: Duration,
-    alarm: Alarm,
     mut queues: Vec<JobQueue<'a>>,
 ) -> Result<Shared<'a, L>, AllocError>
     requires name { blank.name ≡ L.name }
@@ -250,10 +228,8 @@ fn shared_of<'a, L: Ledger>(
         unreachable!()
     };
     let clients = connections(alloc, &mut queues, MOST_CLIENTS)?;
-    let nodes = links.sizes().n();
-    let taking = taking_of(alloc, &links)?;
-    let crew = crew_of(alloc, nodes, seats, queues, taking)?;
-    let Alarm { begin, waker } = alarm;
+    let first = FirstPackets::new(alloc, links.sizes().n())?;
+    let crew = crew_of(alloc, seats, queues, first)?;
     Ok(Shared {
         node,
         view_seat: Mutex::new(view_seat),
@@ -263,48 +239,29 @@ fn shared_of<'a, L: Ledger>(
         clients,
         frame_news: Waiting::new(frame_news),
         life: Waiting::new(Life { failed: false }),
-        begin,
-        waker,
-        connected: Mutex::new(Vec::with_capacity(alloc, usize::from(nodes))?),
         idle,
     })
 }
 
-/// What a thread needs to take jobs, before the first one.
-fn taking_of(alloc: Global, links: &Links) -> Result<Taking, AllocError> {
-    let sizes = links.sizes();
-    let mut rooms = Vec::with_capacity(alloc, usize::from(sizes.n()))?;
-    for index in 0..usize::from(sizes.n()) {
-        let is_me = links.name(index) == Some(links.me());
-        rooms.push(if is_me { PeerRoom::Free } else { PeerRoom::Away })?;
-    }
-    Ok(Taking {
-        first: FirstPackets::new(alloc, sizes.n())?,
-        pairs: Pairs::new(alloc, sizes, links.me(), 0)?,
-        rooms,
-    })
-}
-
-/// A worker for each seat, with a queue of its own, and what they need to take jobs.
+/// A worker for each seat, with a queue of its own, and what comes before these.
 ///
 /// # Errors
 ///
 /// Want of memory, and where there are fewer queues.
 fn crew_of<'a, L: Ledger>(
     alloc: Global,
-    nodes: u8,
     seats: Vec<Seat<L>>,
     mut queues: Vec<JobQueue<'a>>,
-    taking: Taking,
+    first: FirstPackets,
 ) -> Result<Crew<'a, L>, AllocError> {
     let mut workers = Vec::new(alloc);
     for seat in seats {
         let Some(queue) = queues.pop() else {
             return Err(AllocError);
         };
-        workers.push(Worker::new(alloc, nodes, queue, seat)?)?;
+        workers.push(Worker::new(alloc, queue, seat)?)?;
     }
-    Ok(Crew::new(workers, taking))
+    Ok(Crew::new(workers, first))
 }
 
 /// An empty outbox for each other node.

@@ -1,9 +1,9 @@
 //! How the workers stand. Whoever puts jobs lends a hand to an idle worker.
 
 use crate::serve::shared::Shared;
-use crate::serve::taking::Taking;
 use crate::serve::waiting::Awaited;
 use crate::serve::workers::{Worker, call};
+use frame_queues::FirstPackets;
 use node_lock::{Call, Outcome, View};
 use role_node::Question;
 use std::sync::Wait;
@@ -17,61 +17,47 @@ const MOST_TURNS: u32 = 4;
 #[derive(Drop)]
 pub struct Crew<'a, L: Ledger> {
     idle: Vec<Worker<'a, L>>,
-    /// What a thread needs to take jobs, where none takes some.
-    taking: Option<Taking>,
+    /// What comes before the jobs of the inbox. Who takes jobs has it meanwhile: so one does so at a time, and jobs are
+    /// done in the order in which they came.
+    first: Option<FirstPackets>,
     /// Jobs were put, and no worker has looked since; or a worker has left some, since its batch was full.
     jobs: bool,
-    /// When something is to be sent again, in milliseconds since the start.
-    due: u64,
-    /// When the thread of the peers looks next whether something is.
-    alarm: u64,
 }
 
 impl<L: Ledger> Awaited for Crew<'_, L> {
     fn is_due(&self) -> bool {
-        self.jobs && self.taking.is_some() && !self.idle.is_empty()
+        self.jobs && self.first.is_some() && !self.idle.is_empty()
     }
 }
 
 impl<'a, L: Ledger> Crew<'a, L> {
-    /// All these workers are idle, and no thread takes jobs.
-    pub fn new(idle: Vec<Worker<'a, L>>, taking: Taking) -> Crew<'a, L> {
+    /// All these workers are idle, and nothing comes before the inbox.
+    pub fn new(idle: Vec<Worker<'a, L>>, first: FirstPackets) -> Crew<'a, L> {
         Crew {
             idle,
-            due: taking.pairs.next_due(),
-            taking: Some(taking),
+            first: Some(first),
             jobs: false,
-            alarm: 0,
         }
     }
 
     /// Whether all jobs that the workers were told of are done.
     fn is_at_rest(&self) -> bool {
-        self.taking.is_some() && !self.jobs
+        self.first.is_some() && !self.jobs
     }
 
-    /// An idle worker takes jobs from now on, if none does, with what it needs for that.
-    fn begin(&mut self) -> Option<(Worker<'a, L>, Taking)> {
-        let taking = self.taking.take()?;
+    /// An idle worker takes jobs from now on, if none does, with what comes before them.
+    fn begin(&mut self) -> Option<(Worker<'a, L>, FirstPackets)> {
+        let first = self.first.take()?;
         match self.idle.pop() {
             Some(worker) => {
                 self.jobs = false;
-                Some((worker, taking))
+                Some((worker, first))
             }
             None => {
-                self.taking = Some(taking);
+                self.first = Some(first);
                 None
             }
         }
-    }
-
-    /// No thread takes jobs any more. Whether the thread of the peers is to look earlier than it would.
-    fn end(&mut self, taking: Taking) -> bool {
-        self.due = taking.pairs.next_due();
-        self.taking = Some(taking);
-        let is_earlier = self.due < self.alarm;
-        self.alarm = self.alarm.min(self.due);
-        is_earlier
     }
 }
 
@@ -84,30 +70,9 @@ impl<'a, L: Ledger> Shared<'a, L> {
             crew.value.jobs = true;
             crew.value.begin()
         };
-        if let Some((worker, taking)) = begun {
-            self.work(rt, worker, taking);
+        if let Some((worker, first)) = begun {
+            self.work(rt, worker, first);
         }
-    }
-
-    /// Sends again what is due.
-    pub fn ring_if_due<R: Wait + Clock>(&self, rt: &R) {
-        let now = self.millis(rt);
-        let is_due = {
-            let crew = self.crew.lock(rt);
-            crew.value.due <= now && crew.value.taking.is_some()
-        };
-        if is_due {
-            self.ring(rt);
-        }
-    }
-
-    /// The milliseconds until something is to be sent again, so many at most. The thread of the peers looks then.
-    pub fn millis_to_due<R: Wait + Clock>(&self, rt: &R, most: u64) -> u64 {
-        let now = self.millis(rt);
-        let mut crew = self.crew.lock(rt);
-        let alarm = crew.value.due.min(now.saturating_add(most));
-        crew.value.alarm = alarm;
-        alarm.saturating_sub(now)
     }
 
     /// Asks at once, where no job is left that would come before it. Nothing is said where there is one, for want of
@@ -131,22 +96,22 @@ impl<'a, L: Ledger> Shared<'a, L> {
             };
             let begun = crew.value.begin();
             drop(crew);
-            if let Some((worker, taking)) = begun {
-                self.work(rt, worker, taking);
+            if let Some((worker, first)) = begun {
+                self.work(rt, worker, first);
             }
         }
     }
 
     /// Does jobs with a worker, a batch at a time, until there are none or it did many.
-    fn work<R: Wait + Clock>(&self, rt: &R, mut worker: Worker<'a, L>, mut taking: Taking) {
+    fn work<R: Wait + Clock>(&self, rt: &R, mut worker: Worker<'a, L>, mut first: FirstPackets) {
         for turn in 1..=MOST_TURNS {
-            self.take_batch(rt, &mut worker, taking);
+            self.take_batch(rt, &mut worker, first);
             worker.send(rt, self);
             worker.answer(rt, self);
             match self.rest(rt, worker, turn < MOST_TURNS) {
                 Some((busy, next)) => {
                     worker = busy;
-                    taking = next;
+                    first = next;
                 }
                 None => return,
             }
@@ -154,46 +119,38 @@ impl<'a, L: Ledger> Shared<'a, L> {
     }
 
     /// Takes jobs with a worker, until there are none or its batch is full.
-    fn take_batch<R: Wait + Clock>(
-        &self,
-        rt: &R,
-        worker: &mut Worker<'a, L>,
-        mut taking: Taking,
-    ) {
+    fn take_batch<R: Wait>(&self, rt: &R, worker: &mut Worker<'a, L>, mut first: FirstPackets) {
         for _ in rt.forever() {
-            let is_full = worker.take_jobs(rt, self, &mut taking);
-            match self.takes_on(rt, is_full, taking) {
-                Some(kept) => taking = kept,
+            let is_full = worker.take_jobs(rt, self, &mut first);
+            match self.takes_on(rt, is_full, first) {
+                Some(kept) => first = kept,
                 None => return,
             }
         }
     }
 
-    /// What the worker that takes jobs needs, if it takes more that were put since it looked. If its batch is full they
-    /// are left to others, who look at once.
-    fn takes_on<R: Wait>(&self, rt: &R, is_full: bool, taking: Taking) -> Option<Taking> {
-        let (is_due, is_earlier) = {
+    /// What comes before the inbox, for the worker that takes jobs, if it takes more that were put since it looked. If
+    /// its batch is full they are left to others, who look at once.
+    fn takes_on<R: Wait>(
+        &self,
+        rt: &R,
+        is_full: bool,
+        first: FirstPackets,
+    ) -> Option<FirstPackets> {
+        let is_due = {
             let mut crew = self.crew.lock(rt);
             if crew.value.jobs && !is_full {
                 crew.value.jobs = false;
-                return Some(taking);
+                return Some(first);
             }
             crew.value.jobs |= is_full;
-            let is_earlier = crew.value.end(taking);
-            (crew.value.is_due(), is_earlier)
+            crew.value.first = Some(first);
+            crew.value.is_due()
         };
         if is_due {
             self.crew.wake();
         }
-        if is_earlier {
-            self.wake_peers();
-        }
         None
-    }
-
-    /// The node has packets for itself in the inbox.
-    pub fn note_jobs<R: Wait>(&self, rt: &R) {
-        self.crew.lock(rt).value.jobs = true;
     }
 
     /// A worker has done its batch. It goes on, if it may and there are jobs; else it is idle.
@@ -202,7 +159,7 @@ impl<'a, L: Ledger> Shared<'a, L> {
         rt: &R,
         worker: Worker<'a, L>,
         may_go_on: bool,
-    ) -> Option<(Worker<'a, L>, Taking)> {
+    ) -> Option<(Worker<'a, L>, FirstPackets)> {
         let is_due = {
             let mut crew = self.crew.lock(rt);
             // there is room for each worker

@@ -3,7 +3,6 @@
 use crate::serve::shared::is_past;
 use crate::serve::waiting::{Awaited, Waiting};
 use link_frames::{FRAME_LEN, Frame};
-use peer_windows::PeerRoom;
 use quorum_sizes::NodeName;
 use std::alloc::{AllocError, Global};
 use std::collections::VecDeque;
@@ -15,9 +14,6 @@ use std::time::{Clock, Duration, Instant};
 
 /// The most frames that wait for a peer.
 const MOST_FRAMES: usize = 1_024;
-
-/// Where so many frames wait nothing is sent again, so that there is room for what is new.
-const ENOUGH_FRAMES: usize = 512;
 
 /// The most frames that are written at once.
 const BATCH_FRAMES: usize = 128;
@@ -126,18 +122,6 @@ impl Outbox {
                 left: false,
                 written: 0,
             }),
-        }
-    }
-
-    /// Whether frames may go to the peer again.
-    pub fn room<R: Wait>(&self, rt: &R) -> PeerRoom {
-        let state = self.waiting.lock(rt);
-        if state.value.stream.is_none() {
-            PeerRoom::Away
-        } else if state.value.frames.len() >= ENOUGH_FRAMES {
-            PeerRoom::Full
-        } else {
-            PeerRoom::Free
         }
     }
 

@@ -8,7 +8,7 @@ use crate::serve::peer::{Came, Peer};
 use crate::serve::shared::Shared;
 use frame_queues::{Turn, Turns};
 use mio::unix::SourceFd;
-use mio::{Events, Interest, Poll, Token, Waker};
+use mio::{Events, Interest, Poll, Token};
 use quorum_sizes::NodeName;
 use std::alloc::{AllocError, Global};
 use std::io;
@@ -21,11 +21,8 @@ use std::time::{Clock, Duration};
 /// The listener's number among those that are waited for. A connection has the number of its place.
 const LISTENER: usize = MOST_PEERS as usize;
 
-/// The number of what wakes the thread, behind the listener's.
-const WAKER: usize = LISTENER + 1;
-
-/// How many milliseconds the thread waits at most, if nothing wakes it.
-const NEXT_LOOK: u64 = 1_000;
+/// How many milliseconds the thread waits at most. Then it looks whether the node has ended.
+const NEXT_LOOK: u64 = 50;
 
 /// The milliseconds until the listener is asked again, where a connection waits for a place.
 const NEXT_PLACE: u64 = 1;
@@ -88,7 +85,7 @@ impl PeerPort {
         Ok(PeerPort {
             listener,
             poll,
-            events: Events::with_capacity(alloc, WAKER + 1)?,
+            events: Events::with_capacity(alloc, LISTENER + 1)?,
             places,
             ready: Vec::with_capacity(alloc, LISTENER)?,
             turns: Turns::new(alloc, LISTENER)?,
@@ -97,15 +94,6 @@ impl PeerPort {
             asked: None,
             failures: 0,
         })
-    }
-
-    /// What wakes the thread that takes the frames.
-    ///
-    /// # Errors
-    ///
-    /// As the system answers.
-    pub fn waker(&self) -> io::Result<Waker> {
-        Waker::new(self.poll.registry(), Token(WAKER))
     }
 
     /// Takes the frames of all peers, until the end, to which a wait or a listener that fails brings the node.
@@ -118,7 +106,7 @@ impl PeerPort {
     ) {
         let mut jobs = FrameJobs::new(shared, queue);
         for _ in rt.forever() {
-            let wait = self.next_wait(rt, shared.millis_to_due(rt, NEXT_LOOK));
+            let wait = self.next_wait(rt);
             if self.poll.poll(&mut self.events, Some(wait)).is_err() {
                 shared.fail(rt);
             }
@@ -128,7 +116,6 @@ impl PeerPort {
             self.note_events();
             self.read_ready(rt, &mut jobs);
             jobs.ring(rt);
-            shared.ring_if_due(rt);
             self.close_refused(rt, &mut jobs);
             if self.asked.is_some() && !self.accept(rt, alloc, &mut jobs) {
                 shared.fail(rt);
@@ -136,10 +123,9 @@ impl PeerPort {
         }
     }
 
-    /// How long is to be waited for what comes next: so many milliseconds at most. A connection on which no frame has
-    /// opened in its time is closed.
-    fn next_wait<R: Clock>(&mut self, rt: &R, most: u64) -> Duration {
-        let mut wait = Duration::from_millis(self.asked.unwrap_or(most).min(most));
+    /// How long is to be waited for what comes next. A connection on which no frame has opened in its time is closed.
+    fn next_wait<R: Clock>(&mut self, rt: &R) -> Duration {
+        let mut wait = Duration::from_millis(self.asked.unwrap_or(NEXT_LOOK));
         if self.silent > 0 {
             for slot in 0..LISTENER {
                 if let Some(left) = self.left_of(rt, slot) {

@@ -1,11 +1,10 @@
 //! Connections to peers, by which the frames of outboxes go out.
 
 use crate::serve::outbox::{Outbox, Progress, batch_room, has_ended};
-use crate::serve::shared::{Shared, local};
+use crate::serve::shared::local;
 use std::alloc::Global;
 use std::io;
 use std::net::{Net, TcpStream};
-use std::sync::ledger::Ledger;
 use std::sync::{Arc, Wait};
 use std::time::{Clock, Duration, Instant};
 
@@ -26,10 +25,9 @@ const PATIENCE: u64 = 500;
 
 /// Connects an outbox with its peer, until the end: when there are frames, and again when the connection has ended,
 /// after a pause that grows to a second.
-pub fn send_frames<L: Ledger, R: Net<Stream = TcpStream> + Wait + Clock>(
+pub fn send_frames<R: Net<Stream = TcpStream> + Wait + Clock>(
     rt: &R,
     alloc: Global,
-    shared: &Shared<'_, L>,
     outbox: &Outbox,
 ) {
     let mut pause = FIRST_PAUSE;
@@ -38,7 +36,7 @@ pub fn send_frames<L: Ledger, R: Net<Stream = TcpStream> + Wait + Clock>(
             return;
         }
         if let Ok(stream) = connected(rt, alloc, outbox.port) {
-            if keep(rt, alloc, shared, outbox, stream) {
+            if keep(rt, alloc, outbox, stream) {
                 pause = FIRST_PAUSE;
             }
         }
@@ -68,13 +66,7 @@ fn connected<R: Net<Stream = TcpStream>>(
 }
 
 /// Gives the connection to the outbox, until it has ended or failed, or the node ends. Whether it lived for long.
-fn keep<L: Ledger, R: Wait + Clock>(
-    rt: &R,
-    alloc: Global,
-    shared: &Shared<'_, L>,
-    outbox: &Outbox,
-    stream: Arc<TcpStream>,
-) -> bool {
+fn keep<R: Wait + Clock>(rt: &R, alloc: Global, outbox: &Outbox, stream: Arc<TcpStream>) -> bool {
     let Ok(begin) = Instant::now(rt) else {
         return false;
     };
@@ -88,7 +80,6 @@ fn keep<L: Ledger, R: Wait + Clock>(
         return false;
     }
     outbox.open(rt, other);
-    shared.connect(rt, outbox.to);
     for _ in rt.forever() {
         if !write_all(rt, outbox, &stream, &mut batch) || !outbox.wait(rt) {
             break;

@@ -1,8 +1,5 @@
 //! What the threads of a serving node share.
 
-ghost use Rattle.std.specs.Prelude.{◌≤◌};
-ghost use Rattle.peer_windows.specs.Pauses.{most_time};
-
 use crate::serve::connection::Connection;
 use crate::serve::crew::Crew;
 use crate::serve::frame_jobs::FrameNews;
@@ -10,9 +7,7 @@ use crate::serve::links::Links;
 use crate::serve::outbox::{Outbox, batch_room};
 use crate::serve::waiting::{Awaited, Waiting};
 use link_frames::{Frame, Message, Place};
-use mio::Waker;
 use node_lock::{Seat, SharedNode, View};
-use peer_windows::{MOST_TIME, Pairs, PeerRoom};
 use quorum_sizes::NodeName;
 use std::alloc::{AllocError, Global};
 use std::net::{Ipv4Addr, SocketAddr, SocketAddrV4};
@@ -46,12 +41,6 @@ pub struct Shared<'a, L: Ledger> {
     /// What is told of the jobs of frames.
     pub frame_news: Waiting<FrameNews>,
     pub life: Waiting<Life>,
-    /// When the node began, from which its milliseconds are counted.
-    pub begin: Instant,
-    /// It wakes the thread of the peers.
-    pub waker: Waker,
-    /// The peers to which there is a new connection.
-    pub connected: Mutex<Vec<NodeName>>,
     /// After so long a client that sends nothing is closed.
     pub idle: Duration,
 }
@@ -106,47 +95,6 @@ impl<L: Ledger> Shared<'_, L> {
             connection.end(rt);
         }
         self.frame_news.end(rt);
-        self.wake_peers();
-    }
-
-    /// Has the thread of the peers look what is to be done. Where that fails it looks a second later.
-    pub fn wake_peers(&self) {
-        let _ = self.waker.wake();
-    }
-
-    /// The milliseconds since the node began.
-    pub fn millis<R: Clock>(&self, rt: &R) -> u64
-        ensures { result ≤ most_time }
-    {
-        match self.begin.elapsed(rt) {
-            Ok(past) => u64::try_from(past.as_millis()).unwrap_or(MOST_TIME).min(MOST_TIME),
-            Err(_) => 0,
-        }
-    }
-
-    /// There is a new connection to the peer, whose pairs begin anew.
-    pub fn connect<R: Wait + Clock>(&self, rt: &R, peer: NodeName) {
-        // there is room for each node
-        let _ = self.connected.lock(rt).push(peer);
-        self.ring(rt);
-    }
-
-    /// The pairs of peers to which there is a new connection begin anew.
-    pub fn note_connections<R: Wait>(&self, rt: &R, now: u64, pairs: &mut Pairs)
-        requires { now ≤ most_time }
-    {
-        for peer in self.connected.lock(rt).drain(..) {
-            pairs.connected(now, peer);
-        }
-    }
-
-    /// Looks how much each other node takes now.
-    pub fn look_at_rooms<R: Wait>(&self, rt: &R, rooms: &mut Vec<PeerRoom>) {
-        for outbox in &self.outboxes {
-            if let Some(room) = rooms.get_mut(usize::from(outbox.to.index())) {
-                *room = outbox.room(rt);
-            }
-        }
     }
 
     /// A listener has failed, which ends the node.
@@ -163,22 +111,6 @@ impl<L: Ledger> Shared<'_, L> {
         for outbox in &self.outboxes {
             self.seal_all(outbox.to, messages, &mut room.frames);
             outbox.send(rt, &room.frames, &mut room.bytes);
-        }
-    }
-
-    /// Sends messages to one other node. What does not fit is lost.
-    pub fn send_to_peer<R: Wait + Clock>(
-        &self,
-        rt: &R,
-        to: NodeName,
-        messages: &[Message],
-        room: &mut Room,
-    ) {
-        for outbox in &self.outboxes {
-            if outbox.to == to {
-                self.seal_all(to, messages, &mut room.frames);
-                outbox.send(rt, &room.frames, &mut room.bytes);
-            }
         }
     }
 

@@ -1,8 +1,7 @@
 //! The workers, who make the calls of all jobs.
 
-ghost use Rattle.std.specs.Prelude.{◌≡◌, ◌≤◌, IfSome};
+ghost use Rattle.std.specs.Prelude.{◌≡◌, IfSome};
 ghost use Rattle.client_lines.specs.AnswerTexts.{IsWritten};
-ghost use Rattle.peer_windows.specs.Pauses.{most_time};
 ghost use Rattle.role_daemon.specs.Served.{served, sent_outcome};
 
 use crate::answers::{hold_answer, listed};
@@ -10,13 +9,11 @@ use crate::serve::caller::Caller;
 use crate::serve::connection::LineAnswers;
 use crate::serve::job_queue::JobQueue;
 use crate::serve::shared::{Room, Shared};
-use crate::serve::taking::Taking;
 use client_lines::ClientAnswer;
 use frame_queues::FirstPackets;
 use link_frames::{Held, Message, Packet};
 use node_lock::{Call, Job, Locked, Outcome, Seat, View};
 use owner_streams::WINDOW;
-use peer_windows::Owed;
 use quorum_sizes::NodeName;
 use role_node::{Event, NodeFault, Reply};
 use role_sessions::SessionFault;
@@ -27,9 +24,6 @@ use std::time::Clock;
 
 /// The most jobs that a worker takes at once.
 const MOST_BATCH: usize = 192;
-
-/// The most frames that go to a peer at once: a window of 129 places, with three messages at each.
-const MOST_FRAMES: usize = 387;
 
 /// What a hold said to a job; nothing for want of memory, and where the seat does not fit the node.
 #[derive(Drop)]
@@ -57,8 +51,6 @@ pub struct Worker<'a, L: Ledger> {
     seat: Seat<L>,
     done: Vec<Done>,
     messages: Vec<Message>,
-    /// What goes to single peers again.
-    owed: Owed,
     room: Room,
     shares: Vec<Share>,
 }
@@ -71,7 +63,6 @@ impl<'a, L: Ledger> Worker<'a, L> {
     /// Only for want of memory.
     pub fn new(
         alloc: Global,
-        nodes: u8,
         queue: JobQueue<'a>,
         seat: Seat<L>,
     ) -> Result<Worker<'a, L>, AllocError> {
@@ -81,55 +72,30 @@ impl<'a, L: Ledger> Worker<'a, L> {
             seat,
             done: Vec::with_capacity(alloc, MOST_BATCH)?,
             messages: Vec::with_capacity(alloc, MOST_BATCH)?,
-            owed: Owed::new(alloc, nodes)?,
-            room: Room::new(alloc, MOST_FRAMES)?,
+            room: Room::new(alloc, MOST_BATCH)?,
             shares: Vec::with_capacity(alloc, MOST_BATCH)?,
         })
     }
 
     /// Makes the calls of what comes first and of jobs, each by one hold, all under one lock, until nothing is left or
-    /// the batch is full, and gathers what is to be sent again. Whether the batch is full.
-    pub fn take_jobs<R: Wait + Clock>(
+    /// the batch is full. Whether it is full.
+    pub fn take_jobs<R: Wait>(
         &mut self,
         rt: &R,
         shared: &Shared<'a, L>,
-        taking: &mut Taking,
+        first: &mut FirstPackets,
     ) -> bool {
-        let now = shared.millis(rt);
-        shared.note_connections(rt, now, &mut taking.pairs);
+        let me = shared.links.me();
         let mut locked = shared.node.node.lock(rt);
-        let is_full = self.make_calls(rt, shared.links.me(), now, &mut locked, taking);
-        if self.owed.shares().is_empty() && taking.pairs.next_due() <= now {
-            shared.look_at_rooms(rt, &mut taking.rooms);
-            self.owed.clear();
-            // what found no memory is owed
-            let Taking { pairs, rooms, .. } = taking;
-            let _ = pairs.gather(&mut locked, &mut self.seat, now, rooms, &mut self.owed);
-        }
-        is_full
-    }
-
-    /// Makes the calls, until nothing is left or the batch is full. Whether it is full.
-    fn make_calls<R: Wait>(
-        &mut self,
-        rt: &R,
-        me: NodeName,
-        now: u64,
-        locked: &mut Locked<L>,
-        taking: &mut Taking,
-    ) -> bool
-        requires { now ≤ most_time }
-    {
         for _ in self.done.len()..MOST_BATCH {
-            let Some(job) = next_job(rt, &mut taking.first, &mut self.queue) else {
+            let Some(job) = next_job(rt, first, &mut self.queue) else {
                 return false;
             };
             let caller = Caller::of(job.number);
             let packet = taken_packet(&job.call);
-            let said = call(locked, &mut self.seat, job.call, me);
+            let said = call(&mut locked, &mut self.seat, job.call, me);
             if let Some((outcome, _)) = &said {
-                taking.pairs.note(locked, &mut self.seat, now, packet.as_ref(), outcome);
-                self.note(&mut taking.first, me, packet, outcome);
+                self.note(first, me, packet, outcome);
             }
             let _ = self.done.push(Done { caller, said });
         }
@@ -155,24 +121,10 @@ impl<'a, L: Ledger> Worker<'a, L> {
         }
     }
 
-    /// Sends what the outcomes have the node send, and then what goes to single peers again.
+    /// Sends what the outcomes have the node send.
     pub fn send<R: Wait + Clock>(&mut self, rt: &R, shared: &Shared<'a, L>) {
         shared.send_to_peers(rt, &self.messages, &mut self.room);
         self.messages.clear();
-        let me = shared.links.me();
-        let mut from = 0usize;
-        for share in self.owed.shares() {
-            let to = from.saturating_add(share.count);
-            let messages = self.owed.messages().get(from..to).unwrap_or(&[]);
-            if share.peer == me {
-                put_own(rt, me, messages, &mut self.queue);
-                shared.note_jobs(rt);
-            } else {
-                shared.send_to_peer(rt, share.peer, messages, &mut self.room);
-            }
-            from = to;
-        }
-        self.owed.clear();
     }
 
     /// Tells each client what was done for it, and its answers, and the thread of the peers how many of its jobs are
@@ -207,15 +159,6 @@ impl<'a, L: Ledger> Worker<'a, L> {
             if let Some(connection) = shared.clients.get(share.slot as usize) {
                 connection.done(rt, share.count, share.answers);
             }
-        }
-    }
-}
-
-/// Puts a node's packets to itself into the inbox, as far as there is room.
-fn put_own<R: Wait>(rt: &R, me: NodeName, messages: &[Message], queue: &mut JobQueue<'_>) {
-    for message in messages {
-        if let Some(packet) = own_packet(me, message) {
-            let _ = queue.put(rt, job_of(packet));
         }
     }
 }
