@@ -7,6 +7,7 @@
 --     consistency, integrity, same_policy, at_rest      the laws of every run, or of one at rest
 --     quiet_is_complete, each_owner_goes_on, wanted_is_recorded      how each owner's stream goes on
 --     history_is_bounded, work_is_bounded      how much can be recorded
+--     vote_shows_reach, windows_suffice, complete_or_lacked, windows_heal      how windows heal a cluster
 --     given_out_is_at_rest, giving_comes_to_rest      the laws of runs that go on by packets of the pool alone
 --     settled_prolongs, settled_is, settled-config      a world that has settled
 --     after_gives-none, after_gives-next, after_gives-pool      packets that are given one after another
@@ -27,6 +28,9 @@ pub use Rattle.byz_world.proofs.GoesOn.{each_owner_goes_on}
 pub use Rattle.byz_world.proofs.Wanted.{wanted_is_recorded}
 pub use Rattle.byz_world.proofs.LongHistories.{history_is_bounded}
 pub use Rattle.byz_world.proofs.Prolonging.{work_is_bounded}
+pub use Rattle.byz_world.proofs.Voted.{vote_shows_reach}
+pub use Rattle.byz_world.proofs.Windows.{windows_suffice}
+pub use Rattle.byz_world.proofs.Healing.{complete_or_lacked, windows_heal}
 pub use Rattle.byz_world.proofs.GivenOut.{given_out_is_at_rest}
 pub use Rattle.byz_world.proofs.Schedules.{giving_comes_to_rest, given_out_or_not}
 pub use Rattle.byz_world.proofs.Passes.{settled_prolongs, settled_is, settled-config}

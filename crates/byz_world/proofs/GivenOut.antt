@@ -2,7 +2,7 @@
 -- at rest.
 use Rattle.std.proofs.Common.{◌≡◌, ℕ, suc, ◌+◌, ◌<◌, ◌≤◌, ⊎_elim, Bool, true, false, List, length, Result, Ok, Err}
 use Rattle.std.proofs.Common.{refl, sym, ap, ◌∙◌, arith, le_refl}
-use Rattle.std.specs.Prelude.{nat_le}
+use Rattle.std.specs.Prelude.{nat_le, Contains}
 use Rattle.std.proofs.lemmas.Bool.{cases_lt}
 use Rattle.quorum_sizes.specs.NodeSets.{Nodes}
 use Rattle.link_frames.specs.Packets.{PacketValue, message_of}
@@ -10,6 +10,7 @@ use Rattle.bracha_instance.specs.declared.instance.Effect.{Effect}
 use Rattle.bracha_instance.specs.declared.instance.Effect.TheVariants as effect
 use Rattle.role_node.specs.Answers.{outlook, answered, unless_full, reply_to, answer_due, is_recorded}
 use Rattle.role_node.specs.Configs.{ConfigValue}
+use Rattle.role_node.specs.Histories.{packets}
 use Rattle.role_node.specs.declared.event.Event.{Event}
 use Rattle.role_node.specs.declared.event.Event.TheVariants as event
 use Rattle.role_node.specs.declared.faults.NodeFault.{NodeFault}
@@ -21,7 +22,8 @@ use Rattle.byz_world.specs.Runs.{Run, history_of, reach_of, IsClusterRun}
 use Rattle.byz_world.proofs.Idle.{taken_is_idle}
 use Rattle.byz_world.proofs.Pooled.{pooled_is_sent, sent_is_pooled}
 use Rattle.byz_world.proofs.Progress.{not_full, roomy, pooled_within}
-use Rattle.byz_world.proofs.Quiet.{within_taken, reaches}
+use Rattle.byz_world.proofs.Complete.{reaches}
+use Rattle.byz_world.proofs.Quiet.{within_taken, ends_taken}
 use Rattle.byz_world.proofs.Recording.{counted_recorded}
 
 -- what is wanted counts where its receiver has room
@@ -60,7 +62,8 @@ rests config liars run cluster room given p pooled correct =
     let reach : ℕ = reach_of config run p.from p.owner in
     let places : ℕ = suc (p.place + reach) in
     let quiet = given_out_is_quiet config liars run p.owner places cluster room given in
-    let far = reaches config liars run p.owner places cluster quiet reach p.from (omega arith) was.from (le_refl _) p.to
+    let ends = ends_taken config liars run p.owner places cluster quiet in
+    let far = reaches config liars run p.owner places cluster ends reach p.from (omega arith) was.from (le_refl _) p.to
     correct in
     within_taken config liars run p.owner places cluster quiet p pooled correct refl (omega arith)
     (omega (arith, far, pooled_within config liars run cluster p pooled))
@@ -89,15 +92,21 @@ early_clash full r e = ap (λ x. is_idle (unless_full full x)) e ∙ by full
     by true = refl
     by false = refl
 
--- .. and nothing is wanted
+-- what is wanted was not taken
+pub wanted_is_new : (config : ConfigValue) (liars : Nodes) (run : Run) (p : PacketValue) →
+    IsClusterRun config liars run → IsWanted config liars run p → Contains (packets (history_of p.to run)) p → ⊥
+wanted_is_new config liars run p cluster wanted taken =
+    let idle : is_idle (outlook config p.to (history_of p.to run) (event.Take p)) ≡ true =
+    taken_is_idle config p.to (history_of p.to run) p (cluster.legal p.to) taken in
+    let clash : true ≡ false = sym idle ∙ early_clash _ _ wanted.counts in
+    absurd cc
+
+-- .. so at rest nothing is
 pub rest_is_quiet : (config : ConfigValue) (liars : Nodes) (run : Run) (owner places : ℕ) →
     IsClusterRun config liars run → IsAtRest config liars run → IsQuiet config liars run owner places
 rest_is_quiet config liars run owner places cluster rest p wanted own early =
     let pooled = sent_is_pooled config liars run p.from p.to (message_of p) cluster wanted.sent.sent wanted.sent.to in
-    let idle : is_idle (outlook config p.to (history_of p.to run) (event.Take p)) ≡ true =
-    taken_is_idle config p.to (history_of p.to run) p (cluster.legal p.to) (rest p pooled wanted.to) in
-    let clash : true ≡ false = sym idle ∙ early_clash _ _ wanted.counts in
-    absurd cc
+    wanted_is_new config liars run p cluster wanted (rest p pooled wanted.to)
 
 pub given_out_is_at_rest : GivenOutIsAtRest
 given_out_is_at_rest config liars run cluster room = (

@@ -38,10 +38,14 @@ pub mod BlockNotes
 pub mod BlockRuns
 pub mod BlockMerge
 pub mod BlockWorld
+pub mod Complete
 pub mod Quiet
 pub mod GivenOut
 pub mod Bounds
 pub mod Wanted
 pub mod GoesOn
 pub mod LongHistories
+pub mod Voted
+pub mod Windows
+pub mod Healing
 pub mod Exported

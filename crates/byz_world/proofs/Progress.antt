@@ -144,7 +144,7 @@ module _ (config : ConfigValue) (liars : Nodes) (run : Run) (cluster : IsCluster
       let P : ℕ → ℕ → Type 0 = λ o k. k < reach_of config run node o + window in
       subst (λ o. P o place) from.owner_is (subst (P from.packet.owner) from.place_is (below _ _ open'.within))
 
-  sent_within : (node : ℕ) (kind : Kind) (owner place : ℕ) (c : Command) → (kind ≡ Send → node ≡ owner) →
+  pub sent_within : (node : ℕ) (kind : Kind) (owner place : ℕ) (c : Command) → (kind ≡ Send → node ≡ owner) →
       said_by s run node kind owner place ≡ Some c → place < reach_of config run node owner + window
   sent_within node Send owner place c own e =
       let P : ℕ → Type 0 = λ o. place < reach_of config run node o + window in

@@ -10,6 +10,7 @@ pub mod Agreement
 pub mod Laws
 pub mod Limits
 pub mod Progress
+pub mod Windows
 pub mod Giving
 pub mod Example
 pub mod Checks

@@ -10,6 +10,7 @@ ghost use Rattle.byz_world.specs.Limits.{LimitsMayDiffer};
 ghost use Rattle.byz_world.specs.Progress.{QuietIsComplete, EachOwnerGoesOn, WantedIsRecorded, HistoryIsBounded};
 ghost use Rattle.byz_world.specs.Progress.{WorkIsBounded};
 ghost use Rattle.byz_world.specs.Giving.{GivenOutIsAtRest, GivingComesToRest};
+ghost use Rattle.byz_world.specs.Windows.{VoteShowsReach, WindowsSuffice, IsCompleteOrLacked, WindowsHeal};
 
 /// A run whose correct nodes keep to different limits is one of a cluster whose limit is at least the largest of them,
 /// so that all that is said here holds of it.
@@ -89,6 +90,30 @@ pub fn law_fair_schedules_settle()
     ensures goes_on { EachOwnerGoesOn }
     ensures recorded { WantedIsRecorded }
     ensures given { GivingComesToRest }
+{}
+
+/// A vote of a correct node, an ECHO or a READY, wherever it was taken at a place of an owner's stream, shows that its
+/// sender's stream of that owner reaches above that place less 64: a node takes nothing further ahead, and votes only
+/// where it took something.
+pub fn vote_shows_reach()
+    ensures { VoteShowsReach }
+{}
+
+/// The window of a peer at a node is the 64 places on each side of the last vote that the node took of it. Where no
+/// correct node lacks a packet that stands in a correct node's window of it and is about an owner's first places, these
+/// are one list at all correct nodes, and of a correct owner what it issued. And these places are so, or some packet of
+/// a window about them is lacked: its receiver would record it if it were given now, room in its history apart.
+pub fn law_windows_suffice()
+    ensures suffice { WindowsSuffice }
+    ensures or_lacked { IsCompleteOrLacked }
+{}
+
+/// Giving packets of windows heals the cluster, whatever liars, clients and other owners do meanwhile. Take moments of a
+/// run, one after another, where between each and the next one of those packets about an owner's first P places is
+/// recorded that were lacked at the first of the two, if there was any: these places are complete at one of them, of
+/// which no more than `n * P * (2n + 1)` come before it.
+pub fn law_windows_heal()
+    ensures { WindowsHeal }
 {}
 
 /// There is a run of a cluster in which a node lies and two correct nodes deliver a command; it can be prolonged before
