@@ -1,0 +1,6 @@
+pub mod Restoring
+pub mod Sending
+pub mod Firm
+pub mod Lives
+pub mod AtOnce
+pub mod Example

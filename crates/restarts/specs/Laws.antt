@@ -1,0 +1,62 @@
+-- What holds of each life of a cluster, whatever its correct nodes record, sync and lose in crashes.
+use Rattle.std.specs.Prelude.{◌≡◌, ℕ, ◌≤◌, IsTrue, List, ◌∷◌, [], ◌++◌, take, length}
+use Rattle.std.specs.List.{flat_map}
+use Rattle.quorum_sizes.specs.NodeSets.{Nodes}
+use Rattle.link_frames.specs.declared.packet.Message.{Message}
+use Rattle.role_node.specs.Configs.{ConfigValue}
+use Rattle.role_node.specs.declared.event.Event.{Event}
+use Rattle.byz_world.specs.Headline.{KeepsThePromise}
+use Rattle.byz_world.specs.Runs.{Run, history_of, IsClusterRun}
+use Rattle.restarts.specs.Lives.{Act, Records, Syncs, Moment, moment, has_left, IsLife}
+
+-- What stands at any moment of a life is a run of a cluster: a node that crashed and was restored with all that it had
+-- synced is a correct node.
+abbrev pub RestartsAreRuns : Type 0
+RestartsAreRuns =
+    (config : ConfigValue) (liars : Nodes) (acts : List Act) (k : ℕ) → IsLife config liars acts →
+    IsClusterRun config liars (moment acts k).run
+
+-- each event of the run is synced once it is recorded
+abbrev pub synced_at_once : Run → List Act
+synced_at_once run = flat_map (λ pair. Records pair.0 pair.1 ∷ Syncs pair.0 ∷ []) run
+
+-- the acts are a life, and at its end this run stands
+pub record StandsAfter (config : ConfigValue) (liars : Nodes) (run : Run) (acts : List Act) : Type 0 where
+  pub is_life : IsLife config liars acts
+  pub stands : (moment acts (length acts)).run ≡ run
+
+-- Lives are no narrower: each run of a cluster stands after one.
+abbrev pub RunsAreLives : Type 0
+RunsAreLives =
+    (config : ConfigValue) (liars : Nodes) (run : Run) → IsClusterRun config liars run →
+    StandsAfter config liars run (synced_at_once run)
+
+-- the front of a node's history that is synced
+abbrev pub synced_of : Moment → ℕ → List Event
+synced_of m node = take (m.synced node) (history_of node m.run)
+
+-- the history begins with it
+abbrev pub IsFrontOf : List Event → List Event → Type 0
+IsFrontOf front history = (rest : List Event) × (front ++ rest ≡ history)
+
+-- What is synced at a moment is a front of the node's history at each later one.
+abbrev pub NothingIsTakenBack : Type 0
+NothingIsTakenBack =
+    (config : ConfigValue) (liars : Nodes) (acts : List Act) (k later node : ℕ) → IsLife config liars acts → k ≤ later →
+    IsFrontOf (synced_of (moment acts k) node) (history_of node (moment acts later).run)
+
+-- What stands at any moment keeps the promise of the cluster, whoever crashed before.
+abbrev pub RestartsKeepThePromise : Type 0
+RestartsKeepThePromise =
+    (config : ConfigValue) (liars : Nodes) (acts : List Act) (k : ℕ) → IsLife config liars acts →
+    KeepsThePromise config liars (moment acts k).run
+
+-- Nobody is told two stories: what has left a correct node at two moments, whatever crashed between them, is one
+-- message of a kind about a place. (A liar has no events here, so by these words nothing has left it.)
+abbrev pub NobodyIsToldTwoStories : Type 0
+NobodyIsToldTwoStories =
+    (config : ConfigValue) (liars : Nodes) (acts : List Act) (k later node : ℕ) (one other : Message) →
+    IsLife config liars acts →
+    IsTrue (has_left config.roles.sizes (moment acts k) node one) →
+    IsTrue (has_left config.roles.sizes (moment acts later) node other) →
+    one.kind ≡ other.kind → one.owner ≡ other.owner → one.place ≡ other.place → one ≡ other

@@ -1,0 +1,3 @@
+pub mod Lives
+pub mod Laws
+pub mod Example

@@ -1,0 +1,45 @@
+//! What holds of every life of a cluster, whatever its correct nodes record, sync and lose in crashes.
+//!
+//! Each function's contract is its law, and its body is empty, or calls the laws that it follows from.
+ghost use Rattle.restarts.specs.Example.{AnExample};
+ghost use Rattle.restarts.specs.Laws.{RestartsAreRuns, RunsAreLives, NothingIsTakenBack};
+ghost use Rattle.restarts.specs.Laws.{RestartsKeepThePromise, NobodyIsToldTwoStories};
+
+use byz_world::law_headline;
+
+/// What stands at any moment of a life is a run of a cluster, so that every law of a cluster speaks of it.
+pub fn law_restarts_are_runs()
+    ensures { RestartsAreRuns }
+{}
+
+/// Each run of a cluster stands after a life, that in which each event is synced once it is recorded.
+pub fn runs_are_lives()
+    ensures { RunsAreLives }
+{}
+
+/// What a node had synced at some moment is a front of its history at each later one.
+pub fn law_nothing_is_taken_back()
+    ensures { NothingIsTakenBack }
+{}
+
+/// What stands at any moment of a life keeps the promise of the cluster.
+pub fn law_restarts_keep_the_promise()
+    ensures { RestartsKeepThePromise }
+{
+    law_restarts_are_runs();
+    law_headline();
+}
+
+/// At no two moments of a life, across any crashes, have two different messages of one kind about one place left a
+/// correct node.
+pub fn law_nobody_is_told_two_stories()
+    ensures { NobodyIsToldTwoStories }
+{}
+
+/// There is a life in which a node publishes a command, loses it in a crash and publishes another, which it keeps in
+/// the next crash and which is delivered.
+pub fn an_example()
+    ensures { AnExample }
+{
+    byz_world::laws::an_example();
+}
