@@ -244,8 +244,9 @@ class Forwarders:
         self.order((Treatment(**members), names))
 
     def carry(self):
-        """From now on all is forwarded as it comes."""
+        """From now on all is forwarded as it comes. When that is."""
         self.treat()
+        return time.monotonic()
 
     def cut_off(self, node, **members):
         """From now on what goes to the node and comes from it is treated so."""
