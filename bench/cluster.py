@@ -18,8 +18,8 @@ TOP = os.path.dirname(os.path.dirname(os.path.abspath(__file__)))
 sys.dont_write_bytecode = True
 sys.path.insert(0, os.path.join(TOP, "examples"))
 import tundelca  # noqa: E402
+from forwarders import FRAME, Forwarders  # noqa: E402
 
-FRAME = 54  # bytes
 SEND, ECHO, READY = 1, 2, 3
 ROLE = 2  # of owner 0; that of owner k is ROLE + k
 PATIENCE = 20  # seconds
@@ -43,9 +43,12 @@ COMMAND = assign(7)
 
 
 class Cluster:
-    """A cluster with new keys. The nodes of `running` are processes, and the script speaks for the others."""
+    """A cluster with new keys. The nodes of `running` are processes, and the script speaks for the others.
 
-    def __init__(self, program, nodes, may_lie=0, owners=1, running=None, descriptors=None):
+    With `is_apart` the nodes reach each other through `forwarders`; what the script sends goes beside these.
+    """
+
+    def __init__(self, program, nodes, may_lie=0, owners=1, running=None, descriptors=None, is_apart=False):
         ports = tundelca.free_ports(2 * nodes)
         self.program, self.may_lie, self.descriptors = program, may_lie, descriptors
         self.nodes, self.clients = ports[:nodes], ports[nodes:]
@@ -56,13 +59,25 @@ class Cluster:
         for path in self.paths:
             with open(path, encoding="ascii") as file:
                 self.keys.append([bytes.fromhex(key) for key in json.load(file)["keys"]])
-        self.running = {}
+        self.running, self.forwarders = {}, None
         try:
+            if is_apart:
+                self.part()
             for me in range(nodes) if running is None else running:
                 self.start(me)
         except BaseException:
             self.end()
             raise
+
+    def part(self):
+        """Puts a forwarder between each two nodes."""
+        self.forwarders = Forwarders(self.nodes)
+        for me, path in enumerate(self.paths):
+            with open(path, encoding="ascii") as file:
+                text = json.load(file)
+            text["nodes"] = [self.forwarders.ports.get((me, to), port) for to, port in enumerate(self.nodes)]
+            with open(path, "w", encoding="ascii") as file:
+                json.dump(text, file)
 
     def start(self, me):
         """Starts a node, and doesn't wait for it."""
@@ -110,6 +125,8 @@ class Cluster:
             if process.poll() is None:
                 process.kill()
             process.wait()
+        if self.forwarders is not None:
+            self.forwarders.end()
         self.folder.cleanup()
 
 

@@ -315,31 +315,6 @@ class Publication:
             one.close()
 
 
-def catch_up(behind, others, owner, patience=30.0):
-    """Has the others send again what the node that was away lacks of the owner's stream, place by place.
-
-    How many places it gained. Raises `Unreachable` where it gains none for `patience` seconds.
-    """
-    first = reach = behind.reach(owner)
-    goal = max(other.reach(owner) for other in others)
-    deadline = time.monotonic() + patience
-    while reach < goal:
-        for place in range(reach, min(goal, reach + WINDOW // 2)):
-            for other in others:
-                other.ask("again", owner=owner, place=place)
-        now = behind.reach(owner)
-        for _ in range(100):
-            if now > reach:
-                break
-            time.sleep(0.01)
-            now = behind.reach(owner)
-        if now > reach:
-            reach, deadline = now, time.monotonic() + patience
-        elif time.monotonic() > deadline:
-            raise Unreachable(f"the node at port {behind.port} stays at {reach} of {goal} commands of node {owner}")
-    return reach - first
-
-
 def free_ports(count):
     """So many ports on which nobody listens now, below those that the system gives to outgoing connections."""
     found = set()
