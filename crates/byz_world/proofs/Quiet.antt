@@ -63,7 +63,8 @@ module _ (config : ConfigValue) (liars : Nodes) (run : Run) (owner places : ℕ)
   IsHonest name = is_correct s liars name ≡ true
 
   pub within_taken : (p : PacketValue) → Contains (pool config run) p → IsHonest p.to → p.owner ≡ owner →
-      p.place < places → p.place < reach_of config run p.to p.owner + window → Contains (packets (history_of p.to run)) p
+      p.place < places → p.place < reach_of config run p.to p.owner + window →
+      Contains (packets (history_of p.to run)) p
   within_taken p pooled correct own early within =
       ⊎_elim
       (λ (taken : Contains (packets (history_of p.to run)) p). taken)

@@ -108,10 +108,10 @@ pub fn law_windows_suffice()
     ensures or_lacked { IsCompleteOrLacked }
 {}
 
-/// Giving packets of windows heals the cluster, whatever liars, clients and other owners do meanwhile. Take moments of a
-/// run, one after another, where between each and the next one of those packets about an owner's first P places is
-/// recorded that were lacked at the first of the two, if there was any: these places are complete at one of them, of
-/// which no more than `n * P * (2n + 1)` come before it.
+/// Giving packets of windows heals the cluster, whatever liars, clients and other owners do meanwhile. Take moments
+/// of a run, one after another, between each of which and the next a packet about an owner's first P places is
+/// recorded that was lacked in a window at the first of the two, if any was. Then these places are complete at one of
+/// the moments, and no more than `n * P * (2n + 1)` come before it.
 pub fn law_windows_heal()
     ensures { WindowsHeal }
 {}
