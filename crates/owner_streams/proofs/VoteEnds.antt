@@ -20,14 +20,15 @@ use Rattle.owner_streams.proofs.LastVotes.{last_vote-other, last_vote-alike}
 pub ends_none : (s : Counts) (a : VoteEnds) → a.ends.items ≡ replicate (s.nodes * s.nodes) 0 → AreEndsOf s [] a
 ends_none s a e =
     let IsInRange : ℕ → Type 0 = λ end. end ≤ place_count in
+    let all = s.nodes * s.nodes in
     record {
-      one_each = ap length e ∙ length-replicate (s.nodes * s.nodes) 0;
+      one_each = ap length e ∙ length-replicate all 0;
       each = λ owner voter h k.
-          ap (λ ends. slice_index_or ends (owner * s.nodes + voter) 0) e
-          ∙ get_or-replicate (s.nodes * s.nodes) (owner * s.nodes + voter) 0 0 (mul-add-lt owner s.nodes voter s.nodes h k)
+          let at = owner * s.nodes + voter in
+          ap (λ ends. slice_index_or ends at 0) e
+          ∙ get_or-replicate all at 0 0 (mul-add-lt owner s.nodes voter s.nodes h k)
           ∙ ap voted_to (sym (last_vote-none owner voter));
-      in_range = All-same IsInRange a.ends.items (replicate (s.nodes * s.nodes) 0) e
-          (All-replicate IsInRange (s.nodes * s.nodes) 0 (omega arith));
+      in_range = All-same IsInRange a.ends.items (replicate all 0) e (All-replicate IsInRange all 0 (omega arith));
     }
 
 voted_to-further : (a b : Option ℕ) → max (voted_to a) (voted_to b) ≡ voted_to (further a b)

@@ -67,7 +67,7 @@ instances_in a = instances_from 0 (map (held a) (range_with_len 0 (reach_in a + 
 abbrev pub streams_value : Inside → StreamsValue
 streams_value a = record { sizes = a.sizes; owners = map instances_in a.owners.items }
 
--- There is a stream for each node, and the last votes that are kept are those of packets of which these are the streams.
+-- There is a stream for each node, and there are packets of which these are the streams and the last votes.
 pub record AreOwnerStreams (a : Inside) : Type 0 where
   pub one_each : length a.owners.items ≡ a.sizes.nodes
   pub each : All (IsOwnerStream a.sizes) a.owners.items

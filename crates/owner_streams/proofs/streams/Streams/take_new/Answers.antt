@@ -44,8 +44,8 @@ invariant_of-self c =
           c.take_new.ensures.kept c.self.invariant.each;
       ends =
           still_of_packets c.take_new.new.self
-          (is_owners (let e = ap (λ m. m.owner) c.message-message.ensures.value in omega arith) c.self.invariant.one_each
-          c.requires.owner c.self.view_is c.index_mut.ensures.value)
+          (is_owners (let e = ap (λ m. m.owner) c.message-message.ensures.value in omega arith)
+          c.self.invariant.one_each c.requires.owner c.self.view_is c.index_mut.ensures.value)
           c.in_err-step.ensures.err c.self.invariant.ends;
     }
 
@@ -69,8 +69,8 @@ invariant_of-self-2 c =
           c.take_new.ensures.kept c.self.invariant.each;
       ends =
           of_one_more c.args.packet.now c.take_new.new.self
-          (is_owners (let e = ap (λ m. m.owner) c.message-message.ensures.value in omega arith) c.self.invariant.one_each
-          c.requires.owner c.self.view_is c.index_mut.ensures.value)
+          (is_owners (let e = ap (λ m. m.owner) c.message-message.ensures.value in omega arith)
+          c.self.invariant.one_each c.requires.owner c.self.view_is c.index_mut.ensures.value)
           c.in_ok-step.ensures.state c.count.ensures c.self.invariant.ends;
     }
 
