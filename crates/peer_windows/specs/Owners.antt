@@ -1,0 +1,71 @@
+-- The pairs of owners and peers, and when they are looked at.
+use Rattle.std.specs.Prelude.{ℕ, ◌+◌, Bool, not, ◌&&◌, nat_le, nat_lt, length, if◌then◌else◌, is_some, List, [], ◌∷◌, ◌++◌, min}
+use Rattle.std.specs.Prelude.{slice_index_or, slice_set}
+use Rattle.peer_windows.specs.Pauses.{first_pause, never}
+use Rattle.peer_windows.specs.Pairs.{is_nothing, new_pair}
+use Rattle.peer_windows.specs.declared.pair.Pair.{Pair}
+
+-- the pair of a peer, among those of an owner
+abbrev pub pair_in : List Pair → ℕ → Pair
+pair_in pairs peer = slice_index_or pairs peer new_pair
+
+abbrev pub with_pair : List Pair → ℕ → Pair → List Pair
+with_pair pairs peer pair = slice_set pairs peer pair
+
+-- a window went to the peer since it was last as far
+abbrev pub is_served : Pair → Bool
+is_served pair = is_some pair.served
+
+-- something is owed to it
+abbrev pub owes : Pair → Bool
+owes pair = not (is_nothing pair.owed)
+
+-- The node's name and the longest pause between looks; the pairs of each owner; when those of each owner are looked at next, when something of its stream last grew, and when
+-- each peer is probed next; and whose turn it is.
+pub record PairsValue : Type 0 where
+  pub me : ℕ
+  pub longest : ℕ
+  pub pairs : List (List Pair)
+  pub dues : List ℕ
+  pub moved : List ℕ
+  pub probes : List ℕ
+  pub turn : ℕ
+
+-- the pairs of an owner
+abbrev pub pairs_of : PairsValue → ℕ → List Pair
+pairs_of a owner = slice_index_or a.pairs owner []
+
+abbrev pub pair_at : PairsValue → ℕ → ℕ → Pair
+pair_at a owner peer = pair_in (pairs_of a owner) peer
+
+-- with another pair of an owner and a peer
+abbrev pub with_pair_at : PairsValue → ℕ → ℕ → Pair → PairsValue
+with_pair_at a owner peer pair =
+    record a { pairs = slice_set a.pairs owner (with_pair (pairs_of a owner) peer pair) }
+
+-- the owner's pairs are looked at by this time at the latest
+abbrev pub due_by : PairsValue → ℕ → ℕ → PairsValue
+due_by a owner time = record a { dues = slice_set a.dues owner (min (slice_index_or a.dues owner never) time) }
+
+-- something of the owner's stream has grown
+abbrev pub grown : PairsValue → ℕ → ℕ → PairsValue
+grown a owner now =
+    record (due_by a owner (now + first_pause)) { moved = slice_set a.moved owner now }
+
+-- where something is owed to the peer, the owner's pairs are looked at now
+abbrev pub owed_now : ℕ → ℕ → ℕ → PairsValue → PairsValue
+owed_now now owner peer a = if owes (pair_at a owner peer) then due_by a owner now else a
+
+-- nothing of the owner's stream has grown for the first pause
+abbrev pub is_still : ℕ → ℕ → PairsValue → Bool
+is_still now owner a =
+    nat_lt owner (length a.moved) && nat_le (slice_index_or a.moved owner 0 + first_pause) now
+
+-- the least of times
+abbrev pub least : List ℕ → ℕ
+least [] = never
+least (time ∷ times) = min time (least times)
+
+-- when something is due next
+abbrev pub next_due : PairsValue → ℕ
+next_due a = least (a.dues ++ a.probes)

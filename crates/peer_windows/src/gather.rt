@@ -1,0 +1,191 @@
+//! What is due now is gathered, owner by owner in turn.
+
+ghost use Rattle.std.specs.Prelude.{◌≡◌, ◌≤◌, ◌<◌, IfSome};
+ghost use Rattle.node_lock.specs.Views.{node_count};
+ghost use Rattle.peer_windows.specs.Pauses.{most_time};
+ghost use Rattle.peer_windows.specs.Sent.{IsLookAt};
+ghost use Rattle.peer_windows.specs.Owed.{IsOwed};
+
+use crate::owed::Owed;
+use crate::pairs::{PROBE_INTERVAL, Pairs};
+use crate::pause::NEVER;
+use crate::peer_sent::{seen_of, window_at};
+use crate::seen::Step;
+use crate::sent::look_at;
+use crate::stream_look::StreamLook;
+use node_lock::{Locked, Seat, StepFault};
+use quorum_sizes::NodeName;
+use std::sync::ledger::Ledger;
+
+/// The milliseconds after which an owner's pairs are looked at again of which a peer had no room.
+const NEXT_ROOM: u64 = 10;
+
+/// How many messages a peer can take now.
+#[derive(Clone, Copy, Debug, PartialEq, Eq)]
+pub enum PeerRoom {
+    /// There is no connection to it.
+    Away,
+    /// It has enough to take already.
+    Full,
+    /// As much as is sent at once.
+    Free,
+}
+
+impl Pairs {
+    /// Gathers what is due now: for each owner that is due, in turn, what its pairs have the node send, and the probes.
+    /// `rooms` says of each peer how much it takes; what finds no room is owed.
+    ///
+    /// # Errors
+    ///
+    /// The seat does not fit the node, and last want of memory. What was gathered before stays.
+    pub fn gather<L: Ledger>(
+        &mut self,
+        locked: &mut Locked<L>,
+        seat: &mut Seat<L>,
+        now: u64,
+        rooms: &[PeerRoom],
+        owed: &mut Owed,
+    ) -> Result<(), StepFault>
+        requires time { now ≤ most_time }
+        requires owed { IsOwed locked.old owed.old }
+        ensures owed { IsOwed locked.old owed.new }
+        ensures same { locked.new ≡ locked.old }
+    {
+        for _ in 0..self.dues.len() {
+            if owed.is_full() {
+                return Ok(());
+            }
+            let owner = self.turn;
+            self.turn = if owner + 1 < self.dues.len() { owner + 1 } else { 0 };
+            self.gather_owner(locked, seat, now, owner, rooms, owed)?;
+        }
+        for peer in 0..self.probes.len() {
+            if owed.is_full() {
+                return Ok(());
+            }
+            self.gather_probes(locked, seat, now, peer, rooms, owed)?;
+        }
+        Ok(())
+    }
+
+    /// Gathers what the pairs of an owner have the node send, if it is due.
+    fn gather_owner<L: Ledger>(
+        &mut self,
+        locked: &mut Locked<L>,
+        seat: &mut Seat<L>,
+        now: u64,
+        owner: usize,
+        rooms: &[PeerRoom],
+        owed: &mut Owed,
+    ) -> Result<(), StepFault>
+        requires time { now ≤ most_time }
+        requires owed { IsOwed locked.old owed.old }
+        ensures owed { IsOwed locked.old owed.new }
+        ensures same { locked.new ≡ locked.old }
+    {
+        if owner >= self.dues.len() || self.dues[owner] > now {
+            return Ok(());
+        }
+        self.dues[owner] = now + NEXT_ROOM;
+        let Some(name) = self.name(&*locked, owner) else {
+            return Ok(());
+        };
+        let look = look_at(locked, seat, name)?;
+        let mut next = NEVER;
+        for (peer, room) in rooms.iter().enumerate() {
+            next = next.min(self.gather_pair(locked, seat, now, name, &look, peer, *room, owed)?);
+        }
+        self.dues[owner] = next;
+        Ok(())
+    }
+
+    /// Gathers what a pair has the node send. When the pair is looked at next.
+    fn gather_pair<L: Ledger>(
+        &mut self,
+        locked: &mut Locked<L>,
+        seat: &mut Seat<L>,
+        now: u64,
+        owner: NodeName,
+        look: &StreamLook,
+        peer: usize,
+        room: PeerRoom,
+        owed: &mut Owed,
+    ) -> Result<u64, StepFault>
+        requires time { now ≤ most_time }
+        requires owner { owner < node_count locked.old }
+        requires look { IsLookAt locked.old owner look.now }
+        requires owed { IsOwed locked.old owed.old }
+        ensures owed { IsOwed locked.old owed.new }
+        ensures same { locked.new ≡ locked.old }
+    {
+        let Some(name) = self.name(&*locked, peer) else {
+            return Ok(NEVER);
+        };
+        let at = usize::from(owner.index());
+        if room == PeerRoom::Away || at >= self.pairs.len() {
+            return Ok(NEVER);
+        }
+        let seen = seen_of(&*locked, look, owner, name);
+        let step = self.pairs[at].attend(peer, now, self.longest, seen);
+        if step == Step::Nothing {
+            return Ok(self.pairs[at].until(peer));
+        }
+        if room == PeerRoom::Full {
+            self.pairs[at].owe(peer, step);
+            return Ok(now + NEXT_ROOM);
+        }
+        owed.push(locked, seat, owner, name, step)?;
+        if matches!(step, Step::Window | Step::Rest(_)) {
+            let end = window_at(&*locked, owner, name).to;
+            self.pairs[at].serve(peer, now, seen.voted, end);
+        }
+        Ok(self.pairs[at].until(peer))
+    }
+
+    /// Gathers the probes of a peer, if they are due: one for each pair of it that sleeps.
+    fn gather_probes<L: Ledger>(
+        &mut self,
+        locked: &mut Locked<L>,
+        seat: &mut Seat<L>,
+        now: u64,
+        peer: usize,
+        rooms: &[PeerRoom],
+        owed: &mut Owed,
+    ) -> Result<(), StepFault>
+        requires time { now ≤ most_time }
+        requires owed { IsOwed locked.old owed.old }
+        ensures owed { IsOwed locked.old owed.new }
+        ensures same { locked.new ≡ locked.old }
+    {
+        if peer >= self.probes.len() || self.probes[peer] > now {
+            return Ok(());
+        }
+        self.probes[peer] = now + PROBE_INTERVAL;
+        let is_free = peer < rooms.len() && rooms[peer] == PeerRoom::Free;
+        let Some(name) = self.name(&*locked, peer) else {
+            return Ok(());
+        };
+        if !is_free || name == self.me {
+            return Ok(());
+        }
+        for owner in 0..self.pairs.len() {
+            if self.pairs[owner].until(peer) == NEVER {
+                if let Some(owner) = self.name(&*locked, owner) {
+                    owed.push(locked, seat, owner, name, Step::Probe)?;
+                }
+            }
+        }
+        Ok(())
+    }
+
+    /// The name of the node of this index, if the node behind the lock has it.
+    fn name<L: Ledger>(&self, locked: &Locked<L>, index: usize) -> Option<NodeName>
+        ensures { IfSome result (λ name. name < node_count locked.now) }
+    {
+        if index >= usize::from(self.sizes.n()) {
+            return None;
+        }
+        let name = self.sizes.name(index as u8)?;
+        if locked.has(name) { Some(name) } else { None }
+    }
+}

@@ -1,0 +1,243 @@
+//! The pairs of all owners and peers: what changes them, and when something is due.
+
+ghost use Rattle.std.specs.Prelude.{◌≡◌, ◌≤◌, true, false};
+ghost use Rattle.quorum_sizes.specs.Sizes.{most_nodes};
+ghost use Rattle.peer_windows.specs.Pauses.{most_time, most_pause, longest_look as longest_look_of};
+ghost use Rattle.peer_windows.specs.Answers.{heard, passed, voted_on};
+ghost use Rattle.peer_windows.specs.Owners.{with_pair_at, pair_at, grown, due_by, owed_now, is_still};
+ghost use Rattle.peer_windows.specs.Owners.{next_due, least as least_of, is_served};
+
+use crate::answers::Repeat;
+use crate::owner_pairs::OwnerPairs;
+use crate::pause::{FIRST_PAUSE, NEVER};
+use crate::seen::Level;
+use quorum_sizes::{NodeName, Sizes};
+use std::alloc::{AllocError, Global};
+use std::marker::Model;
+
+/// How often a peer is probed, in milliseconds.
+pub(crate) const PROBE_INTERVAL: u64 = 60_000;
+
+/// The pairs of all owners and peers of a node, and when something is due.
+#[derive(Drop)]
+pub struct Pairs {
+    pub(crate) sizes: Sizes,
+    pub(crate) me: NodeName,
+    /// The longest pause between looks, in milliseconds.
+    pub(crate) longest: u32,
+    pub(crate) pairs: Vec<OwnerPairs>,
+    /// When the pairs of each owner are looked at next.
+    pub(crate) dues: Vec<u64>,
+    /// When something of each owner's stream last grew here.
+    pub(crate) moved: Vec<u64>,
+    /// When each peer is probed next.
+    pub(crate) probes: Vec<u64>,
+    /// The owner whose pairs are looked at first.
+    pub(crate) turn: usize,
+}
+
+impl Model for Pairs {
+    ghost use Rattle.std.specs.Prelude.{◌≡◌, ◌≤◌};
+    ghost use Rattle.peer_windows.specs.Pauses.{most_pause};
+    ghost use Rattle.peer_windows.specs.Owners.{PairsValue};
+
+    ghost Value = { PairsValue };
+
+    ghost view = { λ a. record {
+      me = a.me;
+      longest = a.longest;
+      pairs = a.pairs.items;
+      dues = a.dues.items;
+      moved = a.moved.items;
+      probes = a.probes.items;
+      turn = a.turn;
+    } };
+
+    ghost invariant = { λ a. a.longest ≤ most_pause };
+}
+
+impl Pairs {
+    /// All pairs of a node of these sizes, which begin when there is a connection to their peer. Those of the node with
+    /// itself begin now.
+    ///
+    /// # Errors
+    ///
+    /// Only for want of memory.
+    pub fn new(alloc: Global, sizes: Sizes, me: NodeName, now: u64) -> Result<Pairs, AllocError>
+        requires { now ≤ most_time }
+    {
+        let nodes = sizes.n();
+        let mut pairs = Vec::with_capacity(alloc, usize::from(nodes))?;
+        for _owner in 0..nodes {
+            pairs.push(OwnerPairs::new(alloc, nodes)?)?;
+        }
+        let mut made = Pairs {
+            sizes,
+            me,
+            longest: longest_look(nodes),
+            pairs,
+            dues: Vec::from_elem(alloc, NEVER, usize::from(nodes))?,
+            moved: Vec::from_elem(alloc, 0, usize::from(nodes))?,
+            probes: first_probes(alloc, nodes, me, now)?,
+            turn: 0,
+        };
+        made.connected(now, me);
+        Ok(made)
+    }
+
+    /// When something is due next, in milliseconds.
+    pub fn next_due(&self) -> u64
+        ensures { result ≡ next_due self.now }
+    {
+        least(&self.dues).min(least(&self.probes))
+    }
+
+    /// There is a new connection to the peer: all its pairs begin anew.
+    pub fn connected(&mut self, now: u64, peer: NodeName)
+        requires { now ≤ most_time }
+    {
+        for owner in 0..self.pairs.len() {
+            self.pairs[owner].begin_anew(usize::from(peer.index()), now, self.longest);
+            self.look_by(owner, now + u64::from(FIRST_PAUSE));
+        }
+    }
+
+    /// Something of the owner's stream has grown: its reach, what this node has sent in it, or how far a peer has voted.
+    pub fn grow(&mut self, now: u64, owner: NodeName)
+        requires { now ≤ most_time }
+        ensures { self.new ≡ grown self.old owner now }
+    {
+        let owner = usize::from(owner.index());
+        if owner < self.moved.len() {
+            self.moved[owner] = now;
+        }
+        self.look_by(owner, now + u64::from(FIRST_PAUSE));
+    }
+
+    /// The owner's pairs are looked at by this time at the latest.
+    fn look_by(&mut self, owner: usize, time: u64)
+        ensures { self.new ≡ due_by self.old owner time }
+    {
+        if owner < self.dues.len() && time < self.dues[owner] {
+            self.dues[owner] = time;
+        }
+    }
+
+    /// Whether the peer catches up in the owner's stream: a window went to it since it was last as far.
+    pub fn is_served(&self, owner: NodeName, peer: NodeName) -> bool
+        ensures { result ≡ is_served (pair_at self.now owner peer) }
+    {
+        let owner = usize::from(owner.index());
+        owner < self.pairs.len() && self.pairs[owner].is_served(usize::from(peer.index()))
+    }
+
+    /// A vote of the peer has counted, after which the pair stands so.
+    pub fn vote(&mut self, now: u64, owner: NodeName, peer: NodeName, level: Level)
+        requires { now ≤ most_time }
+        ensures { self.new ≡ owed_now now owner peer
+            (with_pair_at self.old owner peer (voted_on now level (pair_at self.old owner peer))) }
+    {
+        let owner = usize::from(owner.index());
+        let peer = usize::from(peer.index());
+        if owner < self.pairs.len() {
+            self.pairs[owner].vote(peer, now, level);
+            self.look_if_owed(now, owner, peer);
+        }
+    }
+
+    /// A packet of the peer has changed nothing.
+    pub fn hear(
+        &mut self,
+        now: u64,
+        owner: NodeName,
+        peer: NodeName,
+        level: Level,
+        repeat: Repeat,
+    )
+        requires { now ≤ most_time }
+        ensures { self.new ≡ owed_now now owner peer
+            (with_pair_at self.old owner peer (heard now level repeat (pair_at self.old owner peer))) }
+    {
+        let owner = usize::from(owner.index());
+        let peer = usize::from(peer.index());
+        if owner < self.pairs.len() {
+            self.pairs[owner].hear(peer, now, level, repeat);
+            self.look_if_owed(now, owner, peer);
+        }
+    }
+
+    /// A packet of the peer was beyond the window. It says something where nothing of the owner's stream has grown here
+    /// for a while.
+    pub fn pass(&mut self, now: u64, owner: NodeName, peer: NodeName, level: Level)
+        requires { now ≤ most_time }
+        ensures moving { is_still now owner self.old ≡ false → self.new ≡ self.old }
+        ensures still { is_still now owner self.old ≡ true → self.new ≡ owed_now now owner peer
+            (with_pair_at self.old owner peer (passed now level (pair_at self.old owner peer))) }
+    {
+        let owner = usize::from(owner.index());
+        let peer = usize::from(peer.index());
+        if owner < self.pairs.len() && self.is_still(now, owner) {
+            self.pairs[owner].pass(peer, now, level);
+            self.look_if_owed(now, owner, peer);
+        }
+    }
+
+    /// Whether nothing of the owner's stream has grown here for the first pause.
+    fn is_still(&self, now: u64, owner: usize) -> bool
+        requires { now ≤ most_time }
+        ensures { result ≡ is_still now owner self.now }
+    {
+        owner < self.moved.len()
+            && self.moved[owner].saturating_add(u64::from(FIRST_PAUSE)) <= now
+    }
+
+    /// Where something is owed to the peer, the owner's pairs are looked at now.
+    fn look_if_owed(&mut self, now: u64, owner: usize, peer: usize)
+        ensures { self.new ≡ owed_now now owner peer self.old }
+    {
+        if owner < self.pairs.len() && self.pairs[owner].owes(peer) {
+            self.look_by(owner, now);
+        }
+    }
+}
+
+/// The longest pause between looks in a cluster of so many nodes, in milliseconds.
+fn longest_look(nodes: u8) -> u32
+    requires { nodes ≤ most_nodes }
+    ensures value { result ≡ longest_look_of nodes }
+    ensures most { result ≤ most_pause }
+{
+    if nodes <= 16 {
+        5_000
+    } else {
+        u32::from(nodes) * 1_000 / 3
+    }
+}
+
+/// When each peer is probed first: one after another, from the node's own name on.
+fn first_probes(
+    alloc: Global,
+    nodes: u8,
+    me: NodeName,
+    now: u64,
+) -> Result<Vec<u64>, AllocError>
+    requires { now ≤ most_time }
+{
+    let mut probes = Vec::with_capacity(alloc, usize::from(nodes))?;
+    for peer in 0..nodes {
+        let turn = (256 + u64::from(peer) - u64::from(me.index())) % u64::from(nodes);
+        probes.push(now + (turn + 1) * PROBE_INTERVAL / (u64::from(nodes) + 1))?;
+    }
+    Ok(probes)
+}
+
+/// The least of times.
+fn least(times: &[u64]) -> u64
+    ensures { result ≡ least_of times.now }
+{
+    let mut least = NEVER;
+    for time in times {
+        least = least.min(*time);
+    }
+    least
+}
