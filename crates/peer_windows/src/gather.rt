@@ -4,7 +4,7 @@ ghost use Rattle.std.specs.Prelude.{◌≡◌, ◌≤◌, ◌<◌, IfSome};
 ghost use Rattle.node_lock.specs.Views.{node_count};
 ghost use Rattle.peer_windows.specs.Pauses.{most_time};
 ghost use Rattle.peer_windows.specs.Sent.{IsLookAt};
-ghost use Rattle.peer_windows.specs.Owed.{IsOwed};
+ghost use Rattle.peer_windows.specs.Owed.{IsGathered};
 
 use crate::owed::Owed;
 use crate::pairs::{PROBE_INTERVAL, Pairs};
@@ -20,20 +20,13 @@ use std::sync::ledger::Ledger;
 /// The milliseconds after which an owner's pairs are looked at again of which a peer had no room.
 const NEXT_ROOM: u64 = 10;
 
-/// How many messages a peer can take now.
-#[derive(Clone, Copy, Debug, PartialEq, Eq)]
-pub enum PeerRoom {
-    /// There is no connection to it.
-    Away,
-    /// It has enough to take already.
-    Full,
-    /// As much as is sent at once.
-    Free,
-}
+/// A peer is sent something where it takes so many messages: a whole window, with room for what is new.
+pub const ENOUGH_ROOM: u32 = 512;
 
 impl Pairs {
     /// Gathers what is due now: for each owner that is due, in turn, what its pairs have the node send, and the probes.
-    /// `rooms` says of each peer how much it takes; what finds no room is owed.
+    /// `rooms` says of each peer how many messages it takes, which are fewer then; where there is no connection to it,
+    /// nothing. What finds no room is owed.
     ///
     /// # Errors
     ///
@@ -43,12 +36,11 @@ impl Pairs {
         locked: &mut Locked<L>,
         seat: &mut Seat<L>,
         now: u64,
-        rooms: &[PeerRoom],
+        rooms: &mut [Option<u32>],
         owed: &mut Owed,
     ) -> Result<(), StepFault>
-        requires time { now ≤ most_time }
-        requires owed { IsOwed locked.old owed.old }
-        ensures owed { IsOwed locked.old owed.new }
+        requires { now ≤ most_time }
+        ensures owed { IsGathered locked.old owed.old owed.new }
         ensures same { locked.new ≡ locked.old }
     {
         for _ in 0..self.dues.len() {
@@ -75,12 +67,11 @@ impl Pairs {
         seat: &mut Seat<L>,
         now: u64,
         owner: usize,
-        rooms: &[PeerRoom],
+        rooms: &mut [Option<u32>],
         owed: &mut Owed,
     ) -> Result<(), StepFault>
-        requires time { now ≤ most_time }
-        requires owed { IsOwed locked.old owed.old }
-        ensures owed { IsOwed locked.old owed.new }
+        requires { now ≤ most_time }
+        ensures owed { IsGathered locked.old owed.old owed.new }
         ensures same { locked.new ≡ locked.old }
     {
         if owner >= self.dues.len() || self.dues[owner] > now {
@@ -92,8 +83,9 @@ impl Pairs {
         };
         let look = look_at(locked, seat, name)?;
         let mut next = NEVER;
-        for (peer, room) in rooms.iter().enumerate() {
-            next = next.min(self.gather_pair(locked, seat, now, name, &look, peer, *room, owed)?);
+        for peer in 0..rooms.len() {
+            let room = &mut rooms[peer];
+            next = next.min(self.gather_pair(locked, seat, now, name, &look, peer, room, owed)?);
         }
         self.dues[owner] = next;
         Ok(())
@@ -108,21 +100,23 @@ impl Pairs {
         owner: NodeName,
         look: &StreamLook,
         peer: usize,
-        room: PeerRoom,
+        room: &mut Option<u32>,
         owed: &mut Owed,
     ) -> Result<u64, StepFault>
         requires time { now ≤ most_time }
         requires owner { owner < node_count locked.old }
         requires look { IsLookAt locked.old owner look.now }
-        requires owed { IsOwed locked.old owed.old }
-        ensures owed { IsOwed locked.old owed.new }
+        ensures owed { IsGathered locked.old owed.old owed.new }
         ensures same { locked.new ≡ locked.old }
     {
         let Some(name) = self.name(&*locked, peer) else {
             return Ok(NEVER);
         };
         let at = usize::from(owner.index());
-        if room == PeerRoom::Away || at >= self.pairs.len() {
+        let Some(free) = *room else {
+            return Ok(NEVER);
+        };
+        if at >= self.pairs.len() {
             return Ok(NEVER);
         }
         let seen = seen_of(&*locked, look, owner, name);
@@ -130,11 +124,12 @@ impl Pairs {
         if step == Step::Nothing {
             return Ok(self.pairs[at].until(peer));
         }
-        if room == PeerRoom::Full {
+        if free < ENOUGH_ROOM {
             self.pairs[at].owe(peer, step);
             return Ok(now + NEXT_ROOM);
         }
-        owed.push(locked, seat, owner, name, step)?;
+        let count = owed.push(locked, seat, owner, name, step)?;
+        *room = Some(left_of(free, count));
         if matches!(step, Step::Window | Step::Rest(_)) {
             let end = window_at(&*locked, owner, name).to;
             self.pairs[at].serve(peer, now, seen.voted, end);
@@ -149,25 +144,30 @@ impl Pairs {
         seat: &mut Seat<L>,
         now: u64,
         peer: usize,
-        rooms: &[PeerRoom],
+        rooms: &mut [Option<u32>],
         owed: &mut Owed,
     ) -> Result<(), StepFault>
-        requires time { now ≤ most_time }
-        requires owed { IsOwed locked.old owed.old }
-        ensures owed { IsOwed locked.old owed.new }
+        requires { now ≤ most_time }
+        ensures owed { IsGathered locked.old owed.old owed.new }
         ensures same { locked.new ≡ locked.old }
     {
         if peer >= self.probes.len() || self.probes[peer] > now {
             return Ok(());
         }
         self.probes[peer] = now + PROBE_INTERVAL;
-        let is_free = peer < rooms.len() && rooms[peer] == PeerRoom::Free;
         let Some(name) = self.name(&*locked, peer) else {
             return Ok(());
         };
-        if !is_free || name == self.me {
+        if name == self.me || peer >= rooms.len() {
             return Ok(());
         }
+        let Some(free) = rooms[peer] else {
+            return Ok(());
+        };
+        if free < ENOUGH_ROOM {
+            return Ok(());
+        }
+        rooms[peer] = Some(left_of(free, self.pairs.len()));
         for owner in 0..self.pairs.len() {
             if self.pairs[owner].until(peer) == NEVER {
                 if let Some(owner) = self.name(&*locked, owner) {
@@ -187,5 +187,13 @@ impl Pairs {
         }
         let name = self.sizes.name(index as u8)?;
         if locked.has(name) { Some(name) } else { None }
+    }
+}
+
+/// What is left of a room where so many messages more are put.
+fn left_of(room: u32, count: usize) -> u32 {
+    match u32::try_from(count) {
+        Ok(count) => room.saturating_sub(count),
+        Err(_) => 0,
     }
 }
