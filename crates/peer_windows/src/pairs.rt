@@ -3,7 +3,7 @@
 ghost use Rattle.std.specs.Prelude.{◌≡◌, ◌≤◌, true, false};
 ghost use Rattle.quorum_sizes.specs.Sizes.{most_nodes};
 ghost use Rattle.peer_windows.specs.Pauses.{most_time, most_pause, longest_look as longest_look_of};
-ghost use Rattle.peer_windows.specs.Answers.{heard, passed, voted_on};
+ghost use Rattle.peer_windows.specs.Answers.{heard, moved_on, passed, voted_on};
 ghost use Rattle.peer_windows.specs.Owners.{with_pair_at, pair_at, begun_at, grown, due_by, owed_now};
 ghost use Rattle.peer_windows.specs.Owners.{next_due, least as least_of, is_served, is_still};
 
@@ -153,6 +153,17 @@ impl Pairs {
         if owner < self.pairs.len() {
             self.pairs[owner].vote(peer, now, level);
             self.look_if_owed(now, owner, peer);
+        }
+    }
+
+    /// A vote of the peer has counted, which gets on by itself.
+    pub fn move_on(&mut self, now: u64, owner: NodeName, peer: NodeName)
+        requires { now ≤ most_time }
+        ensures { self.new ≡ with_pair_at self.old owner peer (moved_on now (pair_at self.old owner peer)) }
+    {
+        let owner = usize::from(owner.index());
+        if owner < self.pairs.len() {
+            self.pairs[owner].move_on(usize::from(peer.index()), now);
         }
     }
 
