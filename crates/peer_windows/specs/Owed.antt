@@ -33,7 +33,7 @@ pub record IsGathered (h : Held) (old new : OwedValue) : Type 0 where
 
 -- one share more
 pub record IsPushed (h : Held) (owner peer : ℕ) (step : Step) (count : ℕ) (old new : OwedValue) : Type 0 where
-  pub count : count ≡ length (step_messages h owner peer step)
+  pub counted : count ≡ length (step_messages h owner peer step)
   pub messages : new.messages ≡ old.messages ++ step_messages h owner peer step
   pub shares : new.shares ≡
       old.shares ++ record { owner = owner; peer = peer; step = step; count = count } ∷ []

@@ -31,6 +31,7 @@ impl Pairs {
     /// # Errors
     ///
     /// The seat does not fit the node, and last want of memory. What was gathered before stays.
+    #[tactic(auto, using(crate::proofs::Gathering::gathered_none, crate::proofs::Gathering::gathered_more))]
     pub fn gather<L: Ledger>(
         &mut self,
         locked: &mut Locked<L>,
@@ -43,7 +44,7 @@ impl Pairs {
         ensures owed { IsGathered locked.old owed.old owed.new }
         ensures same { locked.new ≡ locked.old }
     {
-        for _ in 0..self.dues.len() {
+        'owners: for _ in 0..self.dues.len() {
             if owed.is_full() {
                 return Ok(());
             }
@@ -51,7 +52,7 @@ impl Pairs {
             self.turn = if owner + 1 < self.dues.len() { owner + 1 } else { 0 };
             self.gather_owner(locked, seat, now, owner, rooms, owed)?;
         }
-        for peer in 0..self.probes.len() {
+        'peers: for peer in 0..self.probes.len() {
             if owed.is_full() {
                 return Ok(());
             }
@@ -61,6 +62,7 @@ impl Pairs {
     }
 
     /// Gathers what the pairs of an owner have the node send, if it is due.
+    #[tactic(auto, using(crate::proofs::Gathering::gathered_none, crate::proofs::Gathering::gathered_more))]
     fn gather_owner<L: Ledger>(
         &mut self,
         locked: &mut Locked<L>,
@@ -92,6 +94,7 @@ impl Pairs {
     }
 
     /// Gathers what a pair has the node send. When the pair is looked at next.
+    #[tactic(auto, using(crate::proofs::Gathering::gathered_none, crate::proofs::Gathering::pushed_gathered))]
     fn gather_pair<L: Ledger>(
         &mut self,
         locked: &mut Locked<L>,
@@ -138,6 +141,11 @@ impl Pairs {
     }
 
     /// Gathers the probes of a peer, if they are due: one for each pair of it that sleeps.
+    #[tactic(auto, using(
+        crate::proofs::Gathering::gathered_none,
+        crate::proofs::Gathering::gathered_more,
+        crate::proofs::Gathering::pushed_gathered
+    ))]
     fn gather_probes<L: Ledger>(
         &mut self,
         locked: &mut Locked<L>,

@@ -7,7 +7,7 @@ ghost use Rattle.role_commands.specs.declared.command.Command.{Command};
 ghost use Rattle.role_node.specs.Windows.{messages_of};
 ghost use Rattle.owner_streams.specs.Places.{window};
 ghost use Rattle.node_lock.specs.Views.{node_count};
-ghost use Rattle.peer_windows.specs.Sent.{sent_between, probe_of, tail_of, probe_at};
+ghost use Rattle.peer_windows.specs.Sent.{sent_between, probe_of, tail_of, probe_at, tail_at};
 ghost use Rattle.peer_windows.specs.Sent.{IsReadFault, IsLookAt};
 
 use crate::stream_look::StreamLook;
@@ -195,7 +195,24 @@ fn push_tail_parts<L: Ledger>(
     ensures same { locked.new ≡ locked.old }
 {
     let (_, view) = locked.hold(seat, None, owner, 0)?;
-    let reach = view.reach;
+    push_tail_at(locked, seat, owner, view.reach, messages)
+}
+
+/// The tail of a stream of this reach, where some messages may be there after an error.
+#[tactic(auto, using(crate::proofs::Reading::fault_before, crate::proofs::Reading::at_begin))]
+fn push_tail_at<L: Ledger>(
+    locked: &mut Locked<L>,
+    seat: &mut Seat<L>,
+    owner: NodeName,
+    reach: u32,
+    messages: &mut Vec<Message>,
+) -> Result<(), StepFault>
+    requires { owner < node_count locked.old }
+    ensures ok { OnOk result (messages.new.items ≡ messages.old.items ++ tail_at locked.old owner reach) }
+    ensures begin { take (length messages.old.items) messages.new.items ≡ messages.old.items }
+    ensures fault { IfErr result (IsReadFault locked.old seat.old) }
+    ensures same { locked.new ≡ locked.old }
+{
     let (_, end) = locked.hold(seat, None, owner, reach)?;
     push_last_ready(locked, seat, owner, reach, messages)?;
     push_again(messages, owner, reach, &end.again)?;

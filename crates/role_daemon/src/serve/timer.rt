@@ -52,7 +52,8 @@ impl Timer {
     pub fn set<R: Wait>(&self, rt: &R, due: u64) {
         let is_sooner = {
             let mut state = self.state.lock(rt);
-            state.due = due;
+            // a connection that came meanwhile is looked at now
+            state.due = if state.is_connected { 0 } else { due };
             let is_sooner = due < state.wakes;
             if is_sooner {
                 state.wakes = due;

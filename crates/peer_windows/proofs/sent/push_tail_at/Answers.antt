@@ -1,5 +1,5 @@
 use Rattle.peer_windows.proofs.Reading.{begins_more}
-use Rattle.peer_windows.proofs.sent.push_tail_parts.Goals as goal
+use Rattle.peer_windows.proofs.sent.push_tail_at.Goals as goal
 
 pub returns-in_err-push_again-clause-begin : goal.returns-in_err-push_again-clause-begin
 returns-in_err-push_again-clause-begin g c =
