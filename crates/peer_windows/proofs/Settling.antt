@@ -1,9 +1,10 @@
 -- Nothing is outstanding where nothing was sent at the places that are open.
 use Rattle.std.proofs.Common.{◌≡◌, ℕ, ◌+◌, List, [], ◌∷◌, ◌++◌, length, refl, ap, sym, ◌∙◌}
 use Rattle.std.proofs.Common.{arith, length-append}
-use Rattle.std.specs.Prelude.{◌==◌, ◌&&◌, Some, None}
+use Rattle.std.specs.Prelude.{◌==◌, ◌&&◌, Option, Some, None}
 use Rattle.std.specs.List.{flat_map, list_all, range_with_len}
 use Rattle.std.proofs.lemmas.Bool.Decides.{nat_tests}
+use Rattle.role_commands.specs.declared.command.Command.{Command}
 use Rattle.link_frames.specs.declared.packet.Message.{Message}
 use Rattle.owner_streams.specs.Places.{window}
 use Rattle.role_node.specs.Windows.{messages_of, is_nothing, has_nothing_open}
@@ -11,15 +12,20 @@ use Rattle.role_node.specs.declared.event.NodeAgain.{NodeAgain}
 use Rattle.node_lock.specs.Holds.{Held}
 use Rattle.peer_windows.specs.Sent.{reach_of, sent_there, outstanding_of}
 
+none_sent_of : (owner place : ℕ) (send echo ready : Option Command) →
+    let sent : NodeAgain = record { send = send; echo = echo; ready = ready } in
+    is_nothing sent ≡ (length (messages_of owner place sent) == 0)
+none_sent_of owner place None None None = refl
+none_sent_of owner place None None (Some r) = refl
+none_sent_of owner place None (Some e) None = refl
+none_sent_of owner place None (Some e) (Some r) = refl
+none_sent_of owner place (Some c) None None = refl
+none_sent_of owner place (Some c) None (Some r) = refl
+none_sent_of owner place (Some c) (Some e) None = refl
+none_sent_of owner place (Some c) (Some e) (Some r) = refl
+
 none_sent : (owner place : ℕ) (sent : NodeAgain) → is_nothing sent ≡ (length (messages_of owner place sent) == 0)
-none_sent owner place (record { send = None; echo = None; ready = None }) = refl
-none_sent owner place (record { send = None; echo = None; ready = Some r }) = refl
-none_sent owner place (record { send = None; echo = Some e; ready = None }) = refl
-none_sent owner place (record { send = None; echo = Some e; ready = Some r }) = refl
-none_sent owner place (record { send = Some c; echo = None; ready = None }) = refl
-none_sent owner place (record { send = Some c; echo = None; ready = Some r }) = refl
-none_sent owner place (record { send = Some c; echo = Some e; ready = None }) = refl
-none_sent owner place (record { send = Some c; echo = Some e; ready = Some r }) = refl
+none_sent owner place sent = none_sent_of owner place sent.send sent.echo sent.ready
 
 none_of_both : (m n : ℕ) → (m + n == 0) ≡ ((m == 0) && (n == 0))
 none_of_both m n = grind (arith, nat_tests)

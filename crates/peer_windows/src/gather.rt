@@ -49,7 +49,8 @@ impl Pairs {
                 return Ok(());
             }
             let owner = self.turn;
-            self.turn = if owner + 1 < self.dues.len() { owner + 1 } else { 0 };
+            let behind = owner.saturating_add(1);
+            self.turn = if behind < self.dues.len() { behind } else { 0 };
             self.gather_owner(locked, seat, now, owner, rooms, owed)?;
         }
         'peers: for peer in 0..self.probes.len() {
@@ -89,7 +90,9 @@ impl Pairs {
             let room = &mut rooms[peer];
             next = next.min(self.gather_pair(locked, seat, now, name, &look, peer, room, owed)?);
         }
-        self.dues[owner] = next;
+        if let Some(due) = self.dues.get_mut(owner) {
+            *due = next;
+        }
         Ok(())
     }
 
@@ -177,10 +180,31 @@ impl Pairs {
         }
         rooms[peer] = Some(left_of(free, self.pairs.len()));
         for owner in 0..self.pairs.len() {
-            if self.pairs[owner].until(peer) == NEVER {
-                if let Some(owner) = self.name(&*locked, owner) {
-                    owed.push(locked, seat, owner, name, Step::Probe)?;
-                }
+            self.gather_probe(locked, seat, owner, name, owed)?;
+        }
+        Ok(())
+    }
+
+    /// Gathers the probe of a pair, if it sleeps.
+    #[tactic(auto, using(crate::proofs::Gathering::gathered_none, crate::proofs::Gathering::pushed_gathered))]
+    fn gather_probe<L: Ledger>(
+        &self,
+        locked: &mut Locked<L>,
+        seat: &mut Seat<L>,
+        owner: usize,
+        peer: NodeName,
+        owed: &mut Owed,
+    ) -> Result<(), StepFault>
+        requires { peer < node_count locked.old }
+        ensures owed { IsGathered locked.old owed.old owed.new }
+        ensures same { locked.new ≡ locked.old }
+    {
+        let Some(name) = self.name(&*locked, owner) else {
+            return Ok(());
+        };
+        if let Some(pairs) = self.pairs.get(owner) {
+            if pairs.until(usize::from(peer.index())) == NEVER {
+                owed.push(locked, seat, name, peer, Step::Probe)?;
             }
         }
         Ok(())
