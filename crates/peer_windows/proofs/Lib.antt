@@ -1,0 +1,4 @@
+pub mod Reading
+pub mod Settling
+pub mod Gathering
+pub mod Times

@@ -2,7 +2,7 @@
 use Rattle.std.specs.Prelude.{ℕ, ◌+◌, ◌==◌, Bool, true, false, not, ◌&&◌, nat_le, nat_lt, if◌then◌else◌}
 use Rattle.std.specs.Prelude.{Option, Some, None, min}
 use Rattle.peer_windows.specs.Pauses.{PauseValue, first_pause, begun, renewed, ended_by}
-use Rattle.peer_windows.specs.Pauses.{longest_answer, longest_tail, longest_beyond}
+use Rattle.peer_windows.specs.Pauses.{longest_answer, longest_beyond, probe_span}
 use Rattle.peer_windows.specs.Pairs.{is_nothing, holding_answers}
 use Rattle.peer_windows.specs.declared.seen.Level.{Level}
 use Rattle.peer_windows.specs.declared.seen.Step.{Step}
@@ -41,20 +41,19 @@ heard_behind now voted pair =
 abbrev pub level_pause : ℕ → Level → Level → PauseValue → PauseValue
 level_pause now old new pause = if same_level new old then pause else ended_by now (renewed pause)
 
--- the peer has as much: it is owed the tail, once in a pause
-abbrev pub heard_level : ℕ → Level → Pair → Pair
-heard_level now level pair =
-    let tail = level_pause now pair.tail_level level pair.tail in
-    if nat_le tail.until now
-    then owing_tail (record pair { tail_level = level; tail = begun now longest_tail tail })
-    else record pair { tail_level = level; tail = tail }
+-- A peer that is settled too sends its READY at the last place, and nothing else, and so once in a minute: so what is
+-- that and comes alone is taken for a probe. (The span is longer than each pause between looks.)
+abbrev pub is_lone : ℕ → Level → Repeat → Pair → Bool
+is_lone now level repeat pair =
+    (repeat.is_ready && repeat.place + 1 == level.reach)
+    && not (same_level pair.probe_level level && nat_lt now pair.probe_until)
 
--- The peer has sent again what changes nothing here. Only where that is below the reach does it say something.
+-- The peer has sent again what changes nothing here. So it is not settled, unless that is a probe; and it is behind, or
+-- this node is, unless it gets on by itself: a vote of it has counted a moment ago.
 abbrev pub heard : ℕ → Level → Repeat → Pair → Pair
 heard now level repeat pair =
-    if nat_le level.reach repeat.place then pair
-    else (if repeat.is_ready && repeat.place + 1 == level.reach then heard_level now level pair
-    else heard_behind now level.voted pair)
+    if is_lone now level repeat pair then record pair { probe_level = level; probe_until = now + probe_span }
+    else (if nat_lt now pair.moving_until then pair else heard_behind now level.voted pair)
 
 -- the peer is further: it is owed the tail, once in a pause
 abbrev pub passed : ℕ → Level → Pair → Pair
@@ -67,6 +66,10 @@ passed now level pair =
 -- a window was sent
 abbrev pub served : ℕ → ℕ → ℕ → Pair → Pair
 served now voted end pair = record pair { served = Some (record { voted = voted; end = end }); served_until = now + first_pause }
+
+-- a vote of the peer has counted
+abbrev pub moved_on : ℕ → Pair → Pair
+moved_on now pair = record pair { moving_until = now + first_pause }
 
 -- the peer has voted, after this last window
 abbrev pub voted_since : ℕ → Level → Option Served → Pair → Pair

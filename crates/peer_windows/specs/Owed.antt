@@ -24,14 +24,16 @@ pub record OwedValue : Type 0 where
   pub messages : List Message
   pub shares : List Share
 
--- the messages are those of the shares, and each share counts its own
-pub record IsOwed (h : Held) (owed : OwedValue) : Type 0 where
-  pub messages : owed.messages ≡ flat_map (share_messages h) owed.shares
-  pub counts : All (λ share. share.count ≡ length (share_messages h share)) owed.shares
+-- Some shares more stand behind the others, each with what its step has the node send, and counts that.
+pub record IsGathered (h : Held) (old new : OwedValue) : Type 0 where
+  pub added : List Share
+  pub shares : new.shares ≡ old.shares ++ added
+  pub messages : new.messages ≡ old.messages ++ flat_map (share_messages h) added
+  pub counts : All (λ share. share.count ≡ length (share_messages h share)) added
 
 -- one share more
 pub record IsPushed (h : Held) (owner peer : ℕ) (step : Step) (count : ℕ) (old new : OwedValue) : Type 0 where
-  pub count : count ≡ length (step_messages h owner peer step)
+  pub counted : count ≡ length (step_messages h owner peer step)
   pub messages : new.messages ≡ old.messages ++ step_messages h owner peer step
   pub shares : new.shares ≡
       old.shares ++ record { owner = owner; peer = peer; step = step; count = count } ∷ []

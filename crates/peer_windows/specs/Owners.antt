@@ -1,8 +1,8 @@
 -- The pairs of owners and peers, and when they are looked at.
-use Rattle.std.specs.Prelude.{ℕ, ◌+◌, Bool, not, ◌&&◌, nat_le, nat_lt, length, if◌then◌else◌, is_some, List, [], ◌∷◌, ◌++◌, min}
+use Rattle.std.specs.Prelude.{◌≡◌, ℕ, ◌+◌, ◌<◌, ◌≤◌, Bool, not, ◌&&◌, nat_le, nat_lt, length, if◌then◌else◌, is_some, List, [], ◌∷◌, ◌++◌, min}
 use Rattle.std.specs.Prelude.{slice_index_or, slice_set}
 use Rattle.peer_windows.specs.Pauses.{first_pause, never}
-use Rattle.peer_windows.specs.Pairs.{is_nothing, new_pair}
+use Rattle.peer_windows.specs.Pairs.{is_nothing, new_pair, anew}
 use Rattle.peer_windows.specs.declared.pair.Pair.{Pair}
 
 -- the pair of a peer, among those of an owner
@@ -46,6 +46,18 @@ with_pair_at a owner peer pair =
 -- the owner's pairs are looked at by this time at the latest
 abbrev pub due_by : PairsValue → ℕ → ℕ → PairsValue
 due_by a owner time = record a { dues = slice_set a.dues owner (min (slice_index_or a.dues owner never) time) }
+
+-- the pair of an owner and a peer begins anew
+abbrev pub begun_at : ℕ → ℕ → ℕ → PairsValue → PairsValue
+begun_at now owner peer a =
+    due_by (with_pair_at a owner peer (anew now a.longest (pair_at a owner peer))) owner (now + first_pause)
+
+-- all pairs of a peer have begun anew, and are looked at after the first pause
+pub record IsBegun (now peer : ℕ) (old new : PairsValue) : Type 0 where
+  pub begun : (owner : ℕ) → owner < length old.pairs → peer < length (pairs_of old owner) →
+      pair_at new owner peer ≡ anew now old.longest (pair_at old owner peer)
+  pub due : (owner : ℕ) → owner < length old.pairs → owner < length old.dues →
+      slice_index_or new.dues owner never ≤ now + first_pause
 
 -- something of the owner's stream has grown
 abbrev pub grown : PairsValue → ℕ → ℕ → PairsValue

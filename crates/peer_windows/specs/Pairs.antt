@@ -43,8 +43,9 @@ new_pair = record {
   served_until = 0;
   answer = new_pause;
   answered = 0;
-  tail = new_pause;
-  tail_level = record { reach = 0; voted = 0 };
+  moving_until = 0;
+  probe_level = record { reach = 0; voted = 0 };
+  probe_until = 0;
   beyond = new_pause;
   beyond_level = record { reach = 0; voted = 0 };
   owed = Nothing;

@@ -51,15 +51,16 @@ asleep = record { length = first_pause; until = never }
 abbrev pub longest_look : ℕ → ℕ
 longest_look nodes = if nat_le nodes 16 then 5000 else nodes * 1000 / 3
 
--- the longest pauses between answers: windows, tails to a peer that has as much, tails to one that is further
+-- the longest pauses between answers: windows, and tails to a peer that is further
 abbrev pub longest_answer : ℕ
 longest_answer = 2000
 
-abbrev pub longest_tail : ℕ
-longest_tail = 60000
-
 abbrev pub longest_beyond : ℕ
 longest_beyond = 2000
+
+-- within so long a second probe is none
+abbrev pub probe_span : ℕ
+probe_span = 50000
 
 -- so often a peer is probed
 abbrev pub probe_interval : ℕ

@@ -44,9 +44,11 @@ abbrev pub probe_of : Held → ℕ → List Message
 probe_of h owner = probe_at h owner (reach_of h owner)
 
 -- that, and what was sent at the end of the stream
+abbrev pub tail_at : Held → ℕ → ℕ → List Message
+tail_at h owner reach = probe_at h owner reach ++ messages_of owner reach (sent_there h owner reach)
+
 abbrev pub tail_of : Held → ℕ → List Message
-tail_of h owner =
-    probe_of h owner ++ messages_of owner (reach_of h owner) (sent_there h owner (reach_of h owner))
+tail_of h owner = tail_at h owner (reach_of h owner)
 
 -- what was sent in the peer's window
 abbrev pub window_of : Held → ℕ → ℕ → List Message

@@ -2,7 +2,8 @@
 
 ghost use Rattle.std.specs.Prelude.{◌≡◌, ◌≤◌};
 ghost use Rattle.peer_windows.specs.Pauses.{most_time};
-ghost use Rattle.peer_windows.specs.Answers.{heard, heard_behind, heard_level, passed, owing_tail, served, voted_on};
+ghost use Rattle.peer_windows.specs.Answers.{heard, heard_behind, is_lone, moved_on, passed, owing_tail, served};
+ghost use Rattle.peer_windows.specs.Answers.{voted_on};
 
 use crate::pair::{Pair, Served};
 use crate::pause::FIRST_PAUSE;
@@ -12,8 +13,8 @@ use link_frames::Place;
 /// The longest pause between windows as answers, in milliseconds.
 const LONGEST_ANSWER: u32 = 2_000;
 
-/// The longest pause between tails to a peer that has as much, in milliseconds.
-const LONGEST_TAIL: u32 = 60_000;
+/// The milliseconds within which a second probe is none.
+const PROBE_SPAN: u64 = 50_000;
 
 /// The longest pause between tails to a peer that is further, in milliseconds.
 const LONGEST_BEYOND: u32 = 2_000;
@@ -30,21 +31,34 @@ pub struct Repeat {
 }
 
 impl Pair {
-    /// The peer has sent again what changes nothing. Where its place is well below the reach, the peer is behind and is
-    /// owed its window; where it is the READY at the last place, the peer may want to know as much, and is owed the
-    /// tail. Each goes once in a pause, which grows while the peer doesn't vote further.
+    /// The peer has sent again what changes nothing, so it is not settled. It is owed its window, once in a pause, which
+    /// grows while it doesn't vote further; but nothing for a probe, and nothing while it gets on by itself.
     pub(crate) fn hear(&mut self, now: u64, level: Level, repeat: Repeat)
         requires { now ≤ most_time }
         ensures { self.new ≡ heard now level repeat self.old }
     {
-        if repeat.place >= level.reach {
-            return;
-        }
-        if repeat.is_ready && repeat.place + 1 == level.reach {
-            self.answer_level(now, level);
-        } else {
+        if self.is_lone(now, level, repeat) {
+            self.probe_level = level;
+            self.probe_until = now + PROBE_SPAN;
+        } else if now >= self.moving_until {
             self.answer_behind(now, level.voted);
         }
+    }
+
+    /// Whether what was sent again is taken for a probe: the READY at the last place, and the first such for a while.
+    fn is_lone(&self, now: u64, level: Level, repeat: Repeat) -> bool
+        ensures { result ≡ is_lone now level repeat self.now }
+    {
+        let is_last = repeat.is_ready && repeat.place.checked_add(1) == Some(level.reach);
+        is_last && !(self.probe_level == level && now < self.probe_until)
+    }
+
+    /// A vote of the peer has counted.
+    pub(crate) fn move_on(&mut self, now: u64)
+        requires { now ≤ most_time }
+        ensures { self.new ≡ moved_on now self.old }
+    {
+        self.moving_until = now + u64::from(FIRST_PAUSE);
     }
 
     /// The peer is behind.
@@ -60,22 +74,6 @@ impl Pair {
         if self.answer.is_over(now) {
             self.answer.begin(now, LONGEST_ANSWER);
             self.owed = Step::Window;
-        }
-    }
-
-    /// The peer has said that it has as much.
-    fn answer_level(&mut self, now: u64, level: Level)
-        requires { now ≤ most_time }
-        ensures { self.new ≡ heard_level now level self.old }
-    {
-        if level != self.tail_level {
-            self.tail_level = level;
-            self.tail.renew();
-            self.tail.end_by(now);
-        }
-        if self.tail.is_over(now) {
-            self.tail.begin(now, LONGEST_TAIL);
-            self.owe_tail();
         }
     }
 

@@ -4,7 +4,7 @@ ghost use Rattle.std.specs.Prelude.{◌≡◌, ◌≤◌, ◌<◌, IfSome};
 ghost use Rattle.node_lock.specs.Views.{node_count};
 ghost use Rattle.peer_windows.specs.Pauses.{most_time};
 ghost use Rattle.peer_windows.specs.Sent.{IsLookAt};
-ghost use Rattle.peer_windows.specs.Owed.{IsOwed};
+ghost use Rattle.peer_windows.specs.Owed.{IsGathered};
 
 use crate::owed::Owed;
 use crate::pairs::{PROBE_INTERVAL, Pairs};
@@ -20,46 +20,40 @@ use std::sync::ledger::Ledger;
 /// The milliseconds after which an owner's pairs are looked at again of which a peer had no room.
 const NEXT_ROOM: u64 = 10;
 
-/// How many messages a peer can take now.
-#[derive(Clone, Copy, Debug, PartialEq, Eq)]
-pub enum PeerRoom {
-    /// There is no connection to it.
-    Away,
-    /// It has enough to take already.
-    Full,
-    /// As much as is sent at once.
-    Free,
-}
+/// A peer is sent something where it takes so many messages: a whole window, with room for what is new.
+pub const ENOUGH_ROOM: u32 = 512;
 
 impl Pairs {
     /// Gathers what is due now: for each owner that is due, in turn, what its pairs have the node send, and the probes.
-    /// `rooms` says of each peer how much it takes; what finds no room is owed.
+    /// `rooms` says of each peer how many messages it takes, which are fewer then; where there is no connection to it,
+    /// nothing. What finds no room is owed.
     ///
     /// # Errors
     ///
     /// The seat does not fit the node, and last want of memory. What was gathered before stays.
+    #[tactic(auto, using(crate::proofs::Gathering::gathered_none, crate::proofs::Gathering::gathered_more))]
     pub fn gather<L: Ledger>(
         &mut self,
         locked: &mut Locked<L>,
         seat: &mut Seat<L>,
         now: u64,
-        rooms: &[PeerRoom],
+        rooms: &mut [Option<u32>],
         owed: &mut Owed,
     ) -> Result<(), StepFault>
-        requires time { now ≤ most_time }
-        requires owed { IsOwed locked.old owed.old }
-        ensures owed { IsOwed locked.old owed.new }
+        requires { now ≤ most_time }
+        ensures owed { IsGathered locked.old owed.old owed.new }
         ensures same { locked.new ≡ locked.old }
     {
-        for _ in 0..self.dues.len() {
+        'owners: for _ in 0..self.dues.len() {
             if owed.is_full() {
                 return Ok(());
             }
             let owner = self.turn;
-            self.turn = if owner + 1 < self.dues.len() { owner + 1 } else { 0 };
+            let behind = owner.saturating_add(1);
+            self.turn = if behind < self.dues.len() { behind } else { 0 };
             self.gather_owner(locked, seat, now, owner, rooms, owed)?;
         }
-        for peer in 0..self.probes.len() {
+        'peers: for peer in 0..self.probes.len() {
             if owed.is_full() {
                 return Ok(());
             }
@@ -69,18 +63,18 @@ impl Pairs {
     }
 
     /// Gathers what the pairs of an owner have the node send, if it is due.
+    #[tactic(auto, using(crate::proofs::Gathering::gathered_none, crate::proofs::Gathering::gathered_more))]
     fn gather_owner<L: Ledger>(
         &mut self,
         locked: &mut Locked<L>,
         seat: &mut Seat<L>,
         now: u64,
         owner: usize,
-        rooms: &[PeerRoom],
+        rooms: &mut [Option<u32>],
         owed: &mut Owed,
     ) -> Result<(), StepFault>
-        requires time { now ≤ most_time }
-        requires owed { IsOwed locked.old owed.old }
-        ensures owed { IsOwed locked.old owed.new }
+        requires { now ≤ most_time }
+        ensures owed { IsGathered locked.old owed.old owed.new }
         ensures same { locked.new ≡ locked.old }
     {
         if owner >= self.dues.len() || self.dues[owner] > now {
@@ -92,14 +86,18 @@ impl Pairs {
         };
         let look = look_at(locked, seat, name)?;
         let mut next = NEVER;
-        for (peer, room) in rooms.iter().enumerate() {
-            next = next.min(self.gather_pair(locked, seat, now, name, &look, peer, *room, owed)?);
+        for peer in 0..rooms.len() {
+            let room = &mut rooms[peer];
+            next = next.min(self.gather_pair(locked, seat, now, name, &look, peer, room, owed)?);
         }
-        self.dues[owner] = next;
+        if let Some(due) = self.dues.get_mut(owner) {
+            *due = next;
+        }
         Ok(())
     }
 
     /// Gathers what a pair has the node send. When the pair is looked at next.
+    #[tactic(auto, using(crate::proofs::Gathering::gathered_none, crate::proofs::Gathering::pushed_gathered))]
     fn gather_pair<L: Ledger>(
         &mut self,
         locked: &mut Locked<L>,
@@ -108,21 +106,23 @@ impl Pairs {
         owner: NodeName,
         look: &StreamLook,
         peer: usize,
-        room: PeerRoom,
+        room: &mut Option<u32>,
         owed: &mut Owed,
     ) -> Result<u64, StepFault>
         requires time { now ≤ most_time }
         requires owner { owner < node_count locked.old }
         requires look { IsLookAt locked.old owner look.now }
-        requires owed { IsOwed locked.old owed.old }
-        ensures owed { IsOwed locked.old owed.new }
+        ensures owed { IsGathered locked.old owed.old owed.new }
         ensures same { locked.new ≡ locked.old }
     {
         let Some(name) = self.name(&*locked, peer) else {
             return Ok(NEVER);
         };
         let at = usize::from(owner.index());
-        if room == PeerRoom::Away || at >= self.pairs.len() {
+        let Some(free) = *room else {
+            return Ok(NEVER);
+        };
+        if at >= self.pairs.len() {
             return Ok(NEVER);
         }
         let seen = seen_of(&*locked, look, owner, name);
@@ -130,11 +130,12 @@ impl Pairs {
         if step == Step::Nothing {
             return Ok(self.pairs[at].until(peer));
         }
-        if room == PeerRoom::Full {
+        if free < ENOUGH_ROOM {
             self.pairs[at].owe(peer, step);
             return Ok(now + NEXT_ROOM);
         }
-        owed.push(locked, seat, owner, name, step)?;
+        let count = owed.push(locked, seat, owner, name, step)?;
+        *room = Some(left_of(free, count));
         if matches!(step, Step::Window | Step::Rest(_)) {
             let end = window_at(&*locked, owner, name).to;
             self.pairs[at].serve(peer, now, seen.voted, end);
@@ -143,36 +144,67 @@ impl Pairs {
     }
 
     /// Gathers the probes of a peer, if they are due: one for each pair of it that sleeps.
+    #[tactic(auto, using(
+        crate::proofs::Gathering::gathered_none,
+        crate::proofs::Gathering::gathered_more,
+        crate::proofs::Gathering::pushed_gathered
+    ))]
     fn gather_probes<L: Ledger>(
         &mut self,
         locked: &mut Locked<L>,
         seat: &mut Seat<L>,
         now: u64,
         peer: usize,
-        rooms: &[PeerRoom],
+        rooms: &mut [Option<u32>],
         owed: &mut Owed,
     ) -> Result<(), StepFault>
-        requires time { now ≤ most_time }
-        requires owed { IsOwed locked.old owed.old }
-        ensures owed { IsOwed locked.old owed.new }
+        requires { now ≤ most_time }
+        ensures owed { IsGathered locked.old owed.old owed.new }
         ensures same { locked.new ≡ locked.old }
     {
         if peer >= self.probes.len() || self.probes[peer] > now {
             return Ok(());
         }
         self.probes[peer] = now + PROBE_INTERVAL;
-        let is_free = peer < rooms.len() && rooms[peer] == PeerRoom::Free;
         let Some(name) = self.name(&*locked, peer) else {
             return Ok(());
         };
-        if !is_free || name == self.me {
+        if name == self.me || peer >= rooms.len() {
             return Ok(());
         }
+        let Some(free) = rooms[peer] else {
+            return Ok(());
+        };
+        if free < ENOUGH_ROOM {
+            return Ok(());
+        }
+        rooms[peer] = Some(left_of(free, self.pairs.len()));
         for owner in 0..self.pairs.len() {
-            if self.pairs[owner].until(peer) == NEVER {
-                if let Some(owner) = self.name(&*locked, owner) {
-                    owed.push(locked, seat, owner, name, Step::Probe)?;
-                }
+            self.gather_probe(locked, seat, owner, name, owed)?;
+        }
+        Ok(())
+    }
+
+    /// Gathers the probe of a pair, if it sleeps.
+    #[tactic(auto, using(crate::proofs::Gathering::gathered_none, crate::proofs::Gathering::pushed_gathered))]
+    fn gather_probe<L: Ledger>(
+        &self,
+        locked: &mut Locked<L>,
+        seat: &mut Seat<L>,
+        owner: usize,
+        peer: NodeName,
+        owed: &mut Owed,
+    ) -> Result<(), StepFault>
+        requires { peer < node_count locked.old }
+        ensures owed { IsGathered locked.old owed.old owed.new }
+        ensures same { locked.new ≡ locked.old }
+    {
+        let Some(name) = self.name(&*locked, owner) else {
+            return Ok(());
+        };
+        if let Some(pairs) = self.pairs.get(owner) {
+            if pairs.until(usize::from(peer.index())) == NEVER {
+                owed.push(locked, seat, name, peer, Step::Probe)?;
             }
         }
         Ok(())
@@ -187,5 +219,13 @@ impl Pairs {
         }
         let name = self.sizes.name(index as u8)?;
         if locked.has(name) { Some(name) } else { None }
+    }
+}
+
+/// What is left of a room where so many messages more are put.
+fn left_of(room: u32, count: usize) -> u32 {
+    match u32::try_from(count) {
+        Ok(count) => room.saturating_sub(count),
+        Err(_) => 0,
     }
 }

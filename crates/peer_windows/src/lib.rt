@@ -21,7 +21,7 @@ mod stream_look;
 mod window;
 
 pub use answers::Repeat;
-pub use gather::PeerRoom;
+pub use gather::ENOUGH_ROOM;
 pub use owed::{Owed, Share};
 pub use pairs::Pairs;
 pub use pause::{FIRST_PAUSE, MOST_TIME, NEVER};

@@ -56,6 +56,9 @@ impl Pairs {
     {
         let (owner, peer) = (packet.owner(), packet.from());
         self.grow(now, owner);
+        if !matches!(packet.kind(), Kind::Send) {
+            self.move_on(now, owner, peer);
+        }
         if self.is_served(owner, peer) {
             if let Some(level) = level_in(locked, seat, owner, peer) {
                 self.vote(now, owner, peer, level);

@@ -1,8 +1,7 @@
 //! Messages that go to single peers.
 
-ghost use Rattle.std.specs.Prelude.{◌≡◌, ◌<◌, [], IfOk, IfErr, OnErr};
+ghost use Rattle.std.specs.Prelude.{◌≡◌, ◌<◌, [], IfOk, OnErr};
 ghost use Rattle.node_lock.specs.Views.{node_count};
-ghost use Rattle.peer_windows.specs.Sent.{IsReadFault};
 ghost use Rattle.peer_windows.specs.Owed.{IsPushed, is_full};
 
 use crate::peer_sent::push_step;
@@ -106,7 +105,6 @@ impl Owed {
         requires peer { peer < node_count locked.old }
         ensures ok { IfOk result (λ count. IsPushed locked.old owner peer step count self.old self.new) }
         ensures err { OnErr result (self.new ≡ self.old) }
-        ensures fault { IfErr result (IsReadFault locked.old seat.old) }
         ensures same { locked.new ≡ locked.old }
     {
         self.shares.try_reserve(1)?;

@@ -3,7 +3,7 @@
 ghost use Rattle.std.specs.Prelude.{◌≡◌, ◌≤◌, replicate, IfOk, IsSome, slice_get};
 ghost use Rattle.peer_windows.specs.Pauses.{most_pause, most_time};
 ghost use Rattle.peer_windows.specs.Pairs.{new_pair, anew, attended, attended_step, owing};
-ghost use Rattle.peer_windows.specs.Answers.{heard, passed, voted_on, served};
+ghost use Rattle.peer_windows.specs.Answers.{heard, moved_on, passed, voted_on, served};
 ghost use Rattle.peer_windows.specs.Owners.{pair_in, with_pair, is_served, owes};
 
 use crate::answers::Repeat;
@@ -96,6 +96,16 @@ impl OwnerPairs {
     {
         if peer < self.pairs.len() {
             self.pairs[peer].hear(now, level, repeat);
+        }
+    }
+
+    /// A vote of the peer has counted.
+    pub(crate) fn move_on(&mut self, peer: usize, now: u64)
+        requires { now ≤ most_time }
+        ensures { self.new ≡ with_pair self.old peer (moved_on now (pair_in self.old peer)) }
+    {
+        if peer < self.pairs.len() {
+            self.pairs[peer].move_on(now);
         }
     }
 

@@ -36,9 +36,11 @@ pub(crate) struct Pair {
     /// The pause between windows as answers, and how far the peer had voted at the first of these.
     pub answer: Pause,
     pub answered: u32,
-    /// The pause between tails as answers, and what was seen at the first of these.
-    pub tail: Pause,
-    pub tail_level: Level,
+    /// When the first pause after the last vote of the peer that counted is over.
+    pub moving_until: u64,
+    /// What was seen at the last probe, and until when another one at the same is none.
+    pub probe_level: Level,
+    pub probe_until: u64,
     /// The pause between tails to a peer that is further, and what was seen at the first of these.
     pub beyond: Pause,
     pub beyond_level: Level,
@@ -67,8 +69,9 @@ impl Pair {
             served_until: 0,
             answer: Pause::new(),
             answered: 0,
-            tail: Pause::new(),
-            tail_level: level,
+            moving_until: 0,
+            probe_level: level,
+            probe_until: 0,
             beyond: Pause::new(),
             beyond_level: level,
             owed: Step::Nothing,

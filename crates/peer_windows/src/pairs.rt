@@ -3,9 +3,9 @@
 ghost use Rattle.std.specs.Prelude.{◌≡◌, ◌≤◌, true, false};
 ghost use Rattle.quorum_sizes.specs.Sizes.{most_nodes};
 ghost use Rattle.peer_windows.specs.Pauses.{most_time, most_pause, longest_look as longest_look_of};
-ghost use Rattle.peer_windows.specs.Answers.{heard, passed, voted_on};
-ghost use Rattle.peer_windows.specs.Owners.{with_pair_at, pair_at, grown, due_by, owed_now, is_still};
-ghost use Rattle.peer_windows.specs.Owners.{next_due, least as least_of, is_served};
+ghost use Rattle.peer_windows.specs.Answers.{heard, moved_on, passed, voted_on};
+ghost use Rattle.peer_windows.specs.Owners.{with_pair_at, pair_at, begun_at, grown, due_by, owed_now};
+ghost use Rattle.peer_windows.specs.Owners.{next_due, least as least_of, is_served, is_still};
 
 use crate::answers::Repeat;
 use crate::owner_pairs::OwnerPairs;
@@ -86,6 +86,7 @@ impl Pairs {
     }
 
     /// When something is due next, in milliseconds.
+    #[tactic(auto, using(crate::proofs::Times::least_append))]
     pub fn next_due(&self) -> u64
         ensures { result ≡ next_due self.now }
     {
@@ -97,9 +98,19 @@ impl Pairs {
         requires { now ≤ most_time }
     {
         for owner in 0..self.pairs.len() {
-            self.pairs[owner].begin_anew(usize::from(peer.index()), now, self.longest);
-            self.look_by(owner, now + u64::from(FIRST_PAUSE));
+            self.begin(owner, usize::from(peer.index()), now);
         }
+    }
+
+    /// The pair of an owner and a peer begins anew.
+    fn begin(&mut self, owner: usize, peer: usize, now: u64)
+        requires { now ≤ most_time }
+        ensures { self.new ≡ begun_at now owner peer self.old }
+    {
+        if owner < self.pairs.len() {
+            self.pairs[owner].begin_anew(peer, now, self.longest);
+        }
+        self.look_by(owner, now + u64::from(FIRST_PAUSE));
     }
 
     /// Something of the owner's stream has grown: its reach, what this node has sent in it, or how far a peer has voted.
@@ -142,6 +153,17 @@ impl Pairs {
         if owner < self.pairs.len() {
             self.pairs[owner].vote(peer, now, level);
             self.look_if_owed(now, owner, peer);
+        }
+    }
+
+    /// A vote of the peer has counted, which gets on by itself.
+    pub fn move_on(&mut self, now: u64, owner: NodeName, peer: NodeName)
+        requires { now ≤ most_time }
+        ensures { self.new ≡ with_pair_at self.old owner peer (moved_on now (pair_at self.old owner peer)) }
+    {
+        let owner = usize::from(owner.index());
+        if owner < self.pairs.len() {
+            self.pairs[owner].move_on(usize::from(peer.index()), now);
         }
     }
 

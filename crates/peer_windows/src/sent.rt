@@ -1,13 +1,13 @@
 //! What a node has sent to all, read place by place under its lock.
 
-ghost use Rattle.std.specs.Prelude.{◌≡◌, ◌-◌, ◌<◌, ◌≤◌, ◌++◌, length, take};
+ghost use Rattle.std.specs.Prelude.{◌≡◌, ◌+◌, ◌^◌, ◌<◌, ◌≤◌, ◌++◌, length, take};
 ghost use Rattle.std.specs.Prelude.{ℕ, IfOk, IfErr, OnOk, OnErr, option_map};
 ghost use Rattle.std.specs.Option.{option_to_list};
 ghost use Rattle.role_commands.specs.declared.command.Command.{Command};
 ghost use Rattle.role_node.specs.Windows.{messages_of};
-ghost use Rattle.node_lock.specs.Holds.{IsMisfit};
+ghost use Rattle.owner_streams.specs.Places.{window};
 ghost use Rattle.node_lock.specs.Views.{node_count};
-ghost use Rattle.peer_windows.specs.Sent.{sent_there, sent_between, probe_of, tail_of, probe_at};
+ghost use Rattle.peer_windows.specs.Sent.{sent_between, probe_of, tail_of, probe_at, tail_at};
 ghost use Rattle.peer_windows.specs.Sent.{IsReadFault, IsLookAt};
 
 use crate::stream_look::StreamLook;
@@ -49,6 +49,7 @@ pub fn push_sent<L: Ledger>(
 }
 
 /// The same, where some messages may be there after an error.
+#[tactic(auto, using(crate::proofs::Reading::fault_before, crate::proofs::Reading::at_begin))]
 fn push_places<L: Ledger>(
     locked: &mut Locked<L>,
     seat: &mut Seat<L>,
@@ -95,6 +96,7 @@ fn push_kind(
 ) -> Result<(), AllocError>
     ensures ok { OnOk result (messages.new.items ≡ messages.old.items ++ option_to_list (option_map
         (λ (command : Command). record { kind = kind; owner = owner; place = place; command = command }) sent)) }
+    ensures err { OnErr result (messages.new.items ≡ messages.old.items) }
     ensures begin { take (length messages.old.items) messages.new.items ≡ messages.old.items }
 {
     if let Some(command) = sent {
@@ -114,6 +116,7 @@ fn push_kind(
 /// # Errors
 ///
 /// The seat does not fit the node, and last want of memory. The messages stay as they were.
+#[tactic(auto, using(crate::proofs::Reading::fault_before, crate::proofs::Reading::at_begin))]
 pub fn push_probe<L: Ledger>(
     locked: &mut Locked<L>,
     seat: &mut Seat<L>,
@@ -178,6 +181,7 @@ pub fn push_tail<L: Ledger>(
 }
 
 /// The same, where some messages may be there after an error.
+#[tactic(auto, using(crate::proofs::Reading::fault_before, crate::proofs::Reading::at_begin))]
 fn push_tail_parts<L: Ledger>(
     locked: &mut Locked<L>,
     seat: &mut Seat<L>,
@@ -191,9 +195,27 @@ fn push_tail_parts<L: Ledger>(
     ensures same { locked.new ≡ locked.old }
 {
     let (_, view) = locked.hold(seat, None, owner, 0)?;
-    push_last_ready(locked, seat, owner, view.reach, messages)?;
-    let (_, view) = locked.hold(seat, None, owner, view.reach)?;
-    push_again(messages, owner, view.reach, &view.again)?;
+    push_tail_at(locked, seat, owner, view.reach, messages)
+}
+
+/// The tail of a stream of this reach, where some messages may be there after an error.
+#[tactic(auto, using(crate::proofs::Reading::fault_before, crate::proofs::Reading::at_begin))]
+fn push_tail_at<L: Ledger>(
+    locked: &mut Locked<L>,
+    seat: &mut Seat<L>,
+    owner: NodeName,
+    reach: u32,
+    messages: &mut Vec<Message>,
+) -> Result<(), StepFault>
+    requires { owner < node_count locked.old }
+    ensures ok { OnOk result (messages.new.items ≡ messages.old.items ++ tail_at locked.old owner reach) }
+    ensures begin { take (length messages.old.items) messages.new.items ≡ messages.old.items }
+    ensures fault { IfErr result (IsReadFault locked.old seat.old) }
+    ensures same { locked.new ≡ locked.old }
+{
+    let (_, end) = locked.hold(seat, None, owner, reach)?;
+    push_last_ready(locked, seat, owner, reach, messages)?;
+    push_again(messages, owner, reach, &end.again)?;
     Ok(())
 }
 
@@ -201,7 +223,8 @@ fn push_tail_parts<L: Ledger>(
 ///
 /// # Errors
 ///
-/// Only where the seat does not fit the node.
+/// The seat does not fit the node. Last want of memory, where the stream is longer than streams are.
+#[tactic(auto, using(crate::proofs::Reading::fault_before, crate::proofs::Reading::at_begin))]
 pub fn look_at<L: Ledger>(
     locked: &mut Locked<L>,
     seat: &mut Seat<L>,
@@ -209,17 +232,38 @@ pub fn look_at<L: Ledger>(
 ) -> Result<StreamLook, StepFault>
     requires { owner < node_count locked.old }
     ensures look { IfOk result (IsLookAt locked.old owner) }
-    ensures fault { IfErr result (IsMisfit locked.old seat.old) }
+    ensures fault { IfErr result (IsReadFault locked.old seat.old) }
     ensures same { locked.new ≡ locked.old }
 {
     let (_, view) = locked.hold(seat, None, owner, 0)?;
     let reach = view.reach;
-    let mut outstanding = 0u32;
+    if reach >= u32::MAX - WINDOW {
+        return Err(StepFault::Memory);
+    }
+    let outstanding = count_open(locked, seat, owner, reach)?;
+    Ok(StreamLook { reach, outstanding })
+}
+
+/// How many messages were sent at the places that are open where the stream reaches so far.
+#[tactic(auto, using(crate::proofs::Reading::fault_before, crate::proofs::Reading::at_begin))]
+fn count_open<L: Ledger>(
+    locked: &mut Locked<L>,
+    seat: &mut Seat<L>,
+    owner: NodeName,
+    reach: u32,
+) -> Result<u32, StepFault>
+    requires owner { owner < node_count locked.old }
+    requires few { reach + window < 2 ^ 32 }
+    ensures count { IfOk result (λ count. count ≡ length (sent_between locked.old owner reach (reach + window))) }
+    ensures fault { IfErr result (IsReadFault locked.old seat.old) }
+    ensures same { locked.new ≡ locked.old }
+{
+    let mut count = 0u32;
     for place in reach..reach + WINDOW {
         let (_, view) = locked.hold(seat, None, owner, place)?;
-        outstanding += count_of(&view.again);
+        count += count_of(&view.again);
     }
-    Ok(StreamLook { reach, outstanding })
+    Ok(count)
 }
 
 /// How many messages were sent at a place.

@@ -19,6 +19,9 @@ mod connection;
 mod connection_tests;
 mod crew;
 mod frame_jobs;
+mod front;
+#[cfg(test)]
+mod heal_tests;
 #[cfg(test)]
 mod idle_tests;
 mod job_queue;
@@ -33,6 +36,7 @@ mod peers;
 mod senders;
 mod shared;
 mod task;
+mod timer;
 mod waiting;
 mod workers;
 
@@ -42,11 +46,12 @@ use caller::MOST_CLIENTS;
 use connection::connections;
 use crew::Crew;
 use frame_jobs::FrameNews;
-use frame_queues::FirstPackets;
+use front::Front;
 use job_queue::{JobQueue, job_queues};
 use links::Links;
 use node_lock::{Inbox, Seat, SharedNode};
 use outbox::Outbox;
+use peer_windows::Pairs;
 use peers::PeerPort;
 use role_node::Node;
 use shared::{Life, Shared, local};
@@ -59,6 +64,7 @@ use std::thread::Threads;
 use std::time::{Clock, Duration};
 use std::{io, thread};
 use task::Task;
+use timer::{Timer, millis};
 use waiting::Waiting;
 use workers::Worker;
 
@@ -127,12 +133,13 @@ where
     requires peers { IsServerSetup setup }
 {
     let ports = Ports::new(rt, alloc, &setup)?;
+    let timer = ports.timer(alloc, &setup)?;
     let (inbox, passes) = Inbox::new(alloc, PASSES)?;
     let mut queues = job_queues(alloc, &inbox, passes)?;
     let Some(queue) = queues.pop() else {
         return Err(ServeFault::Memory);
     };
-    let shared = shared_of::<L>(alloc, blank, setup, idle, queues)?;
+    let shared = shared_of::<L, R>(rt, alloc, blank, setup, idle, queues, timer)?;
     serve_shared(rt, alloc, &shared, ports, queue)
 }
 
@@ -174,6 +181,14 @@ impl Ports {
             Err(error) => Err(fault_of(&error)),
         }
     }
+
+    /// The timer for which the thread of the peers rings.
+    fn timer(&self, alloc: Global, setup: &Setup) -> Result<Timer, ServeFault> {
+        match self.peers.waker() {
+            Ok(waker) => Ok(Timer::new(alloc, waker, setup.config.roles().sizes().n())?),
+            Err(error) => Err(fault_of(&error)),
+        }
+    }
 }
 
 fn listener<R: Net<Listener = TcpListener, Stream = TcpStream>>(
@@ -205,12 +220,14 @@ fn bound<R: Net<Listener = TcpListener, Stream = TcpStream>>(
 }
 
 /// What the threads of a setup's node share.
-fn shared_of<'a, L: Ledger>(
+fn shared_of<'a, L: Ledger, R: Clock>(
+    rt: &R,
     alloc: Global,
     blank: Blank,
     setup: Setup,
     idle: Duration,
     mut queues: Vec<JobQueue<'a>>,
+    timer: Timer,
 ) -> Result<Shared<'a, L>, AllocError>
     requires name { blank.name ≡ L.name }
     requires parts { (blank.parts ≡ L.parts) × (SEATS ≡ L.parts) }
@@ -228,8 +245,9 @@ fn shared_of<'a, L: Ledger>(
         unreachable!()
     };
     let clients = connections(alloc, &mut queues, MOST_CLIENTS)?;
-    let first = FirstPackets::new(alloc, links.sizes().n())?;
-    let crew = crew_of(alloc, seats, queues, first)?;
+    let pairs = Pairs::new(alloc, links.sizes(), links.me(), millis(rt))?;
+    let front = Front::new(alloc, links.sizes().n(), pairs)?;
+    let crew = crew_of(alloc, seats, queues, front, links.sizes().n())?;
     Ok(Shared {
         node,
         view_seat: Mutex::new(view_seat),
@@ -239,6 +257,7 @@ fn shared_of<'a, L: Ledger>(
         clients,
         frame_news: Waiting::new(frame_news),
         life: Waiting::new(Life { failed: false }),
+        timer,
         idle,
     })
 }
@@ -252,16 +271,17 @@ fn crew_of<'a, L: Ledger>(
     alloc: Global,
     seats: Vec<Seat<L>>,
     mut queues: Vec<JobQueue<'a>>,
-    first: FirstPackets,
+    front: Front,
+    nodes: u8,
 ) -> Result<Crew<'a, L>, AllocError> {
     let mut workers = Vec::new(alloc);
     for seat in seats {
         let Some(queue) = queues.pop() else {
             return Err(AllocError);
         };
-        workers.push(Worker::new(alloc, queue, seat)?)?;
+        workers.push(Worker::new(alloc, queue, seat, nodes)?)?;
     }
-    Ok(Crew::new(workers, first))
+    Ok(Crew::new(workers, front))
 }
 
 /// An empty outbox for each other node.

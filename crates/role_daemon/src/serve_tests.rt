@@ -11,7 +11,7 @@ use std::sync::Wait;
 use std::test::Fail;
 use std::thread;
 use std::thread::Threads;
-use std::time::Clock;
+use std::time::{Clock, Duration};
 
 /// What is wrong with a node's answers, which are as they must be whatever else comes to its port for peers; nothing if
 /// nothing is.
@@ -129,8 +129,8 @@ fn a_frame_of_another_program_counts(rt: HostRuntime) -> Result<(), Fail> {
     Ok(())
 }
 
-/// Has node 0 issue, and all send once more, until node 3 has delivered. Whether it has, when all have stopped.
-fn talk_to_four(alloc: Global, streams: &[TcpStream]) -> Result<bool, Fail> {
+/// Has node 0 issue, and waits until node 3 has delivered, which nobody helps. Whether it has, when all have stopped.
+fn talk_to_four<R: Clock>(rt: &R, alloc: Global, streams: &[TcpStream]) -> Result<bool, Fail> {
     let mut right = false;
     let (first, last) = match streams {
         [first, .., last] => (first, last),
@@ -138,14 +138,12 @@ fn talk_to_four(alloc: Global, streams: &[TcpStream]) -> Result<bool, Fail> {
     };
     ask(alloc, first, b"{\"op\":\"assign\",\"user\":7,\"role\":2}\n")?;
     for _ in 0..10_000u32 {
-        for stream in streams {
-            ask(alloc, stream, AGAIN)?;
-        }
         right = ask(alloc, last, b"{\"op\":\"reach\",\"owner\":0}\n")?.as_str()
             == "{\"reach\":1}\n";
         if right {
             break;
         }
+        thread::sleep(rt, Duration::from_millis(1));
     }
     for stream in streams {
         ask(alloc, stream, STOP)?;
@@ -195,7 +193,7 @@ where
             streams.push(connected(rt, *client)?)?;
         }
         let held = silent_connections(rt, alloc, &peers, silent)?;
-        let right = talk_to_four(alloc, &streams)?;
+        let right = talk_to_four(rt, alloc, &streams)?;
         drop(held);
         Ok(right)
     })

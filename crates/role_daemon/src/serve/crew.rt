@@ -1,9 +1,9 @@
 //! How the workers stand. Whoever puts jobs lends a hand to an idle worker.
 
+use crate::serve::front::Front;
 use crate::serve::shared::Shared;
 use crate::serve::waiting::Awaited;
 use crate::serve::workers::{Worker, call};
-use frame_queues::FirstPackets;
 use node_lock::{Call, Outcome, View};
 use role_node::Question;
 use std::sync::Wait;
@@ -17,44 +17,44 @@ const MOST_TURNS: u32 = 4;
 #[derive(Drop)]
 pub struct Crew<'a, L: Ledger> {
     idle: Vec<Worker<'a, L>>,
-    /// What comes before the jobs of the inbox. Who takes jobs has it meanwhile: so one does so at a time, and jobs are
-    /// done in the order in which they came.
-    first: Option<FirstPackets>,
+    /// What comes before the jobs of the inbox, and what is sent to single peers. Who takes jobs has it meanwhile: so
+    /// one does so at a time, and jobs are done in the order in which they came.
+    front: Option<Front>,
     /// Jobs were put, and no worker has looked since; or a worker has left some, since its batch was full.
     jobs: bool,
 }
 
 impl<L: Ledger> Awaited for Crew<'_, L> {
     fn is_due(&self) -> bool {
-        self.jobs && self.first.is_some() && !self.idle.is_empty()
+        self.jobs && self.front.is_some() && !self.idle.is_empty()
     }
 }
 
 impl<'a, L: Ledger> Crew<'a, L> {
     /// All these workers are idle, and nothing comes before the inbox.
-    pub fn new(idle: Vec<Worker<'a, L>>, first: FirstPackets) -> Crew<'a, L> {
+    pub fn new(idle: Vec<Worker<'a, L>>, front: Front) -> Crew<'a, L> {
         Crew {
             idle,
-            first: Some(first),
+            front: Some(front),
             jobs: false,
         }
     }
 
     /// Whether all jobs that the workers were told of are done.
     fn is_at_rest(&self) -> bool {
-        self.first.is_some() && !self.jobs
+        self.front.is_some() && !self.jobs
     }
 
     /// An idle worker takes jobs from now on, if none does, with what comes before them.
-    fn begin(&mut self) -> Option<(Worker<'a, L>, FirstPackets)> {
-        let first = self.first.take()?;
+    fn begin(&mut self) -> Option<(Worker<'a, L>, Front)> {
+        let front = self.front.take()?;
         match self.idle.pop() {
             Some(worker) => {
                 self.jobs = false;
-                Some((worker, first))
+                Some((worker, front))
             }
             None => {
-                self.first = Some(first);
+                self.front = Some(front);
                 None
             }
         }
@@ -70,8 +70,8 @@ impl<'a, L: Ledger> Shared<'a, L> {
             crew.value.jobs = true;
             crew.value.begin()
         };
-        if let Some((worker, first)) = begun {
-            self.work(rt, worker, first);
+        if let Some((worker, front)) = begun {
+            self.work(rt, worker, front);
         }
     }
 
@@ -96,22 +96,22 @@ impl<'a, L: Ledger> Shared<'a, L> {
             };
             let begun = crew.value.begin();
             drop(crew);
-            if let Some((worker, first)) = begun {
-                self.work(rt, worker, first);
+            if let Some((worker, front)) = begun {
+                self.work(rt, worker, front);
             }
         }
     }
 
     /// Does jobs with a worker, a batch at a time, until there are none or it did many.
-    fn work<R: Wait + Clock>(&self, rt: &R, mut worker: Worker<'a, L>, mut first: FirstPackets) {
+    fn work<R: Wait + Clock>(&self, rt: &R, mut worker: Worker<'a, L>, mut front: Front) {
         for turn in 1..=MOST_TURNS {
-            self.take_batch(rt, &mut worker, first);
+            self.take_batch(rt, &mut worker, front);
             worker.send(rt, self);
             worker.answer(rt, self);
             match self.rest(rt, worker, turn < MOST_TURNS) {
                 Some((busy, next)) => {
                     worker = busy;
-                    first = next;
+                    front = next;
                 }
                 None => return,
             }
@@ -119,11 +119,11 @@ impl<'a, L: Ledger> Shared<'a, L> {
     }
 
     /// Takes jobs with a worker, until there are none or its batch is full.
-    fn take_batch<R: Wait>(&self, rt: &R, worker: &mut Worker<'a, L>, mut first: FirstPackets) {
+    fn take_batch<R: Wait + Clock>(&self, rt: &R, worker: &mut Worker<'a, L>, mut front: Front) {
         for _ in rt.forever() {
-            let is_full = worker.take_jobs(rt, self, &mut first);
-            match self.takes_on(rt, is_full, first) {
-                Some(kept) => first = kept,
+            let is_full = worker.take_jobs(rt, self, &mut front);
+            match self.takes_on(rt, is_full, front) {
+                Some(kept) => front = kept,
                 None => return,
             }
         }
@@ -135,16 +135,16 @@ impl<'a, L: Ledger> Shared<'a, L> {
         &self,
         rt: &R,
         is_full: bool,
-        first: FirstPackets,
-    ) -> Option<FirstPackets> {
+        front: Front,
+    ) -> Option<Front> {
         let is_due = {
             let mut crew = self.crew.lock(rt);
             if crew.value.jobs && !is_full {
                 crew.value.jobs = false;
-                return Some(first);
+                return Some(front);
             }
             crew.value.jobs |= is_full;
-            crew.value.first = Some(first);
+            crew.value.front = Some(front);
             crew.value.is_due()
         };
         if is_due {
@@ -159,7 +159,7 @@ impl<'a, L: Ledger> Shared<'a, L> {
         rt: &R,
         worker: Worker<'a, L>,
         may_go_on: bool,
-    ) -> Option<(Worker<'a, L>, FirstPackets)> {
+    ) -> Option<(Worker<'a, L>, Front)> {
         let is_due = {
             let mut crew = self.crew.lock(rt);
             // there is room for each worker

@@ -41,10 +41,10 @@ struct Frames {
     written: usize,
 }
 
-/// The outbox's own thread waits for frames while there is no connection, and else until writing is left to it.
+/// The outbox's own thread waits until writing is left to it, and not while there is no connection.
 impl Awaited for Frames {
     fn is_due(&self) -> bool {
-        self.left || (self.stream.is_none() && !self.frames.is_empty())
+        self.left || self.stream.is_none()
     }
 }
 
@@ -123,6 +123,16 @@ impl Outbox {
                 written: 0,
             }),
         }
+    }
+
+    /// How many frames more there is room for; `None` while there is no connection.
+    pub fn room<R: Wait>(&self, rt: &R) -> Option<u32> {
+        let state = self.waiting.lock(rt);
+        if state.value.stream.is_none() {
+            return None;
+        }
+        let room = MOST_FRAMES.saturating_sub(state.value.frames.len());
+        u32::try_from(room).ok()
     }
 
     /// Puts frames at the end, and writes them where there is a connection. What does not fit into 1,024 frames is

@@ -6,9 +6,10 @@ use crate::serve::frame_jobs::FrameJobs;
 use crate::serve::job_queue::JobQueue;
 use crate::serve::peer::{Came, Peer};
 use crate::serve::shared::Shared;
+use crate::serve::timer::{millis, whole_millis};
 use frame_queues::{Turn, Turns};
 use mio::unix::SourceFd;
-use mio::{Events, Interest, Poll, Token};
+use mio::{Events, Interest, Poll, Token, Waker};
 use quorum_sizes::NodeName;
 use std::alloc::{AllocError, Global};
 use std::io;
@@ -21,8 +22,8 @@ use std::time::{Clock, Duration};
 /// The listener's number among those that are waited for. A connection has the number of its place.
 const LISTENER: usize = MOST_PEERS as usize;
 
-/// How many milliseconds the thread waits at most. Then it looks whether the node has ended.
-const NEXT_LOOK: u64 = 50;
+/// The waker's number, which is no place's.
+const WAKER: usize = LISTENER + 1;
 
 /// The milliseconds until the listener is asked again, where a connection waits for a place.
 const NEXT_PLACE: u64 = 1;
@@ -85,7 +86,7 @@ impl PeerPort {
         Ok(PeerPort {
             listener,
             poll,
-            events: Events::with_capacity(alloc, LISTENER + 1)?,
+            events: Events::with_capacity(alloc, WAKER + 1)?,
             places,
             ready: Vec::with_capacity(alloc, LISTENER)?,
             turns: Turns::new(alloc, LISTENER)?,
@@ -94,6 +95,15 @@ impl PeerPort {
             asked: None,
             failures: 0,
         })
+    }
+
+    /// What wakes the thread that takes the frames.
+    ///
+    /// # Errors
+    ///
+    /// As the system answers.
+    pub fn waker(&self) -> io::Result<Waker> {
+        Waker::new(self.poll.registry(), Token(WAKER))
     }
 
     /// Takes the frames of all peers, until the end, to which a wait or a listener that fails brings the node.
@@ -106,7 +116,8 @@ impl PeerPort {
     ) {
         let mut jobs = FrameJobs::new(shared, queue);
         for _ in rt.forever() {
-            let wait = self.next_wait(rt);
+            let most = self.next_wait(rt);
+            let wait = shared.timer.wait(rt, millis(rt), most);
             if self.poll.poll(&mut self.events, Some(wait)).is_err() {
                 shared.fail(rt);
             }
@@ -116,6 +127,9 @@ impl PeerPort {
             self.note_events();
             self.read_ready(rt, &mut jobs);
             jobs.ring(rt);
+            if shared.timer.is_due(rt, millis(rt)) {
+                shared.ring(rt);
+            }
             self.close_refused(rt, &mut jobs);
             if self.asked.is_some() && !self.accept(rt, alloc, &mut jobs) {
                 shared.fail(rt);
@@ -123,25 +137,22 @@ impl PeerPort {
         }
     }
 
-    /// How long is to be waited for what comes next. A connection on which no frame has opened in its time is closed.
-    fn next_wait<R: Clock>(&mut self, rt: &R) -> Duration {
-        let mut wait = Duration::from_millis(self.asked.unwrap_or(NEXT_LOOK));
+    /// How many milliseconds are to be waited at most for what comes next. A connection on which no frame has opened in
+    /// its time is closed.
+    fn next_wait<R: Clock>(&mut self, rt: &R) -> u64 {
+        let mut wait = self.asked.unwrap_or(u64::MAX);
         if self.silent > 0 {
             for slot in 0..LISTENER {
                 if let Some(left) = self.left_of(rt, slot) {
                     if left.is_zero() {
                         self.close(slot);
                     } else {
-                        wait = wait.min(left);
+                        wait = wait.min(whole_millis(left));
                     }
                 }
             }
         }
-        if self.ready.is_empty() {
-            wait
-        } else {
-            Duration::from_millis(0)
-        }
+        if self.ready.is_empty() { wait } else { 0 }
     }
 
     /// What is left of a connection's time for its first frame.

@@ -2,6 +2,7 @@
 
 use crate::serve::outbox::{Outbox, Progress, batch_room, has_ended};
 use crate::serve::shared::local;
+use crate::serve::timer::Timer;
 use std::alloc::Global;
 use std::io;
 use std::net::{Net, TcpStream};
@@ -23,12 +24,13 @@ const LONG_LIFE: u64 = 1_000;
 /// How many milliseconds a connection may take to be made, and to take some bytes.
 const PATIENCE: u64 = 500;
 
-/// Connects an outbox with its peer, until the end: when there are frames, and again when the connection has ended,
-/// after a pause that grows to a second.
+/// Connects an outbox with its peer, until the end, and again when the connection has ended, after a pause that grows to
+/// a second. The timer hears of each connection.
 pub fn send_frames<R: Net<Stream = TcpStream> + Wait + Clock>(
     rt: &R,
     alloc: Global,
     outbox: &Outbox,
+    timer: &Timer,
 ) {
     let mut pause = FIRST_PAUSE;
     for _ in rt.forever() {
@@ -36,7 +38,7 @@ pub fn send_frames<R: Net<Stream = TcpStream> + Wait + Clock>(
             return;
         }
         if let Ok(stream) = connected(rt, alloc, outbox.port) {
-            if keep(rt, alloc, outbox, stream) {
+            if keep(rt, alloc, outbox, timer, stream) {
                 pause = FIRST_PAUSE;
             }
         }
@@ -66,7 +68,13 @@ fn connected<R: Net<Stream = TcpStream>>(
 }
 
 /// Gives the connection to the outbox, until it has ended or failed, or the node ends. Whether it lived for long.
-fn keep<R: Wait + Clock>(rt: &R, alloc: Global, outbox: &Outbox, stream: Arc<TcpStream>) -> bool {
+fn keep<R: Wait + Clock>(
+    rt: &R,
+    alloc: Global,
+    outbox: &Outbox,
+    timer: &Timer,
+    stream: Arc<TcpStream>,
+) -> bool {
     let Ok(begin) = Instant::now(rt) else {
         return false;
     };
@@ -80,6 +88,7 @@ fn keep<R: Wait + Clock>(rt: &R, alloc: Global, outbox: &Outbox, stream: Arc<Tcp
         return false;
     }
     outbox.open(rt, other);
+    timer.connect(rt, outbox.to);
     for _ in rt.forever() {
         if !write_all(rt, outbox, &stream, &mut batch) || !outbox.wait(rt) {
             break;

@@ -5,9 +5,11 @@ use crate::serve::crew::Crew;
 use crate::serve::frame_jobs::FrameNews;
 use crate::serve::links::Links;
 use crate::serve::outbox::{Outbox, batch_room};
+use crate::serve::timer::Timer;
 use crate::serve::waiting::{Awaited, Waiting};
 use link_frames::{Frame, Message, Place};
 use node_lock::{Seat, SharedNode, View};
+use peer_windows::Owed;
 use quorum_sizes::NodeName;
 use std::alloc::{AllocError, Global};
 use std::net::{Ipv4Addr, SocketAddr, SocketAddrV4};
@@ -41,6 +43,8 @@ pub struct Shared<'a, L: Ledger> {
     /// What is told of the jobs of frames.
     pub frame_news: Waiting<FrameNews>,
     pub life: Waiting<Life>,
+    /// When something is due for which nobody rings.
+    pub timer: Timer,
     /// After so long a client that sends nothing is closed.
     pub idle: Duration,
 }
@@ -95,6 +99,7 @@ impl<L: Ledger> Shared<'_, L> {
             connection.end(rt);
         }
         self.frame_news.end(rt);
+        self.timer.wake();
     }
 
     /// A listener has failed, which ends the node.
@@ -114,9 +119,36 @@ impl<L: Ledger> Shared<'_, L> {
         }
     }
 
+    /// Sends each peer what it is owed.
+    pub fn send_owed<R: Wait + Clock>(&self, rt: &R, owed: &Owed, room: &mut Room) {
+        if owed.shares().is_empty() {
+            return;
+        }
+        for outbox in &self.outboxes {
+            room.frames.clear();
+            let mut from = 0usize;
+            for share in owed.shares() {
+                let to = from.saturating_add(share.count);
+                if share.peer == outbox.to {
+                    let messages = owed.messages().get(from..to).unwrap_or(&[]);
+                    self.seal_more(outbox.to, messages, &mut room.frames);
+                }
+                from = to;
+            }
+            if !room.frames.is_empty() {
+                outbox.send(rt, &room.frames, &mut room.bytes);
+            }
+        }
+    }
+
     /// The frames of messages to a node, in place of those that are there.
     fn seal_all(&self, to: NodeName, messages: &[Message], frames: &mut Vec<Frame>) {
         frames.clear();
+        self.seal_more(to, messages, frames);
+    }
+
+    /// The frames of messages to a node, behind those that are there.
+    fn seal_more(&self, to: NodeName, messages: &[Message], frames: &mut Vec<Frame>) {
         for message in messages {
             if let Some(frame) = self.links.seal(to, message) {
                 let _ = frames.push(frame);

@@ -34,7 +34,7 @@ impl Task<'_> {
     {
         match self {
             Task::Work => shared.do_jobs(rt),
-            Task::SendFrames(outbox) => send_frames(rt, alloc, outbox),
+            Task::SendFrames(outbox) => send_frames(rt, alloc, outbox, &shared.timer),
             Task::TakeFrames { port, queue } => port.take_frames(rt, alloc, shared, queue),
             Task::Accept(listener) => accept(rt, alloc, shared, listener),
         }

@@ -7,13 +7,16 @@ ghost use Rattle.role_daemon.specs.Served.{served, sent_outcome};
 use crate::answers::{hold_answer, listed};
 use crate::serve::caller::Caller;
 use crate::serve::connection::LineAnswers;
+use crate::serve::front::Front;
 use crate::serve::job_queue::JobQueue;
 use crate::serve::shared::{Room, Shared};
+use crate::serve::timer::millis;
 use client_lines::ClientAnswer;
 use frame_queues::FirstPackets;
 use link_frames::{Held, Message, Packet};
 use node_lock::{Call, Job, Locked, Outcome, Seat, View};
 use owner_streams::WINDOW;
+use peer_windows::Owed;
 use quorum_sizes::NodeName;
 use role_node::{Event, NodeFault, Reply};
 use role_sessions::SessionFault;
@@ -51,6 +54,8 @@ pub struct Worker<'a, L: Ledger> {
     seat: Seat<L>,
     done: Vec<Done>,
     messages: Vec<Message>,
+    /// What goes to single peers.
+    owed: Owed,
     room: Room,
     shares: Vec<Share>,
 }
@@ -65,6 +70,7 @@ impl<'a, L: Ledger> Worker<'a, L> {
         alloc: Global,
         queue: JobQueue<'a>,
         seat: Seat<L>,
+        nodes: u8,
     ) -> Result<Worker<'a, L>, AllocError> {
         Ok(Worker {
             alloc,
@@ -72,30 +78,46 @@ impl<'a, L: Ledger> Worker<'a, L> {
             seat,
             done: Vec::with_capacity(alloc, MOST_BATCH)?,
             messages: Vec::with_capacity(alloc, MOST_BATCH)?,
+            owed: Owed::new(alloc, nodes)?,
             room: Room::new(alloc, MOST_BATCH)?,
             shares: Vec::with_capacity(alloc, MOST_BATCH)?,
         })
     }
 
-    /// Makes the calls of what comes first and of jobs, each by one hold, all under one lock, until nothing is left or
-    /// the batch is full. Whether it is full.
-    pub fn take_jobs<R: Wait>(
+    /// Makes the calls of what comes first and of jobs, each by one hold, until nothing is left or the batch is full, and
+    /// gathers what is due to single peers, all under one lock. Whether there is more.
+    pub fn take_jobs<R: Wait + Clock>(
         &mut self,
         rt: &R,
         shared: &Shared<'a, L>,
-        first: &mut FirstPackets,
+        front: &mut Front,
     ) -> bool {
-        let me = shared.links.me();
+        let now = millis(rt);
         let mut locked = shared.node.node.lock(rt);
+        let is_full = self.call_jobs(rt, &mut locked, shared.links.me(), front, now);
+        front.gather(rt, shared, &mut locked, &mut self.seat, now, &mut self.owed);
+        is_full || !front.again.is_empty()
+    }
+
+    /// Makes the calls of what comes first and of jobs, until nothing is left or the batch is full. Whether it is full.
+    fn call_jobs<R: Wait>(
+        &mut self,
+        rt: &R,
+        locked: &mut Locked<L>,
+        me: NodeName,
+        front: &mut Front,
+        now: u64,
+    ) -> bool {
         for _ in self.done.len()..MOST_BATCH {
-            let Some(job) = next_job(rt, first, &mut self.queue) else {
+            let Some(job) = next_job(rt, front, &mut self.queue) else {
                 return false;
             };
             let caller = Caller::of(job.number);
             let packet = taken_packet(&job.call);
-            let said = call(&mut locked, &mut self.seat, job.call, me);
+            let said = call(&mut *locked, &mut self.seat, job.call, me);
             if let Some((outcome, _)) = &said {
-                self.note(first, me, packet, outcome);
+                self.note(&mut front.first, me, packet, outcome);
+                front.note(&mut *locked, &mut self.seat, now, packet.as_ref(), outcome);
             }
             let _ = self.done.push(Done { caller, said });
         }
@@ -125,6 +147,8 @@ impl<'a, L: Ledger> Worker<'a, L> {
     pub fn send<R: Wait + Clock>(&mut self, rt: &R, shared: &Shared<'a, L>) {
         shared.send_to_peers(rt, &self.messages, &mut self.room);
         self.messages.clear();
+        shared.send_owed(rt, &self.owed, &mut self.room);
+        self.owed.clear();
     }
 
     /// Tells each client what was done for it, and its answers, and the thread of the peers how many of its jobs are
@@ -168,11 +192,16 @@ fn own_packet(me: NodeName, message: &Message) -> Option<Packet> {
     Packet::new(me, me, *message)
 }
 
-/// The next job: a packet that comes first, else what waits in the inbox.
-fn next_job<R: Wait>(rt: &R, first: &mut FirstPackets, queue: &mut JobQueue<'_>) -> Option<Job>
-    ensures { first.new.own ≡ None }
+/// The next job: a packet that comes first, else one that the node sends to itself once more, else what waits in the
+/// inbox.
+fn next_job<R: Wait>(rt: &R, front: &mut Front, queue: &mut JobQueue<'_>) -> Option<Job>
+    ensures { front.new.first.own ≡ None }
 {
-    match first.next() {
+    let first = front.first.next();
+    if let Some(packet) = first {
+        return Some(job_of(packet));
+    }
+    match front.again.pop_front() {
         Some(packet) => Some(job_of(packet)),
         None => queue.take(rt),
     }

@@ -1,0 +1,17 @@
+use Rattle.std.proofs.Common.{◌≡◌}
+use Rattle.peer_windows.specs.Owed.{IsGathered}
+use Rattle.peer_windows.proofs.pairs.Pairs.gather.Given as goal
+
+abbrev pub invariant-owners : goal.invariant-owners
+invariant-owners g l =
+    record {
+      same : l.locked ≡ l.initial.locked;
+      gathered : IsGathered l.initial.locked l.initial.owed l.owed;
+    }
+
+abbrev pub invariant-peers : goal.invariant-peers
+invariant-peers g l =
+    record {
+      same : l.locked ≡ l.initial.locked;
+      gathered : IsGathered l.initial.locked l.initial.owed l.owed;
+    }

@@ -1,0 +1,10 @@
+use Rattle.std.proofs.Common.{◌≡◌}
+use Rattle.peer_windows.specs.Owed.{IsGathered}
+use Rattle.peer_windows.proofs.pairs.Pairs.gather_owner.Given as goal
+
+abbrev pub invariant-loop-peer : goal.invariant-loop-peer
+invariant-loop-peer g l =
+    record {
+      same : l.locked ≡ l.initial.locked;
+      gathered : IsGathered l.initial.locked l.initial.owed l.owed;
+    }

@@ -1,0 +1,10 @@
+use Rattle.std.proofs.Common.{◌≡◌}
+use Rattle.peer_windows.specs.Owed.{IsGathered}
+use Rattle.peer_windows.proofs.pairs.Pairs.gather_probes.Given as goal
+
+abbrev pub invariant-loop-owner : goal.invariant-loop-owner
+invariant-loop-owner g l =
+    record {
+      same : l.locked ≡ l.initial.locked;
+      gathered : IsGathered l.initial.locked l.initial.owed l.owed;
+    }
