@@ -21,8 +21,6 @@ mod crew;
 mod frame_jobs;
 mod front;
 #[cfg(test)]
-mod heal_tests;
-#[cfg(test)]
 mod idle_tests;
 mod job_queue;
 mod last_writes;

@@ -1,13 +1,10 @@
 //! Each public call once: windows, pauses, what a frame of a peer brings.
 
-
-use peer_windows::{
-    FIRST_PAUSE, Level, Pairs, PeerWindow, Repeat, Seen, vote_end,
-};
+use peer_windows::{FIRST_PAUSE, Level, Pairs, PeerWindow, Repeat, Seen, vote_end};
 use quorum_sizes::{NodeName, Sizes};
 use std::test::Fail;
 
-/// A time that is not the first.
+/// A time that is not the first, in milliseconds.
 const NOW: u64 = 1_000;
 
 /// The name of a node of four.
@@ -25,7 +22,8 @@ fn a_window_lies_around_the_last_vote(rt: HostRuntime) {
         (Some(65), 1, 130),
         (Some(1_048_575), 1_048_511, 1_048_640),
     ] {
-        assert!(rt; PeerWindow::around(last) == PeerWindow { from, to }, "around {last:?}");
+        let window = PeerWindow { from, to };
+        assert!(rt; PeerWindow::around(last) == window, "around {last:?}");
     }
     assert!(rt; (vote_end(None), vote_end(Some(7))) == (0, 8));
 }
@@ -50,32 +48,48 @@ fn a_pair_is_settled_where_the_peer_has_voted_as_far_and_nothing_is_outstanding(
 
 #[test]
 fn what_grows_is_looked_at_after_the_first_pause(rt: HostRuntime) -> Result<(), Fail> {
+    let first = NOW + u64::from(FIRST_PAUSE);
     let mut pairs = Pairs::new(rt.alloc(), Sizes::new(4, 1)?, name(0)?, NOW)?;
-    assert!(rt; pairs.next_due() == NOW + u64::from(FIRST_PAUSE), "the node's own pairs");
+    assert!(rt; pairs.next_due() == first, "the node's own pairs");
     pairs.grow(NOW + 7, name(1)?);
-    assert!(rt; pairs.next_due() == NOW + u64::from(FIRST_PAUSE), "no later");
-    let mut later = Pairs::new(rt.alloc(), Sizes::new(4, 1)?, name(0)?, NOW)?;
-    later.connected(NOW - 20, name(2)?);
-    assert!(rt; later.next_due() == NOW + 30, "those of a new connection");
+    assert!(rt; pairs.next_due() == first, "what is due before stays");
+    pairs.grow(NOW - 20, name(1)?);
+    assert!(rt; pairs.next_due() == first - 20, "what grows");
+    pairs.connected(NOW - 30, name(2)?);
+    assert!(rt; pairs.next_due() == first - 30, "the pairs of a new connection");
     Ok(())
 }
 
-/// Of a peer that is behind, one frame brings something, and no other within the pause.
 #[test]
-fn who_is_behind_is_answered_once_in_a_pause(rt: HostRuntime) -> Result<(), Fail> {
+fn who_is_behind_is_owed_a_window_at_once(rt: HostRuntime) -> Result<(), Fail> {
     let mut pairs = Pairs::new(rt.alloc(), Sizes::new(4, 1)?, name(0)?, NOW)?;
     let level = Level { reach: 9, voted: 3 };
-    let behind = Repeat {
-        place: 2,
-        is_ready: true,
+    for (place, is_ready, is_owed) in [(9, true, true), (8, true, false), (8, false, true)] {
+        let mut pairs = Pairs::new(rt.alloc(), Sizes::new(4, 1)?, name(0)?, NOW)?;
+        let repeat = Repeat { place, is_ready };
+        pairs.hear(NOW, name(1)?, name(2)?, level, repeat);
+        assert!(rt; (pairs.next_due() == NOW) == is_owed, "{repeat:?}");
+        pairs.hear(NOW, name(1)?, name(2)?, level, repeat);
+        assert!(rt; pairs.next_due() == NOW, "what comes twice is no probe: {repeat:?}");
+    }
+    let mut moving = Pairs::new(rt.alloc(), Sizes::new(4, 1)?, name(0)?, NOW)?;
+    moving.move_on(NOW, name(1)?, name(2)?);
+    let repeat = Repeat {
+        place: 3,
+        is_ready: false,
     };
-    let open = Repeat {
-        place: 9,
-        is_ready: true,
-    };
-    pairs.hear(NOW, name(1)?, name(2)?, level, open);
-    assert!(rt; pairs.next_due() > NOW, "what is not below the reach says nothing");
-    pairs.hear(NOW, name(1)?, name(2)?, level, behind);
-    assert!(rt; pairs.next_due() == NOW, "the window is owed");
+    moving.hear(NOW, name(1)?, name(2)?, level, repeat);
+    assert!(rt; moving.next_due() > NOW, "who gets on by itself");
+    pairs.pass(NOW, name(1)?, name(2)?, level);
+    assert!(rt; pairs.next_due() == NOW, "a tail to who is further");
+    Ok(())
+}
+
+#[test]
+fn who_catches_up_is_owed_the_rest(rt: HostRuntime) -> Result<(), Fail> {
+    let mut pairs = Pairs::new(rt.alloc(), Sizes::new(4, 1)?, name(0)?, NOW)?;
+    assert!(rt; !pairs.is_served(name(1)?, name(2)?), "no window went");
+    pairs.vote(NOW, name(1)?, name(2)?, Level { reach: 90, voted: 33 });
+    assert!(rt; pairs.next_due() > NOW, "nothing is owed without one");
     Ok(())
 }
