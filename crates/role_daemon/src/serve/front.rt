@@ -1,5 +1,8 @@
 //! What comes before the inbox, and what is sent to single peers.
 
+ghost use Rattle.std.specs.Prelude.{◌≤◌};
+ghost use Rattle.peer_windows.specs.Pauses.{most_time};
+
 use crate::serve::shared::Shared;
 use frame_queues::FirstPackets;
 use link_frames::Packet;
@@ -45,7 +48,9 @@ impl Front {
         now: u64,
         packet: Option<&Packet>,
         outcome: &Outcome,
-    ) {
+    )
+        requires { now ≤ most_time }
+    {
         self.pairs.note(locked, seat, now, packet, outcome);
     }
 
@@ -58,7 +63,9 @@ impl Front {
         seat: &mut Seat<L>,
         now: u64,
         owed: &mut Owed,
-    ) {
+    )
+        requires { now ≤ most_time }
+    {
         if shared.timer.has_connected(rt) {
             for outbox in &shared.outboxes {
                 if shared.timer.take_connected(rt, outbox.to) {

@@ -1,5 +1,8 @@
 //! When something is due for which nobody rings.
 
+ghost use Rattle.std.specs.Prelude.{◌≤◌};
+ghost use Rattle.peer_windows.specs.Pauses.{most_time};
+
 use mio::Waker;
 use peer_windows::{MOST_TIME, NEVER};
 use quorum_sizes::NodeName;
@@ -119,7 +122,9 @@ impl Timer {
 }
 
 /// The time, in milliseconds from some start on. It stands still while the clock fails.
-pub fn millis<R: Clock>(rt: &R) -> u64 {
+pub fn millis<R: Clock>(rt: &R) -> u64
+    ensures { result ≤ most_time }
+{
     match rt.monotonic() {
         Ok(time) => whole_millis(time).min(MOST_TIME),
         Err(_) => 0,

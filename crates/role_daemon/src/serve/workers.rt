@@ -1,7 +1,8 @@
 //! The workers, who make the calls of all jobs.
 
-ghost use Rattle.std.specs.Prelude.{◌≡◌, IfSome};
+ghost use Rattle.std.specs.Prelude.{◌≡◌, ◌≤◌, IfSome};
 ghost use Rattle.client_lines.specs.AnswerTexts.{IsWritten};
+ghost use Rattle.peer_windows.specs.Pauses.{most_time};
 ghost use Rattle.role_daemon.specs.Served.{served, sent_outcome};
 
 use crate::answers::{hold_answer, listed};
@@ -107,7 +108,9 @@ impl<'a, L: Ledger> Worker<'a, L> {
         me: NodeName,
         front: &mut Front,
         now: u64,
-    ) -> bool {
+    ) -> bool
+        requires { now ≤ most_time }
+    {
         for _ in self.done.len()..MOST_BATCH {
             let Some(job) = next_job(rt, front, &mut self.queue) else {
                 return false;
