@@ -18,7 +18,7 @@ from dataclasses import dataclass
 
 FRAME = 54  # bytes
 BLOCK = 65_536  # bytes that are read at once
-MOST_PENDING = 65_536  # bytes that wait for a node; then no more is read of who sends them
+MOST_PENDING = 8_192  # bytes that wait for a node; then no more is read of who sends them
 BUFFER = 8_192  # bytes of a socket, so that little is on its way
 LONGEST = 300  # seconds for which the process serves
 LOOPBACK = "127.0.0.1"
