@@ -65,7 +65,8 @@ passed now level pair =
 
 -- a window was sent
 abbrev pub served : ℕ → ℕ → ℕ → Pair → Pair
-served now voted end pair = record pair { served = Some (record { voted = voted; end = end }); served_until = now + first_pause }
+served now voted end pair =
+    record pair { served = Some (record { voted = voted; end = end }); served_until = now + first_pause }
 
 -- a vote of the peer has counted
 abbrev pub moved_on : ℕ → Pair → Pair

@@ -1,5 +1,6 @@
 -- The pairs of owners and peers, and when they are looked at.
-use Rattle.std.specs.Prelude.{◌≡◌, ℕ, ◌+◌, ◌<◌, ◌≤◌, Bool, not, ◌&&◌, nat_le, nat_lt, length, if◌then◌else◌, is_some, List, [], ◌∷◌, ◌++◌, min}
+use Rattle.std.specs.Prelude.{◌≡◌, ℕ, ◌+◌, ◌<◌, ◌≤◌, Bool, not, ◌&&◌, nat_le, nat_lt, length, if◌then◌else◌}
+use Rattle.std.specs.Prelude.{is_some, List, [], ◌∷◌, ◌++◌, min}
 use Rattle.std.specs.Prelude.{slice_index_or, slice_set}
 use Rattle.peer_windows.specs.Pauses.{first_pause, never}
 use Rattle.peer_windows.specs.Pairs.{is_nothing, new_pair, anew}
@@ -20,8 +21,8 @@ is_served pair = is_some pair.served
 abbrev pub owes : Pair → Bool
 owes pair = not (is_nothing pair.owed)
 
--- The node's name and the longest pause between looks; the pairs of each owner; when those of each owner are looked at next, when something of its stream last grew, and when
--- each peer is probed next; and whose turn it is.
+-- The node's name and the longest pause between looks; the pairs of each owner; when those of each owner are looked at
+-- next, when something of its stream last grew, and when each peer is probed next; and whose turn it is.
 pub record PairsValue : Type 0 where
   pub me : ℕ
   pub longest : ℕ

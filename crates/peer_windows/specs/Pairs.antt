@@ -84,7 +84,7 @@ looked now longest seen pair =
     if goes_on pair.seen seen then anew now longest (record pair { seen = seen; silent = false })
     else (if seems_settled seen then record pair { seen = seen; silent = false; tailed = false; look = asleep }
     else insisted now longest (nat_lt pair.seen.voted seen.voted)
-        (record pair { seen = seen; silent = is_silent pair.seen seen }))
+    (record pair { seen = seen; silent = is_silent pair.seen seen }))
 
 -- something is owed, or it is time for a look
 abbrev pub is_due : ℕ → Pair → Bool
@@ -108,7 +108,7 @@ attended_step now seen pair =
 abbrev pub attended : ℕ → ℕ → Seen → Pair → Pair
 attended now longest seen pair =
     if is_nothing pair.owed then
-      (if is_looked_at now seen pair then looked now longest seen pair
-      else (if is_brought_forward seen pair
-        then record pair { look = ended_by (now + first_pause) pair.look } else pair))
+    (if is_looked_at now seen pair then looked now longest seen pair
+    else (if is_brought_forward seen pair
+    then record pair { look = ended_by (now + first_pause) pair.look } else pair))
     else record pair { owed = Nothing }

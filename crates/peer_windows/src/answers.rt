@@ -31,8 +31,8 @@ pub struct Repeat {
 }
 
 impl Pair {
-    /// The peer has sent again what changes nothing, so it is not settled. It is owed its window, once in a pause, which
-    /// grows while it doesn't vote further; but nothing for a probe, and nothing while it gets on by itself.
+    /// The peer has sent again what changes nothing, so it is not settled. It is owed its window, once in a pause,
+    /// which grows while it doesn't vote further; but nothing for a probe, and nothing while it gets on by itself.
     pub(crate) fn hear(&mut self, now: u64, level: Level, repeat: Repeat)
         requires { now ≤ most_time }
         ensures { self.new ≡ heard now level repeat self.old }
@@ -77,8 +77,8 @@ impl Pair {
         }
     }
 
-    /// The peer has sent something beyond the window, so this node is behind: the peer is owed the tail, once in a pause
-    /// that grows while nothing else does.
+    /// The peer has sent something beyond the window, so this node is behind: the peer is owed the tail, once in a
+    /// pause that grows while nothing else does.
     pub(crate) fn pass(&mut self, now: u64, level: Level)
         requires { now ≤ most_time }
         ensures { self.new ≡ passed now level self.old }
@@ -112,8 +112,8 @@ impl Pair {
         self.served_until = now + u64::from(FIRST_PAUSE);
     }
 
-    /// The peer has voted. Where it catches up, and has come far enough since its last window, it is owed what is behind
-    /// that one.
+    /// The peer has voted. Where it catches up, and has come far enough since its last window, it is owed what is
+    /// behind that one.
     pub(crate) fn vote(&mut self, now: u64, level: Level)
         requires { now ≤ most_time }
         ensures { self.new ≡ voted_on now level self.old }

@@ -32,7 +32,9 @@ impl Pairs {
             (Outcome::Reply(Reply::Counted { .. }), Some(packet)) => {
                 self.note_counted(locked, seat, now, packet);
             }
-            (Outcome::Reply(Reply::Idle), Some(packet)) => self.note_idle(locked, seat, now, packet),
+            (Outcome::Reply(Reply::Idle), Some(packet)) => self.note_idle(
+                locked, seat, now, packet,
+            ),
             (Outcome::Refused(NodeFault::Beyond { .. }), Some(packet)) => {
                 let (owner, peer) = (packet.owner(), packet.from());
                 if let Some(level) = level_in(locked, seat, owner, peer) {

@@ -113,7 +113,8 @@ impl Pairs {
         self.look_by(owner, now + u64::from(FIRST_PAUSE));
     }
 
-    /// Something of the owner's stream has grown: its reach, what this node has sent in it, or how far a peer has voted.
+    /// Something of the owner's stream has grown: its reach, what this node has sent in it, or how far a peer has
+    /// voted.
     pub fn grow(&mut self, now: u64, owner: NodeName)
         requires { now ≤ most_time }
         ensures { self.new ≡ grown self.old owner now }
@@ -168,14 +169,7 @@ impl Pairs {
     }
 
     /// A packet of the peer has changed nothing.
-    pub fn hear(
-        &mut self,
-        now: u64,
-        owner: NodeName,
-        peer: NodeName,
-        level: Level,
-        repeat: Repeat,
-    )
+    pub fn hear(&mut self, now: u64, owner: NodeName, peer: NodeName, level: Level, repeat: Repeat)
         requires { now ≤ most_time }
         ensures { self.new ≡ owed_now now owner peer
             (with_pair_at self.old owner peer (heard now level repeat (pair_at self.old owner peer))) }
@@ -209,8 +203,7 @@ impl Pairs {
         requires { now ≤ most_time }
         ensures { result ≡ is_still now owner self.now }
     {
-        owner < self.moved.len()
-            && self.moved[owner].saturating_add(u64::from(FIRST_PAUSE)) <= now
+        owner < self.moved.len() && self.moved[owner].saturating_add(u64::from(FIRST_PAUSE)) <= now
     }
 
     /// Where something is owed to the peer, the owner's pairs are looked at now.
@@ -237,12 +230,7 @@ fn longest_look(nodes: u8) -> u32
 }
 
 /// When each peer is probed first: one after another, from the node's own name on.
-fn first_probes(
-    alloc: Global,
-    nodes: u8,
-    me: NodeName,
-    now: u64,
-) -> Result<Vec<u64>, AllocError>
+fn first_probes(alloc: Global, nodes: u8, me: NodeName, now: u64) -> Result<Vec<u64>, AllocError>
     requires { now ≤ most_time }
 {
     let mut probes = Vec::with_capacity(alloc, usize::from(nodes))?;

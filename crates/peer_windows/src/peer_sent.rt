@@ -129,8 +129,8 @@ pub fn level_of<L: Ledger>(
     })
 }
 
-/// What is seen of the peer beside the owner's stream, which was looked at after this history. Both must be nodes of the
-/// sizes.
+/// What is seen of the peer beside the owner's stream, which was looked at after this history. Both must be nodes of
+/// the sizes.
 pub fn seen_of<L: Ledger>(
     locked: &Locked<L>,
     look: &StreamLook,

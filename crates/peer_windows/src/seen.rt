@@ -24,7 +24,8 @@ pub struct Seen {
 }
 
 impl Seen {
-    /// Whether the pair is settled: the peer has voted as far as the stream reaches, and nothing was sent from there on.
+    /// Whether the pair is settled: the peer has voted as far as the stream reaches, and nothing was sent from there
+    /// on.
     pub fn is_settled(&self) -> bool
         ensures { result ≡ seems_settled self.now }
     {

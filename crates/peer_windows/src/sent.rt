@@ -154,8 +154,8 @@ fn push_last_ready<L: Ledger>(
     Ok(())
 }
 
-/// Puts the tail of the owner's stream behind the messages: the READY at the last place that it reaches beyond, and what
-/// was sent at its end. The owner must be a node of the sizes.
+/// Puts the tail of the owner's stream behind the messages: the READY at the last place that it reaches beyond, and
+/// what was sent at its end. The owner must be a node of the sizes.
 ///
 /// # Errors
 ///

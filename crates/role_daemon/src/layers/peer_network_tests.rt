@@ -78,8 +78,13 @@ impl<L: Ledger, R: Wait> Stand for Station<'_, L, R> {
             return 0;
         };
         let outcome = receipt.outcome;
-        self.pairs
-            .note(&mut locked, &mut self.seat, now.min(REST), packet.as_ref(), &outcome);
+        self.pairs.note(
+            &mut locked,
+            &mut self.seat,
+            now.min(REST),
+            packet.as_ref(),
+            &outcome,
+        );
         if let Outcome::Reply(reply) = &outcome {
             if let Some(message) = reply.message() {
                 let _ = sent.push_back(Sent { to: None, message });
@@ -94,9 +99,13 @@ impl<L: Ledger, R: Wait> Stand for Station<'_, L, R> {
         }
         let mut locked = self.shared.node.lock(self.rt);
         let mut rooms = [Some(10 * ENOUGH_ROOM); 4];
-        let _ = self
-            .pairs
-            .gather(&mut locked, &mut self.seat, now.min(REST), &mut rooms, &mut self.owed);
+        let _ = self.pairs.gather(
+            &mut locked,
+            &mut self.seat,
+            now.min(REST),
+            &mut rooms,
+            &mut self.owed,
+        );
         let mut messages = self.owed.messages().iter();
         for share in self.owed.shares() {
             for _ in 0..share.count {
@@ -255,7 +264,11 @@ fn sent_again(stands: &[&mut dyn Stand]) -> u64 {
 }
 
 /// Has node 0 publish while packets are lost, and sees that all come through and then rest.
-fn come_through<R: Abort>(rt: &R, alloc: Global, stands: &mut [&mut dyn Stand]) -> Result<(), Fail> {
+fn come_through<R: Abort>(
+    rt: &R,
+    alloc: Global,
+    stands: &mut [&mut dyn Stand],
+) -> Result<(), Fail> {
     let mut network = Network::new(alloc)?;
     let mut sent = VecDeque::new(alloc);
     let owner = network.names.first().copied().ok_or("no node")?;
@@ -275,7 +288,10 @@ fn come_through<R: Abort>(rt: &R, alloc: Global, stands: &mut [&mut dyn Stand]) 
     }
     for stand in stands.iter_mut() {
         let reach = stand.reach(owner);
-        assert!(rt; reach == COMMANDS, "all of {COMMANDS} came through: {reach}");
+        assert!(rt;
+            reach == COMMANDS,
+            "all of {COMMANDS} came through: {reach}"
+        );
     }
     let before = sent_again(stands);
     for now in END..REST {
@@ -283,7 +299,10 @@ fn come_through<R: Abort>(rt: &R, alloc: Global, stands: &mut [&mut dyn Stand]) 
     }
     assert!(rt; before > 0, "something was sent again");
     let after = sent_again(stands);
-    assert!(rt; after == before, "at rest nothing is sent again: {before}, {after}");
+    assert!(rt;
+        after == before,
+        "at rest nothing is sent again: {before}, {after}"
+    );
     Ok(())
 }
 

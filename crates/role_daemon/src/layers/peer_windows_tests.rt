@@ -56,7 +56,10 @@ fn what_grows_is_looked_at_after_the_first_pause(rt: HostRuntime) -> Result<(), 
     pairs.grow(NOW - 20, name(1)?);
     assert!(rt; pairs.next_due() == first - 20, "what grows");
     pairs.connected(NOW - 30, name(2)?);
-    assert!(rt; pairs.next_due() == first - 30, "the pairs of a new connection");
+    assert!(rt;
+        pairs.next_due() == first - 30,
+        "the pairs of a new connection"
+    );
     Ok(())
 }
 
@@ -70,7 +73,10 @@ fn who_is_behind_is_owed_a_window_at_once(rt: HostRuntime) -> Result<(), Fail> {
         pairs.hear(NOW, name(1)?, name(2)?, level, repeat);
         assert!(rt; (pairs.next_due() == NOW) == is_owed, "{repeat:?}");
         pairs.hear(NOW, name(1)?, name(2)?, level, repeat);
-        assert!(rt; pairs.next_due() == NOW, "what comes twice is no probe: {repeat:?}");
+        assert!(rt;
+            pairs.next_due() == NOW,
+            "what comes twice is no probe: {repeat:?}"
+        );
     }
     let mut moving = Pairs::new(rt.alloc(), Sizes::new(4, 1)?, name(0)?, NOW)?;
     moving.move_on(NOW, name(1)?, name(2)?);
@@ -89,7 +95,15 @@ fn who_is_behind_is_owed_a_window_at_once(rt: HostRuntime) -> Result<(), Fail> {
 fn who_catches_up_is_owed_the_rest(rt: HostRuntime) -> Result<(), Fail> {
     let mut pairs = Pairs::new(rt.alloc(), Sizes::new(4, 1)?, name(0)?, NOW)?;
     assert!(rt; !pairs.is_served(name(1)?, name(2)?), "no window went");
-    pairs.vote(NOW, name(1)?, name(2)?, Level { reach: 90, voted: 33 });
+    pairs.vote(
+        NOW,
+        name(1)?,
+        name(2)?,
+        Level {
+            reach: 90,
+            voted: 33,
+        },
+    );
     assert!(rt; pairs.next_due() > NOW, "nothing is owed without one");
     Ok(())
 }

@@ -131,12 +131,7 @@ impl<'a, L: Ledger> Shared<'a, L> {
 
     /// What comes before the inbox, for the worker that takes jobs, if it takes more that were put since it looked. If
     /// its batch is full they are left to others, who look at once.
-    fn takes_on<R: Wait>(
-        &self,
-        rt: &R,
-        is_full: bool,
-        front: Front,
-    ) -> Option<Front> {
+    fn takes_on<R: Wait>(&self, rt: &R, is_full: bool, front: Front) -> Option<Front> {
         let is_due = {
             let mut crew = self.crew.lock(rt);
             if crew.value.jobs && !is_full {

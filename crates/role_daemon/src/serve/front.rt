@@ -77,9 +77,7 @@ impl Front {
             self.look_at_rooms(rt, shared, owed);
             let before = owed.shares().len();
             // what was gathered before a fault is sent
-            let _ = self
-                .pairs
-                .gather(locked, seat, now, &mut self.rooms, owed);
+            let _ = self.pairs.gather(locked, seat, now, &mut self.rooms, owed);
             self.keep_own(shared.links.me(), owed, before);
         }
         shared.timer.set(rt, self.pairs.next_due());
@@ -87,12 +85,7 @@ impl Front {
 
     /// How many frames each node takes, beside those that are owed to it already. The node itself takes some where it
     /// has taken all before.
-    fn look_at_rooms<L: Ledger, R: Wait>(
-        &mut self,
-        rt: &R,
-        shared: &Shared<'_, L>,
-        owed: &Owed,
-    ) {
+    fn look_at_rooms<L: Ledger, R: Wait>(&mut self, rt: &R, shared: &Shared<'_, L>, owed: &Owed) {
         self.rooms.fill(None);
         for outbox in &shared.outboxes {
             if let Some(room) = self.rooms.get_mut(usize::from(outbox.to.index())) {
@@ -101,7 +94,11 @@ impl Front {
         }
         let me = shared.links.me();
         if let Some(room) = self.rooms.get_mut(usize::from(me.index())) {
-            *room = Some(if self.again.is_empty() { ENOUGH_ROOM } else { 0 });
+            *room = Some(if self.again.is_empty() {
+                ENOUGH_ROOM
+            } else {
+                0
+            });
         }
         for share in owed.shares() {
             if let Some(Some(room)) = self.rooms.get_mut(usize::from(share.peer.index())) {

@@ -24,8 +24,8 @@ const LONG_LIFE: u64 = 1_000;
 /// How many milliseconds a connection may take to be made, and to take some bytes.
 const PATIENCE: u64 = 500;
 
-/// Connects an outbox with its peer, until the end, and again when the connection has ended, after a pause that grows to
-/// a second. The timer hears of each connection.
+/// Connects an outbox with its peer, until the end, and again when the connection has ended, after a pause that grows
+/// to a second. The timer hears of each connection.
 pub fn send_frames<R: Net<Stream = TcpStream> + Wait + Clock>(
     rt: &R,
     alloc: Global,

@@ -85,8 +85,8 @@ impl<'a, L: Ledger> Worker<'a, L> {
         })
     }
 
-    /// Makes the calls of what comes first and of jobs, each by one hold, until nothing is left or the batch is full, and
-    /// gathers what is due to single peers, all under one lock. Whether there is more.
+    /// Makes the calls of what comes first and of jobs, each by one hold, until nothing is left or the batch is full,
+    /// and gathers what is due to single peers, all under one lock. Whether there is more.
     pub fn take_jobs<R: Wait + Clock>(
         &mut self,
         rt: &R,
