@@ -5,5 +5,4 @@ mod client_lines_op_tests;
 mod client_lines_tests;
 mod frame_queues_tests;
 mod node_lock_tests;
-mod peer_network_tests;
 mod peer_windows_tests;

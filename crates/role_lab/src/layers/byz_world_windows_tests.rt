@@ -102,11 +102,14 @@ fn lost(world: &mut World) -> Result<(), Fail> {
 /// A node sends again to a peer what it has sent around the last vote that it took of it, from so many places below.
 fn send_again(world: &mut World, from: u8, to: u8, below: u32) -> Result<(), Fail> {
     let node = world.node(name(from)?).ok_or("it lies")?;
-    let voted_to = match node.last_vote(name(0)?, name(to)?) {
+    let sizes = node.config().roles().sizes();
+    let owner = sizes.name(0).ok_or("no node")?;
+    let peer = sizes.name(to).ok_or("no node")?;
+    let voted_to = match node.last_vote(owner, peer) {
         Some(place) => place + 1,
         None => 0,
     };
-    for place in voted_to.saturating_sub(below + 1)..voted_to + WINDOW {
+    for place in voted_to.saturating_sub(below.saturating_add(1))..voted_to + WINDOW {
         for kind in [Kind::Send, Kind::Echo, Kind::Ready] {
             arrive(world, kind, from, to, place)?;
         }
@@ -127,7 +130,9 @@ fn reaches(alloc: Global, below: u32) -> Result<[u32; 3], Fail> {
     }
     let mut reaches = [0; 3];
     for (node, reach) in CORRECT.iter().zip(&mut reaches) {
-        *reach = world.node(name(*node)?).ok_or("it lies")?.reach(name(0)?);
+        let node = world.node(name(*node)?).ok_or("it lies")?;
+        let owner = node.config().roles().sizes().name(0);
+        *reach = node.reach(owner.ok_or("no node")?);
     }
     Ok(reaches)
 }
