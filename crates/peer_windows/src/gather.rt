@@ -144,7 +144,7 @@ impl Pairs {
     }
 
     /// Gathers the probes of a peer, if they are due: one for each pair of it that sleeps.
-    #[tactic(auto, using(crate::proofs::Gathering::gathered_none, crate::proofs::Gathering::gathered_more, crate::proofs::Gathering::pushed_gathered))]
+    #[tactic(auto, using(crate::proofs::Gathering::gathered_none, crate::proofs::Gathering::gathered_more))]
     fn gather_probes<L: Ledger>(
         &mut self,
         locked: &mut Locked<L>,
