@@ -1,2 +1,5 @@
 pub mod Orders
 pub mod Counts
+pub mod FrameBytes
+pub mod UnsentLemmas
+pub mod BlockLemmas

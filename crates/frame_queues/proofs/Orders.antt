@@ -1,5 +1,5 @@
 -- Packets in the order of their places, and one more among them.
-use Rattle.std.proofs.Common.{◌≡◌, ℕ, zero, suc, ◌+◌, ◌-◌, ◌<◌, ◌≤◌, List, [], ◌∷◌, ◌++◌, length, get_or, take}
+use Rattle.std.proofs.Common.{◌≡◌, ℕ, zero, suc, ◌+◌, ◌<◌, ◌≤◌, List, [], ◌∷◌, ◌++◌, length, get_or, take}
 use Rattle.std.proofs.Common.{drop, refl, subst, arith}
 use Rattle.std.specs.Prelude.{All, IfSome, Option, Some, None}
 use Rattle.std.specs.List.{insert}

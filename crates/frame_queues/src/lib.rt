@@ -1,14 +1,20 @@
-//! What a server does with packets beside its inbox: which come before the jobs that wait there, which wait until their
-//! owner's stream has grown, and in which turns the frames of several connections are put.
+//! What a server does with packets and frames beside its inbox: which packets come before the jobs that wait there,
+//! which wait until their owner's stream has grown, in which turns the frames of several connections are put, how the
+//! bytes of a connection are read as frames, and how frames wait until they are written over one.
 //!
 //! Nothing here knows of sockets, threads or locks.
 #![tactic(auto)]
 
 mod first_packets;
+mod frame_block;
+pub mod laws;
 mod parked_packets;
 mod stream_packets;
 mod turns;
+mod unsent_frames;
 
 pub use first_packets::FirstPackets;
+pub use frame_block::{BLOCK_FRAMES, Came, FrameBlock};
 pub use parked_packets::{MOST_PARKED, ParkedPackets};
 pub use turns::{TURN_FRAMES, Turn, Turns};
+pub use unsent_frames::{MOST_FRAMES, UnsentFrames};

@@ -14,7 +14,8 @@ use Rattle.role_node.specs.declared.question.Answer.{Answer}
 use Rattle.role_node.specs.declared.question.Question.{Question}
 use Rattle.role_node.proofs.Exported.{one_answer}
 use Rattle.client_lines.specs.declared.answer.ClientAnswer.TheVariants.{Refused}
-use Rattle.role_daemon.specs.Answers.{after_answer, after_event, listed, asked}
+use Rattle.node_server.specs.Answers.{listed}
+use Rattle.role_daemon.specs.Answers.{after_answer, after_event, asked}
 
 -- the event was answered
 pub event_done : (node new : NodeValue) (e : Event) (r : Reply) → due_at node e ≡ Ok r → new ≡ after_reply node e r

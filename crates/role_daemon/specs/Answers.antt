@@ -26,6 +26,7 @@ use Rattle.client_lines.specs.declared.answer.ClientAnswer.TheVariants.{Issued, 
 use Rattle.client_lines.specs.declared.answer.ClientAnswer.TheVariants.{Roles, Permissions, Operations, Reach}
 use Rattle.client_lines.specs.declared.answer.ClientAnswer.TheVariants.{Again, Stopped, Refused}
 use Rattle.client_lines.specs.declared.request.Request.{Request}
+use Rattle.node_server.specs.Answers.{listed, sent_count}
 use Rattle.client_lines.specs.declared.request.Request.TheVariants as request
 
 -- the node after it gave this answer to the event
@@ -90,27 +91,11 @@ replied node (Ok (reply.Session id)) = Session id
 replied node (Ok reply.Done) = Done
 replied node (Err f) = Refused f
 
--- an answer to a question as a client hears it, after so many events
-abbrev pub listed : ℕ → Answer → ClientAnswer
-listed at (answer.Verdict verdict) = Verdict at verdict
-listed at (answer.Users users) = Users at users
-listed at (answer.Roles roles) = Roles at roles
-listed at (answer.Permissions permissions) = Permissions at permissions
-listed at (answer.Operations operations) = Operations at operations
-
 -- the answer to a question; only a session that is to be listed may not be open
 unfoldable pub asked : NodeValue → Question → ClientAnswer
 asked node question =
     option_map_or (λ f. Refused (fault.Session session.NoSession)) (ask_due (sessions_at node.history) question)
     (listed (length node.history) (answer_after node.config.roles node.history question))
-
--- one for each message that there is
-abbrev pub one_if : Option Command → ℕ
-one_if message = if is_some message then 1 else 0
-
--- how many messages were sent at the place
-abbrev pub sent_count : NodeAgain → ℕ
-sent_count again = one_if again.send + one_if again.echo + one_if again.ready
 
 -- the answer that is due to the request: by the history so far, and to a command that is published by the history after
 -- the node took its own packets

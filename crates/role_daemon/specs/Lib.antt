@@ -7,6 +7,5 @@ pub mod Answers
 pub mod Laws
 pub mod Pipes
 pub mod Runs
-pub mod Served
 pub mod Linked
 pub mod inside

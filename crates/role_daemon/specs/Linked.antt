@@ -1,17 +1,7 @@
--- The cluster and the keys of a node's links, and the frame of a message to a peer.
-use Rattle.std.specs.Prelude.{ℕ, nat_lt, if◌then◌else◌, List, Option, None, option_map}
-use Rattle.link_frames.specs.Frames.{frame}
-use Rattle.link_frames.specs.KeyRings.{KeyRing, key_with}
-use Rattle.link_frames.specs.Packets.{packet_due}
-use Rattle.link_frames.specs.declared.packet.Message.{Message}
+-- The keys of a setup's node.
+use Rattle.link_frames.specs.KeyRings.{KeyRing}
 use Rattle.role_daemon.specs.declared.cluster.Setup.{Setup}
 
 -- the keys of a setup's node, of which key i is shared with node i
 abbrev pub ring_of : Setup → KeyRing
 ring_of setup = record { me = setup.me; sizes = setup.config.roles.sizes; keys = setup.keys }
-
--- the frame of a message to a node of the cluster, where a packet of the ring's node may have the message
-abbrev pub frame_due : KeyRing → ℕ → ℕ → Message → Option (List ℕ)
-frame_due ring cluster to message =
-    if nat_lt to ring.sizes.nodes then option_map (frame (key_with ring to) cluster) (packet_due ring.me to message)
-    else None

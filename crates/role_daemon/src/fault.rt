@@ -6,6 +6,7 @@ ghost use Rattle.role_daemon.specs.Statuses.{daemon_status, is_said};
 
 use client_lines::Member;
 use link_frames::{AheadFault, DeviceFault};
+use node_server::ServerFault;
 use quorum_sizes::SizeFault;
 use role_commands::TableFault;
 use std::alloc::AllocError;
@@ -244,6 +245,15 @@ impl From<AllocError> for ServeFault {
 
     fn from(_e: AllocError) -> Self {
         ServeFault::Memory
+    }
+}
+
+impl From<ServerFault> for ServeFault {
+    fn from(fault: ServerFault) -> Self {
+        match fault {
+            ServerFault::Device => ServeFault::Device,
+            ServerFault::Memory => ServeFault::Memory,
+        }
     }
 }
 

@@ -8,7 +8,6 @@
 ghost use Rattle.std.specs.Prelude.{IfOk};
 ghost use Rattle.role_daemon.specs.Setups.{IsNodeSetup, IsServerSetup};
 
-mod answers;
 pub mod cluster;
 pub mod cluster_file;
 pub mod fault;

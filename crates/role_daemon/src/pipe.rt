@@ -16,11 +16,11 @@ ghost use Rattle.role_daemon.specs.inside.Steps.{LinesEndless, Finished};
 pub mod laws;
 mod requests;
 
-use crate::answers::hold_answer;
 use crate::cluster::{MOST_TEXT_BYTES, Mode, read_cluster};
 use crate::fault::{ClusterFault, PipeFault};
 use client_lines::{ClientAnswer, LineFault, MOST_LINE_BYTES, Request, RequestReader};
 use link_frames::{Ahead, Held, Next, Watched};
+use node_server::answers::hold_answer;
 use requests::answer;
 use role_node::Node;
 use std::alloc::{AllocError, Global};

@@ -9,9 +9,9 @@ ghost use Rattle.role_node.specs.Nodes.{due_at};
 ghost use Rattle.role_daemon.specs.Answers as answers;
 ghost use Rattle.role_daemon.specs.Answers.{answer_to, after_request, after_event, own_packet, settled};
 
-use crate::answers::{listed, sent_count};
 use client_lines::{ClientAnswer, Request};
 use link_frames::{Message, Packet};
+use node_server::answers::{listed, sent_count};
 use role_node::{AskFault, Event, Node, NodeFault, Question, Reply};
 use role_sessions::SessionFault;
 use std::alloc::AllocError;

@@ -1,9 +1,10 @@
 //! Peers that are ahead of a node, and a client that has a node send again while its lines are answered.
 
 use crate::cluster::{Mode, read_cluster};
-use crate::serve::links::Links;
+use crate::serve::keys_of;
 use crate::serve_help::{MOST_LOOKS, ask, connected, free_ports, serve_text, stop, text_of};
 use link_frames::{Kind, Message};
+use node_server::FrameKeys;
 use role_commands::Command;
 use std::alloc::Global;
 use std::io::{Read, Write};
@@ -35,8 +36,9 @@ fn said(alloc: Global, from: usize, ports: &Ports) -> Result<Vec<u8>, Fail> {
     let Ok(setup) = read_cluster(alloc, text.as_bytes(), Mode::Serve) else {
         return Err("no setup".into());
     };
-    let links = Links::new(alloc, &setup)?;
-    let (Some(to), Some(owner)) = (links.name(0), links.name(1)) else {
+    let keys = keys_of(alloc, &setup)?;
+    let sizes = keys.sizes();
+    let (Some(to), Some(owner)) = (sizes.name(0), sizes.name(1)) else {
         return Err("no names".into());
     };
     let mut frames = Vec::new(alloc);
@@ -52,7 +54,7 @@ fn said(alloc: Global, from: usize, ports: &Ports) -> Result<Vec<u8>, Fail> {
                 },
             };
             // a SEND of another node is none
-            if let Some(frame) = links.seal(to, &message) {
+            if let Some(frame) = keys.seal(to, &message) {
                 frames.extend_from_slice(&frame)?;
             }
         }

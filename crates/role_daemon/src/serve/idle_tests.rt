@@ -1,7 +1,6 @@
 //! Connections that say nothing, and clients that hear nothing.
 
 use crate::cluster::{Mode, read_cluster};
-use crate::serve::caller::MOST_PEERS;
 use crate::serve::serve_until_idle;
 use crate::serve_help::{
     AGAIN, FRAME, MOST_LOOKS, STOP, answer_to, connected, free_ports, is_closed, local, stop,
@@ -20,6 +19,9 @@ use std::time::{Clock, Duration};
 const SHORT: u64 = 50;
 
 const LONG: u64 = 600_000;
+
+/// The most connections of peers at once.
+const MOST_PEERS: u32 = 128;
 
 const OPEN: &[u8] = b"{\"op\":\"open\",\"user\":7}\n";
 

@@ -1,4 +1,4 @@
-use Rattle.std.proofs.Common.{◌≡◌, ◌<◌, ◌-◌, ◌∙◌, length, get_or, sym, ap, arith}
+use Rattle.std.proofs.Common.{◌<◌, ◌-◌, ◌∙◌, length, sym, ap, arith}
 use Rattle.std.proofs.lemmas.List.{get_or_read}
 use Rattle.frame_queues.specs.Waiting.{order_of}
 use Rattle.frame_queues.proofs.Orders.{all_before}

@@ -1,0 +1,9 @@
+mod Bytes
+mod BatchLemmas
+mod ReadingLemmas
+mod EndLemmas
+mod Standing
+mod Overwriting
+mod LayingLemmas
+mod SettledLemmas
+mod KeptLemmas

@@ -1,0 +1,9 @@
+pub mod Digits
+pub mod Batches
+pub mod Heads
+pub mod Readings
+pub mod Found
+pub mod Faults
+pub mod Texts
+pub mod Journals
+pub mod inside

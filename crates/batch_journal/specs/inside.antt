@@ -1,0 +1,4 @@
+pub mod Fading
+pub mod Disks
+pub mod Keeping
+pub mod Placing

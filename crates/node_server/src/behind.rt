@@ -1,0 +1,186 @@
+//! What is behind a serving node's lock.
+
+ghost use Rattle.std.specs.Prelude.{◌≡◌, ◌≤◌, ◌↔◌, ◌<◌, IsTrue, IfOk, IfErr, IfSome, OnOk, OnErr, OnSome, option_map};
+ghost use Rattle.node_lock.specs.Holds.{end_of, Held};
+ghost use Rattle.node_lock.specs.Receipts.{outcome_due};
+ghost use Rattle.node_lock.specs.Views.{node_count, view_of, held_after_hold, seat_after_hold, IsHoldFault};
+ghost use Rattle.peer_windows.specs.Owed.{IsGathered};
+ghost use Rattle.peer_windows.specs.Pauses.{most_time};
+ghost use Rattle.node_server.specs.Served.{own_packet};
+ghost use Rattle.node_server.specs.declared.said.Said.{Said};
+
+use crate::said::Said;
+use link_frames::{Packet, Place};
+use node_lock::{Call, Locked, Outcome, Seat, StepFault};
+use peer_windows::{Owed, Pairs};
+use quorum_sizes::NodeName;
+use std::sync::ledger::Ledger;
+
+/// What holds recorded could not be kept.
+#[derive(Clone, Copy, Debug, PartialEq, Eq)]
+pub struct NotKept;
+
+/// What is behind a serving node's lock: a node of which holds are made, which keeps what they record, and releases
+/// what they said once that is kept. So a server tells nobody what a crash could take back.
+///
+/// Contracts see the node with the seat beside each event (`held`), what a hold said (`said`), and whether that may leave
+/// (`may_leave`).
+pub trait HeldNode {
+    /// Of which ledger the node's seats are.
+    type Ledger: Ledger + Send + Sync;
+
+    /// What a hold said, which nobody reads before it is released, save a packet to the node itself.
+    type Untold: Drop + Send;
+
+    ghost held: { Self → Held };
+
+    ghost said: { Self.Untold → Said };
+
+    ghost may_leave: { Self → Self.Untold → Type 0 };
+
+    /// Whether a [`sync`](Self::sync) may take long, so that what came meanwhile is better done by one.
+    fn may_sync_long() -> bool;
+
+    /// Whether the name is a node's of the sizes of the node.
+    fn has(&self, name: NodeName) -> bool
+        ensures { IsTrue result ↔ (name < node_count (held self.now)) };
+
+    /// Makes a hold, as [`Locked::hold`] does: the call, where there is one, and then the view of the owner's stream
+    /// and of the place in it.
+    ///
+    /// # Errors
+    ///
+    /// As [`Locked::hold`]. Node and seat stay as they were.
+    fn hold(
+        &mut self,
+        seat: &mut Seat<Self::Ledger>,
+        call: Option<Call>,
+        owner: NodeName,
+        place: Place,
+    ) -> Result<Self::Untold, StepFault>
+        requires { owner < node_count (held self.old) }
+        ensures outcome { IfOk result (λ u. (said u).outcome ≡ option_map (outcome_due (held self.old).node) call) }
+        ensures view { IfOk result (λ u. (said u).view ≡ view_of (held self.new) owner place) }
+        ensures held { OnOk result (held self.new ≡ held_after_hold (held self.old) seat.old call) }
+        ensures seat { OnOk result (seat.new ≡ seat_after_hold (held self.old) seat.old call) }
+        ensures err { IfErr result (IsHoldFault (held self.old) seat.old call) }
+        ensures same { OnErr result (held self.new ≡ held self.old) }
+        ensures same_seat { OnErr result (seat.new ≡ seat.old) };
+
+    /// The packet that a hold has this node send to itself, which need not wait until what was recorded is kept.
+    fn own_packet(&self, me: NodeName, untold: &Self::Untold) -> Option<Packet>
+        ensures { result ≡ own_packet me (said untold.now).outcome };
+
+    /// Keeps all that was recorded, so that what holds said until now may leave.
+    ///
+    /// # Errors
+    ///
+    /// It could not be kept. The server ends, and releases nothing more.
+    fn sync(&mut self) -> Result<(), NotKept>
+        ensures kept { OnOk result ((u : Self.Untold) → (said u).view.at ≤ end_of (held self.new) → may_leave self.new u) }
+        ensures same { held self.new ≡ held self.old };
+
+    /// What a hold said, if that may leave.
+    fn release(&self, untold: Self::Untold) -> Option<Said>
+        ensures value { IfSome result (λ s. s ≡ said untold) }
+        ensures kept { OnSome result (may_leave self.now untold) };
+
+    /// Notes in the pairs what the node answered to a packet, or to what else has none, as [`Pairs::note`] does.
+    fn note(
+        &mut self,
+        seat: &mut Seat<Self::Ledger>,
+        now: u64,
+        pairs: &mut Pairs,
+        packet: Option<&Packet>,
+        outcome: &Outcome,
+    )
+        requires { now ≤ most_time }
+        ensures { held self.new ≡ held self.old };
+
+    /// Gathers what is due to single peers, as [`Pairs::gather`] does. Nothing is gathered that is not kept.
+    ///
+    /// # Errors
+    ///
+    /// As [`Pairs::gather`].
+    fn gather(
+        &mut self,
+        seat: &mut Seat<Self::Ledger>,
+        now: u64,
+        pairs: &mut Pairs,
+        rooms: &mut [Option<u32>],
+        owed: &mut Owed,
+    ) -> Result<(), StepFault>
+        requires { now ≤ most_time }
+        ensures owed { IsGathered (held self.old) owed.old owed.new }
+        ensures same { held self.new ≡ held self.old };
+}
+
+/// A node that keeps all in memory: what it records is kept at once.
+impl<L: Ledger + Send + Sync> HeldNode for Locked<L> {
+    ghost use Rattle.std.specs.Prelude.{⊤};
+
+    type Ledger = L;
+
+    type Untold = Said;
+
+    ghost held = { λ a. a };
+
+    ghost said = { λ u. u };
+
+    ghost may_leave = { λ _ _. ⊤ };
+
+    fn may_sync_long() -> bool {
+        false
+    }
+
+    fn has(&self, name: NodeName) -> bool {
+        Locked::has(self, name)
+    }
+
+    fn hold(
+        &mut self,
+        seat: &mut Seat<L>,
+        call: Option<Call>,
+        owner: NodeName,
+        place: Place,
+    ) -> Result<Said, StepFault> {
+        let (receipt, view) = Locked::hold(self, seat, call, owner, place)?;
+        let outcome = receipt.map(|receipt| receipt.outcome);
+        Ok(Said { outcome, view })
+    }
+
+    fn own_packet(&self, me: NodeName, untold: &Said) -> Option<Packet> {
+        let message = untold.message()?;
+        Packet::new(me, me, message)
+    }
+
+    fn sync(&mut self) -> Result<(), NotKept> {
+        Ok(())
+    }
+
+    fn release(&self, untold: Said) -> Option<Said> {
+        Some(untold)
+    }
+
+    fn note(
+        &mut self,
+        seat: &mut Seat<L>,
+        now: u64,
+        pairs: &mut Pairs,
+        packet: Option<&Packet>,
+        outcome: &Outcome,
+    ) {
+        pairs.note(self, seat, now, packet, outcome);
+    }
+
+    fn gather(
+        &mut self,
+        seat: &mut Seat<L>,
+        now: u64,
+        pairs: &mut Pairs,
+        rooms: &mut [Option<u32>],
+        owed: &mut Owed,
+    ) -> Result<(), StepFault> {
+        pairs.gather(self, seat, now, rooms, owed)
+    }
+}
