@@ -23,8 +23,8 @@ pub struct NotKept;
 /// What is behind a serving node's lock: a node of which holds are made, which keeps what they record, and releases
 /// what they said once that is kept. So a server tells nobody what a crash could take back.
 ///
-/// Contracts see the node with the seat beside each event (`held`), what a hold said (`said`), and whether that may leave
-/// (`may_leave`).
+/// Contracts see the node with the seat beside each event (`held`), what a hold said (`said`), and whether that may
+/// leave (`may_leave`).
 pub trait HeldNode {
     /// Of which ledger the node's seats are.
     type Ledger: Ledger + Send + Sync;
@@ -77,7 +77,8 @@ pub trait HeldNode {
     ///
     /// It could not be kept. The server ends, and releases nothing more.
     fn sync(&mut self) -> Result<(), NotKept>
-        ensures kept { OnOk result ((u : Self.Untold) → (said u).view.at ≤ end_of (held self.new) → may_leave self.new u) }
+        ensures kept { OnOk result
+            ((u : Self.Untold) → (said u).view.at ≤ end_of (held self.new) → may_leave self.new u) }
         ensures same { held self.new ≡ held self.old };
 
     /// What a hold said, if that may leave.

@@ -97,7 +97,8 @@ impl Dials {
         }
     }
 
-    /// Something has come of the connection to this outbox's peer. The peer, where it is made now, so that its outbox has it.
+    /// Something has come of the connection to this outbox's peer. The peer, where it is made now, so that its outbox
+    /// has it.
     pub fn note<R: Wait>(
         &mut self,
         rt: &R,

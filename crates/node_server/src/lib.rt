@@ -7,8 +7,8 @@
 //! threads that wait for it.
 //!
 //! The server does not know what is behind the lock (`HeldNode`), nor by which keys frames open (`FrameKeys`).
-//! `specs/Served.antt` says what a client hears and what the node sends, `specs/Frames.antt` which frame a message gets,
-//! and `frame_queues` which bytes that come are frames, and which bytes go over a connection.
+//! `specs/Served.antt` says what a client hears and what the node sends, `specs/Frames.antt` which frame a message
+//! gets, and `frame_queues` which bytes that come are frames, and which bytes go over a connection.
 #![tactic(auto)]
 
 ghost use denote.Param.Send.{IsSend, IsSync};
