@@ -282,17 +282,18 @@ impl<'a> Peers<'a> {
         server: &Server<'_, N, K, R>,
         slot: usize,
     ) -> bool {
-        let Some(Some(peer)) = self.places.get_mut(slot) else {
+        let Some(Some(peer)) = self.places.get(slot) else {
             return false;
         };
         let is_ready = peer.is_ready;
-        if peer.came == Came::End {
+        let (came, from, speaker) = (peer.came, peer.from, peer.speaker);
+        if came == Came::End {
             self.close(slot);
-        } else if peer.from.is_none() {
-            peer.from = peer.speaker;
-            if peer.from.is_some() {
-                self.close_third(server, slot);
+        } else if from.is_none() && speaker.is_some() {
+            if let Some(Some(peer)) = self.places.get_mut(slot) {
+                peer.from = speaker;
             }
+            self.close_third(server, slot);
         }
         is_ready
     }
