@@ -1,6 +1,7 @@
 //! How the workers stand. The thread that has put jobs does them with an idle worker.
 
 use crate::behind::HeldNode;
+use crate::clock::millis;
 use crate::front::Front;
 use crate::keys::FrameKeys;
 use crate::server::Server;
@@ -24,6 +25,8 @@ pub struct Crew<'a, N: HeldNode> {
     pub connected: Vec<NodeName>,
     /// The places of the connections of peers of which a packet found no memory.
     pub refused: Vec<u32>,
+    /// When a frame of the connection at each place counted last, in milliseconds; 0 where none has.
+    pub counted: Vec<u64>,
     /// When something is due for which nobody rings, and when the thread of the ports wakes by itself, in milliseconds.
     pub due: u64,
     pub wakes: u64,
@@ -102,7 +105,13 @@ impl<'a, N: HeldNode, K: FrameKeys, R: Wait + Clock> Server<'a, N, K, R> {
             }
         }
         self.send_and_tell(&mut worker);
+        let now = millis(self.rt);
         let mut crew = self.crew.lock(self.rt);
+        for slot in worker.counted.drain(..) {
+            if let Some(time) = crew.value.counted.get_mut(slot as usize) {
+                *time = now;
+            }
+        }
         // there is room for each worker
         let _ = crew.value.idle.push(worker);
         if crew.value.is_due() {
@@ -134,6 +143,24 @@ impl<'a, N: HeldNode, K: FrameKeys, R: Wait + Clock> Server<'a, N, K, R> {
     /// Whether no job is left that would come before a question that is asked now.
     pub fn is_at_rest(&self) -> bool {
         self.crew.lock(self.rt).value.is_at_rest()
+    }
+
+    /// When a frame of the connection at this place counted last; 0 where none has.
+    pub fn counted_at(&self, slot: usize) -> u64 {
+        self.crew
+            .lock(self.rt)
+            .value
+            .counted
+            .get(slot)
+            .copied()
+            .unwrap_or(0)
+    }
+
+    /// There is another connection at this place, of which no frame has counted.
+    pub fn forget_counted(&self, slot: usize) {
+        if let Some(time) = self.crew.lock(self.rt).value.counted.get_mut(slot) {
+            *time = 0;
+        }
     }
 
     /// There is a new connection to the peer.

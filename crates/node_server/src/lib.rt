@@ -48,7 +48,7 @@ pub use keys::{ClusterKeys, FrameKeys, PeerName};
 use mio::Waker;
 use node_lock::{Inbox, Seat};
 use outbox::Outbox;
-use peers::Peers;
+use peers::{PLACES, Peers};
 use ports::Ports;
 pub use said::Said;
 use server::Server;
@@ -252,6 +252,7 @@ fn crew_of<'a, N: HeldNode>(
         jobs: false,
         connected: Vec::with_capacity(alloc, usize::from(nodes))?,
         refused: Vec::with_capacity(alloc, usize::from(nodes))?,
+        counted: Vec::from_elem(alloc, 0, PLACES)?,
         due: 0,
         wakes: 0,
         failed: false,

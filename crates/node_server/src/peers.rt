@@ -24,6 +24,9 @@ pub const PLACES: usize = MOST_PEERS as usize;
 /// The milliseconds in which the first frame has to open.
 const FIRST_FRAME: u64 = 2_000;
 
+/// The most connections of one peer.
+const MOST_OF_ONE: u32 = 2;
+
 /// After so many frames the jobs are done before more are put.
 const MOST_PUT: usize = 256;
 
@@ -222,7 +225,7 @@ impl<'a> Peers<'a> {
             self.put = 0;
             server.ring();
         }
-        self.keep_ready();
+        self.keep_ready(server);
     }
 
     /// Puts the packets of some frames of a connection's block into the inbox. A frame that does not open is lost; if it
@@ -252,15 +255,17 @@ impl<'a> Peers<'a> {
         peer.speaker = speaker;
     }
 
-    /// Closes the connections that have ended, and the older ones of those whose first frame has opened. Keeps those
-    /// that may have more.
-    fn keep_ready(&mut self) {
+    /// Closes the connections that have ended, and those that are too many of one peer. Keeps those that may have more.
+    fn keep_ready<N: HeldNode, K: FrameKeys, R: Wait + Clock>(
+        &mut self,
+        server: &Server<'_, N, K, R>,
+    ) {
         let mut kept = 0usize;
         for at in 0..self.ready.len() {
             let Some(slot) = self.ready.get(at).copied() else {
                 break;
             };
-            if self.goes_on(slot) {
+            if self.goes_on(server, slot) {
                 if let Some(place) = self.ready.get_mut(kept) {
                     *place = slot;
                 }
@@ -271,8 +276,12 @@ impl<'a> Peers<'a> {
     }
 
     /// Whether a connection may have more. It is closed at its end; where its first frame has opened it is the peer's
-    /// from now on, and an older one of the peer is closed.
-    fn goes_on(&mut self, slot: usize) -> bool {
+    /// from now on.
+    fn goes_on<N: HeldNode, K: FrameKeys, R: Wait + Clock>(
+        &mut self,
+        server: &Server<'_, N, K, R>,
+        slot: usize,
+    ) -> bool {
         let Some(Some(peer)) = self.places.get(slot) else {
             return false;
         };
@@ -281,16 +290,36 @@ impl<'a> Peers<'a> {
         if came == Came::End {
             self.close(slot);
         } else if from.is_none() && speaker.is_some() {
-            for other in 0..PLACES {
-                if self.speaker_at(other) == speaker {
-                    self.close(other);
-                }
-            }
             if let Some(Some(peer)) = self.places.get_mut(slot) {
                 peer.from = speaker;
             }
+            self.close_third(server, slot);
         }
         is_ready
+    }
+
+    /// Of three connections of a peer that one is closed on which a frame counted least recently, and of those on which
+    /// none has the older. So a peer's connection runs to its end beside the next, and who sends a captured frame again
+    /// and again ends none but his own.
+    fn close_third<N: HeldNode, K: FrameKeys, R: Wait + Clock>(
+        &mut self,
+        server: &Server<'_, N, K, R>,
+        slot: usize,
+    ) {
+        let name = self.speaker_at(slot);
+        let mut count = 0u32;
+        let mut least = (u64::MAX, u64::MAX, slot);
+        for at in 0..PLACES {
+            if let Some(Some(peer)) = self.places.get(at) {
+                if peer.from == name {
+                    count = count.saturating_add(1);
+                    least = least.min((server.counted_at(at), peer.begin, at));
+                }
+            }
+        }
+        if count > MOST_OF_ONE {
+            self.close(least.2);
+        }
     }
 
     /// The peer whose connection is at the place.

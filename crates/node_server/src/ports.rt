@@ -189,6 +189,7 @@ impl<'a> Ports<'a> {
             };
             if let Some(slot) = self.peers.vacancy() {
                 let registry = self.poll.registry();
+                server.forget_counted(slot);
                 let _ = self.peers.add(server.alloc, registry, now, slot, stream);
             }
         }

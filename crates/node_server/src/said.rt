@@ -29,6 +29,11 @@ impl Said {
         }
     }
 
+    /// Whether a packet has counted, so that it is now a part of what the node knows.
+    pub fn has_counted(&self) -> bool {
+        matches!(self.outcome, Some(Outcome::Reply(Reply::Counted { .. })))
+    }
+
     /// What the client hears whose call it was; `None` where there was no call, and for want of memory.
     pub fn into_answer(self) -> Option<ClientAnswer>
         ensures answer { result ≡ served_said self }

@@ -46,6 +46,8 @@ pub struct Worker<'a, N: HeldNode> {
     /// What goes to single peers.
     owed: Owed,
     frames: Vec<Frame>,
+    /// The places of the connections of which a frame has counted.
+    pub counted: Vec<u32>,
 }
 
 impl<'a, N: HeldNode> Worker<'a, N> {
@@ -68,6 +70,7 @@ impl<'a, N: HeldNode> Worker<'a, N> {
             messages: Vec::with_capacity(alloc, MOST_BATCH)?,
             owed: Owed::new(alloc, nodes)?,
             frames: Vec::with_capacity(alloc, MOST_BATCH)?,
+            counted: Vec::with_capacity(alloc, MOST_BATCH)?,
         })
     }
 
@@ -201,10 +204,16 @@ impl<'a, N: HeldNode, K: FrameKeys, R: Wait + Clock> Server<'a, N, K, R> {
                         place.tell(self.rt, line, done.said);
                     }
                 }
-                Caller::Peer { slot } if done.said.is_none() => {
-                    let _ = self.crew.lock(self.rt).value.refused.push(slot);
-                }
-                _ => {}
+                Caller::Peer { slot } => match done.said {
+                    Some(said) if said.has_counted() => {
+                        let _ = worker.counted.push(slot);
+                    }
+                    Some(_) => {}
+                    None => {
+                        let _ = self.crew.lock(self.rt).value.refused.push(slot);
+                    }
+                },
+                Caller::Nobody => {}
             }
         }
     }
