@@ -228,8 +228,8 @@ impl<'a> Peers<'a> {
         self.keep_ready(server);
     }
 
-    /// Puts the packets of some frames of a connection's block into the inbox. A frame that does not open is lost; if it
-    /// is the first, the connection ends.
+    /// Puts the packets of some frames of a connection's block into the inbox. A frame that does not open is lost, and
+    /// the connection ends where it is the first.
     fn put<N: HeldNode, K: FrameKeys, R: Wait + Clock>(
         &mut self,
         server: &Server<'_, N, K, R>,
