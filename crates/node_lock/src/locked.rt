@@ -21,7 +21,7 @@ use crate::view::View;
 use bracha_instance::Effect;
 use link_frames::Place;
 use quorum_sizes::NodeName;
-use role_node::{Event, Node, Question, Reply};
+use role_node::{Config, Event, Node, Question, Reply};
 use std::alloc::{AllocError, Global};
 use std::error::Error;
 use std::fmt;
@@ -249,6 +249,22 @@ impl<L: Ledger> Locked<L> {
             call: Call::Ask(question),
             outcome,
         })
+    }
+
+    /// What the node behind the lock was told at its start.
+    pub fn config(&self) -> &Config
+        ensures value { result.now ≡ self.now.node.config }
+        ensures me { self.now.node.me < node_count self.now }
+    {
+        self.node.config()
+    }
+
+    /// The name of the node behind the lock, which is a node's of its sizes.
+    pub fn me(&self) -> NodeName
+        ensures value { result ≡ self.now.node.me }
+        ensures node { self.now.node.me < node_count self.now }
+    {
+        self.node.me()
     }
 
     /// Whether the name is a node's of the sizes of the node behind the lock.
