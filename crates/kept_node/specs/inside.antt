@@ -1,0 +1,3 @@
+pub mod EventReading
+pub mod Replaying
+pub mod Fields

@@ -1,0 +1,112 @@
+//! The events of a journal, recorded once more.
+
+ghost use Rattle.std.specs.Prelude.{◌≡◌, [], All, IfOk, IfErr, OnOk, OnErr};
+ghost use Rattle.quorum_sizes.specs.Sizes.{AreSizes};
+ghost use Rattle.role_node.specs.Answers.{is_recorded};
+ghost use Rattle.role_node.specs.Nodes.{IsLegalNode, due_at};
+ghost use Rattle.node_lock.specs.Holds.{end_of, Fits, held_after, seat_after};
+ghost use Rattle.kept_node.specs.Events.{IsEventOf, digits_of_events};
+ghost use Rattle.kept_node.specs.inside.Replaying.{IsReplayFault};
+ghost use Rattle.kept_node.specs.declared.replay.ReplayFault.TheVariants as fault;
+
+use crate::event_reading::read_event;
+use node_lock::{Locked, Outcome, Seat, SharedNode, StepFault};
+use quorum_sizes::NodeName;
+use role_node::{Event, Reply};
+use std::sync::ledger::Ledger;
+
+/// The node has recorded events, or the seat is none of its.
+#[derive(Clone, Copy, Debug, PartialEq, Eq)]
+pub struct NotNew;
+
+/// Why digits are not replayed.
+#[derive(Clone, Copy, Debug, PartialEq, Eq)]
+pub(crate) enum ReplayFault {
+    /// Behind so many events stand digits that are none, or the node does not record it.
+    Illegal { place: u64 },
+    Memory,
+}
+
+/// A shared node that has recorded nothing, out of its lock, with one of its seats.
+///
+/// # Errors
+///
+/// It has recorded events, or the seat has.
+pub fn new_locked<L: Ledger>(
+    shared: SharedNode<L>,
+    seat: &mut Seat<L>,
+) -> Result<Locked<L>, NotNew>
+    ensures new { IfOk result (λ locked. locked.node.history ≡ []) }
+    ensures fits { IfOk result (λ locked. Fits locked seat.new) }
+{
+    let mut locked = shared.node.into_inner();
+    let me = locked.me();
+    match locked.hold(seat, None, me, 0) {
+        Ok((_, view)) if view.at == 0 => Ok(locked),
+        _ => Err(NotNew),
+    }
+}
+
+/// Has the node record an event that it recorded once: whether it does.
+fn replay_one<L: Ledger>(
+    locked: &mut Locked<L>,
+    seat: &mut Seat<L>,
+    event: Event,
+) -> Result<bool, ReplayFault>
+    requires fits { Fits locked.old seat.old }
+    ensures recorded { IfOk result (λ b. b ≡ is_recorded (due_at locked.old.node event)) }
+    ensures held { OnOk result (locked.new ≡ held_after locked.old seat.old event) }
+    ensures seat { OnOk result (seat.new ≡ seat_after locked.old seat.old event) }
+    ensures err { IfErr result (λ e. e ≡ fault.Memory) }
+    ensures same { OnErr result (locked.new ≡ locked.old) }
+    ensures legal { IsLegalNode locked.new.node }
+{
+    match locked.step(seat, event) {
+        Ok(receipt) => match receipt.outcome {
+            Outcome::Reply(Reply::Idle) | Outcome::Answer(_) | Outcome::Refused(_) => Ok(false),
+            Outcome::Reply(_) => Ok(true),
+        },
+        Err(StepFault::Memory) => Err(ReplayFault::Memory),
+        Err(_) => unreachable!(),
+    }
+}
+
+/// Has a node that has recorded nothing record all events of these digits: how many they are.
+///
+/// # Errors
+///
+/// The digits behind some events are none, or the node does not record it; want of memory.
+pub(crate) fn replay<L: Ledger>(
+    locked: &mut Locked<L>,
+    seat: &mut Seat<L>,
+    digits: &[u8],
+) -> Result<u64, ReplayFault>
+    requires new { locked.old.node.history ≡ [] }
+    requires fits { Fits locked.old seat.old }
+    ensures node { locked.new.node ≡ record locked.old.node { history = locked.new.node.history } }
+    ensures digits { OnOk result (digits.now ≡ digits_of_events locked.new.node.history) }
+    ensures each { OnOk result (All (IsEventOf locked.new.node.config.roles.sizes locked.new.node.me)
+        locked.new.node.history) }
+    ensures count { IfOk result (λ n. n ≡ end_of locked.new) }
+    ensures fits { OnOk result (Fits locked.new seat.new) }
+    ensures legal { OnOk result (IsLegalNode locked.new.node) }
+    ensures sizes { AreSizes locked.new.node.config.roles.sizes }
+    ensures illegal { IfErr result (IsReplayFault locked.old.node.config locked.old.node.me digits.now) }
+{
+    let sizes = locked.config().roles().sizes();
+    let me = locked.me();
+    let _nodes = sizes.n();
+    let mut rest = digits;
+    let mut place = 0u64;
+    while !rest.is_empty() {
+        let Some((event, behind)) = read_event(sizes, me, rest) else {
+            return Err(ReplayFault::Illegal { place });
+        };
+        if !replay_one(locked, seat, event)? {
+            return Err(ReplayFault::Illegal { place });
+        }
+        rest = behind;
+        place += 1;
+    }
+    Ok(place)
+}
