@@ -11,6 +11,8 @@ use Rattle.role_node.specs.Configs.{ConfigValue}
 use Rattle.role_node.specs.declared.event.Event.{Event}
 use Rattle.kept_node.specs.Events.{IsEventOf, digits_of_events, event_digits}
 use Rattle.kept_node.specs.NodeHeads.{IsHeadOf}
+use Rattle.kept_node.specs.declared.replay.ReplayFault.{ReplayFault}
+use Rattle.kept_node.specs.declared.replay.ReplayFault.TheVariants as replay_fault
 use Rattle.kept_node.specs.declared.fault.Unrestored.{Unrestored}
 use Rattle.kept_node.specs.declared.fault.Unrestored.TheVariants.{Unopened, Illegal, Memory}
 
@@ -25,6 +27,11 @@ pub record IsIllegal (config : ConfigValue) (me place : ℕ) (digits : List ℕ)
   pub more : rest ≢ []
   pub next : (event : Event) (behind : List ℕ) → IsEventOf config.roles.sizes me event →
       rest ≡ event_digits event ++ behind → is_recorded (answer_due config me events event) ≡ false
+
+-- why digits are not replayed: by that, or by want of memory
+abbrev pub IsReplayFault : ConfigValue → ℕ → List ℕ → ReplayFault → Type 0
+IsReplayFault config me digits (replay_fault.Illegal place) = IsIllegal config me place digits
+IsReplayFault config me digits replay_fault.Memory = ⊤
 
 -- of a file, under this key
 pub record IsIllegalFile (key : List ℕ) (config : ConfigValue) (me place : ℕ) (bytes : List ℕ) : Type 0 where

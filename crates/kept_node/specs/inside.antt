@@ -1,3 +1,2 @@
 pub mod EventReading
-pub mod Replaying
 pub mod Fields

@@ -44,4 +44,4 @@ impl<D: Disk> fmt::Debug for Unrestored<D> {
     }
 }
 
-impl<D: Disk> Error for Unrestored<D> {}
+impl<D: Disk + Drop> Error for Unrestored<D> {}

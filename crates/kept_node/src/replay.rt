@@ -6,7 +6,7 @@ ghost use Rattle.role_node.specs.Answers.{is_recorded};
 ghost use Rattle.role_node.specs.Nodes.{IsLegalNode, due_at};
 ghost use Rattle.node_lock.specs.Holds.{end_of, Fits, held_after, seat_after};
 ghost use Rattle.kept_node.specs.Events.{IsEventOf, digits_of_events};
-ghost use Rattle.kept_node.specs.inside.Replaying.{IsReplayFault};
+ghost use Rattle.kept_node.specs.Restoring.{IsReplayFault};
 ghost use Rattle.kept_node.specs.declared.replay.ReplayFault.TheVariants as fault;
 
 use crate::event_reading::read_event;
@@ -21,7 +21,7 @@ pub struct NotNew;
 
 /// Why digits are not replayed.
 #[derive(Clone, Copy, Debug, PartialEq, Eq)]
-pub(crate) enum ReplayFault {
+pub enum ReplayFault {
     /// Behind so many events stand digits that are none, or the node does not record it.
     Illegal { place: u64 },
     Memory,
@@ -48,6 +48,10 @@ pub fn new_locked<L: Ledger>(
 }
 
 /// Has the node record an event that it recorded once: whether it does.
+///
+/// # Errors
+///
+/// Only for want of memory.
 fn replay_one<L: Ledger>(
     locked: &mut Locked<L>,
     seat: &mut Seat<L>,
@@ -56,7 +60,7 @@ fn replay_one<L: Ledger>(
     requires fits { Fits locked.old seat.old }
     ensures recorded { IfOk result (λ b. b ≡ is_recorded (due_at locked.old.node event)) }
     ensures held { OnOk result (locked.new ≡ held_after locked.old seat.old event) }
-    ensures seat { OnOk result (seat.new ≡ seat_after locked.old seat.old event) }
+    ensures fits { Fits locked.new seat.new }
     ensures err { IfErr result (λ e. e ≡ fault.Memory) }
     ensures same { OnErr result (locked.new ≡ locked.old) }
     ensures legal { IsLegalNode locked.new.node }
@@ -76,7 +80,7 @@ fn replay_one<L: Ledger>(
 /// # Errors
 ///
 /// The digits behind some events are none, or the node does not record it; want of memory.
-pub(crate) fn replay<L: Ledger>(
+pub fn replay<L: Ledger>(
     locked: &mut Locked<L>,
     seat: &mut Seat<L>,
     digits: &[u8],
@@ -88,24 +92,24 @@ pub(crate) fn replay<L: Ledger>(
     ensures each { OnOk result (All (IsEventOf locked.new.node.config.roles.sizes locked.new.node.me)
         locked.new.node.history) }
     ensures count { IfOk result (λ n. n ≡ end_of locked.new) }
-    ensures fits { OnOk result (Fits locked.new seat.new) }
-    ensures legal { OnOk result (IsLegalNode locked.new.node) }
+    ensures fits { Fits locked.new seat.new }
+    ensures legal { IsLegalNode locked.new.node }
     ensures sizes { AreSizes locked.new.node.config.roles.sizes }
     ensures illegal { IfErr result (IsReplayFault locked.old.node.config locked.old.node.me digits.now) }
 {
     let sizes = locked.config().roles().sizes();
     let me = locked.me();
     let _nodes = sizes.n();
-    let mut rest = digits;
+    let mut at = 0;
     let mut place = 0u64;
-    while !rest.is_empty() {
-        let Some((event, behind)) = read_event(sizes, me, rest) else {
+    while at < digits.len() {
+        let Some((event, count)) = read_event(sizes, me, &digits[at..]) else {
             return Err(ReplayFault::Illegal { place });
         };
         if !replay_one(locked, seat, event)? {
             return Err(ReplayFault::Illegal { place });
         }
-        rest = behind;
+        at += count;
         place += 1;
     }
     Ok(place)

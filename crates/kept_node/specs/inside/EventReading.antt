@@ -1,7 +1,7 @@
 -- How digits are read as an event. Serves the code, and no public contract.
 use Rattle.std.specs.Prelude.{ℕ, ◌+◌, ◌-◌, ◌*◌, ◌==◌, ◌^◌, nat_lt, nat_le, if◌then◌else◌}
-use Rattle.std.specs.Prelude.{List, [], ◌∷◌, length, take, drop, Option, Some, None, option_map, option_and_then}
-use Rattle.quorum_sizes.specs.Sizes.{Counts}
+use Rattle.std.specs.Prelude.{List, [], ◌∷◌, length, take, drop, Option, Some, None, option_map}
+use Rattle.quorum_sizes.specs.Sizes.{Counts, name_due}
 use Rattle.role_commands.specs.Numbers.{◌>>=◌}
 use Rattle.role_commands.specs.declared.command.Command.{Command}
 use Rattle.role_commands.specs.declared.command.Command.TheVariants.{Assign, Deassign, Grant, Revoke, Clear}
@@ -14,20 +14,32 @@ use Rattle.role_sessions.specs.declared.event.ClientEvent.TheVariants.{Open, Act
 use Rattle.role_node.specs.declared.event.Event.{Event}
 use Rattle.role_node.specs.declared.event.Event.TheVariants.{Issue, Take, Client}
 
+-- what is at most a limit
+abbrev pub up_to : ℕ → ℕ → Option ℕ
+up_to most n = if nat_le n most then Some n else None
+
 -- the number below 2^64 of these digits, the lowest first
 unfoldable pub number_of : List ℕ → Option ℕ
 number_of [] = Some 0
 number_of (digit ∷ digits) = if is_digit digit then (do
   high ← number_of digits
-  (if nat_lt (high * 120 + (digit - 129)) (2 ^ 64) then Some (high * 120 + (digit - 129)) else None)) else None
+  up_to 18446744073709551615 (high * 120 + (digit - 129))) else None
 
 -- the number of so many digits at the front, if it is at most this, and what is behind
 unfoldable pub number_at : ℕ → ℕ → List ℕ → Option (ℕ × List ℕ)
 number_at width most digits = if nat_le width (length digits) then (do
   number ← number_of (take width digits)
-  (if nat_le number most then Some (number, drop width digits) else None)) else None
+  n ← up_to most number
+  Some (n, drop width digits)) else None
 
--- a role and a user; a role, an operation and an object; a session and a user
+-- the name of a node of these sizes
+unfoldable pub name_at : Counts → List ℕ → Option (ℕ × List ℕ)
+name_at s digits = do
+  index ← number_at 2 127 digits
+  name ← name_due s index.0
+  Some (name, index.1)
+
+-- a role and a user; a role, an operation and an object; a session, a user and a role
 unfoldable pub role_and_user_at : List ℕ → Option ((ℕ × ℕ) × List ℕ)
 role_and_user_at digits = do
   role ← number_at 3 65535 digits
@@ -41,11 +53,12 @@ permission_at digits = do
   object ← number_at 5 4294967295 operation.1
   Some ((role.0, operation.0, object.0), object.1)
 
-unfoldable pub session_and_user_at : List ℕ → Option ((ℕ × ℕ) × List ℕ)
-session_and_user_at digits = do
+unfoldable pub session_and_role_at : List ℕ → Option ((ℕ × ℕ × ℕ) × List ℕ)
+session_and_role_at digits = do
   session ← number_at 10 18446744073709551615 digits
   user ← number_at 5 4294967295 session.1
-  Some ((session.0, user.0), user.1)
+  role ← number_at 3 65535 user.1
+  Some ((session.0, user.0, role.0), role.1)
 
 -- the command with this number
 unfoldable pub command_at : ℕ → List ℕ → Option (Command × List ℕ)
@@ -59,8 +72,8 @@ command_at number digits =
 -- the packet of this kind to a node, whose command has this number
 unfoldable pub packet_at : Counts → ℕ → Kind → ℕ → List ℕ → Option (PacketValue × List ℕ)
 packet_at s me kind number digits = do
-  from ← number_at 2 (s.nodes - 1) digits
-  owner ← number_at 2 (s.nodes - 1) from.1
+  from ← name_at s digits
+  owner ← name_at s from.1
   place ← number_at 3 1048575 owner.1
   command ← command_at number place.1
   packet ← packet_due from.0 me (record { kind = kind; owner = owner.0; place = place.0; command = command.0 })
@@ -70,15 +83,12 @@ packet_at s me kind number digits = do
 unfoldable pub act_at : ℕ → List ℕ → Option (ClientEvent × List ℕ)
 act_at number digits =
     if number == 20 then option_map (λ r. (Open r.0, r.1)) (number_at 5 4294967295 digits)
-    else (if number == 21 then (do
-      session ← session_and_user_at digits
-      role ← number_at 3 65535 session.1
-      Some (Activate session.0.0 session.0.1 role.0, role.1))
-    else (if number == 22 then (do
-      session ← session_and_user_at digits
-      role ← number_at 3 65535 session.1
-      Some (DropRole session.0.0 session.0.1 role.0, role.1))
-    else (if number == 23 then option_map (λ r. (Close r.0.0 r.0.1, r.1)) (session_and_user_at digits) else None)))
+    else (if number == 21 then option_map (λ r. (Activate r.0.0 r.0.1 r.0.2, r.1)) (session_and_role_at digits)
+    else (if number == 22 then option_map (λ r. (DropRole r.0.0 r.0.1 r.0.2, r.1)) (session_and_role_at digits)
+    else (if number == 23 then (do
+      session ← number_at 10 18446744073709551615 digits
+      user ← number_at 5 4294967295 session.1
+      Some (Close session.0 user.0, user.1)) else None)))
 
 -- the event with this number
 unfoldable pub numbered_event : Counts → ℕ → ℕ → List ℕ → Option (Event × List ℕ)
