@@ -4,7 +4,7 @@ ghost use Rattle.std.specs.Prelude.{◌≡◌, ◌<◌, ◌≤◌, ◌==◌, [],
 ghost use Rattle.std.specs.List.{filter_map, cons_option, list_any};
 ghost use Rattle.serde_json.specs.View.{view};
 ghost use Rattle.role_commands.specs.Tables.{no_roles};
-ghost use Rattle.cluster_text.specs.Linked.{ring_of};
+ghost use Rattle.cluster_text.specs.Linked.{ring_of, own_key};
 ghost use Rattle.cluster_text.specs.Results.{IsDueOrMemory, IsDueElseMemory};
 ghost use Rattle.cluster_text.specs.Shapes as shapes;
 ghost use Rattle.cluster_text.specs.Setups as setups;
@@ -68,6 +68,15 @@ impl Setup {
             Err(KeyFault::Memory) => Err(AllocError),
             Err(KeyFault::WrongCount) => unreachable!(),
         }
+    }
+
+    /// The key of a server's node with itself.
+    pub fn own_key(&self) -> [u8; 32]
+        requires me { IsNodeSetup self.now }
+        requires peers { IsServerSetup self.now }
+        ensures { result ≡ own_key self.now }
+    {
+        self.keys.as_slice()[usize::from(self.me.index())]
     }
 }
 
