@@ -11,8 +11,8 @@ use Rattle.role_node.specs.Configs.{ConfigValue}
 use Rattle.role_node.specs.declared.event.Event.{Event}
 use Rattle.kept_node.specs.Events.{IsEventOf, digits_of_events, event_digits}
 use Rattle.kept_node.specs.NodeHeads.{IsHeadOf}
-use Rattle.kept_node.specs.declared.replay.ReplayFault.{ReplayFault}
-use Rattle.kept_node.specs.declared.replay.ReplayFault.TheVariants as replay_fault
+use Rattle.kept_node.specs.declared.replaying.ReplayFault.{ReplayFault}
+use Rattle.kept_node.specs.declared.replaying.ReplayFault.TheVariants as replay_fault
 use Rattle.kept_node.specs.declared.fault.Unrestored.{Unrestored}
 use Rattle.kept_node.specs.declared.fault.Unrestored.TheVariants.{Unopened, Illegal, Memory}
 

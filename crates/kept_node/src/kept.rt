@@ -1,8 +1,8 @@
 //! A locked node with its journal.
 
 ghost use Rattle.std.specs.Prelude.{◌≡◌, ◌↔◌, ◌⊎◌, ◌<◌, ◌≤◌, ◌+◌, [], false, length, IsTrue, List, ℕ};
-ghost use Rattle.std.specs.Prelude.{option_map, Ok, IfOk, IfErr, OnOk, OnErr};
-ghost use Rattle.std.specs.Prelude.{◌++◌, vec_len};
+ghost use Rattle.std.specs.Prelude.{option_map, Ok, IfOk, IfErr, IfSome, OnOk, OnErr};
+ghost use Rattle.std.specs.Prelude.{◌++◌, IsOk, vec_len};
 ghost use Rattle.std.specs.Vec.{vec_capacity};
 ghost use Rattle.batch_journal.specs.Digits.{AreDigits};
 ghost use Rattle.batch_journal.specs.Faults.{Failed};
@@ -16,7 +16,7 @@ ghost use Rattle.node_lock.specs.Views.{node_count, view_of, held_after_hold, se
 ghost use Rattle.peer_windows.specs.Owed.{IsGathered};
 ghost use Rattle.peer_windows.specs.Pauses.{most_time};
 ghost use Rattle.kept_node.specs.Events.{event_digits, IsEvent};
-ghost use Rattle.kept_node.specs.inside.Fields.{IsCommitted};
+ghost use Rattle.kept_node.specs.inside.Fields.{IsCommitted, event_in};
 ghost use Rattle.kept_node.specs.Keeping as keeping;
 ghost use Rattle.kept_node.specs.Keeping.{Survives, StandsFor};
 ghost use Rattle.kept_node.specs.Restoring.{IsUnrestored, LeavesAsBefore, file_of};
@@ -24,7 +24,7 @@ ghost use Rattle.kept_node.specs.Restoring.{IsUnrestored, LeavesAsBefore, file_o
 use crate::event_digits::{MOST_EVENT_DIGITS, push_event};
 use crate::fault::Unrestored;
 use crate::head::head_of;
-use crate::replay::{ReplayFault, replay};
+use crate::replaying::{ReplayFault, replay};
 use crate::untold::{Synced, Untold};
 use batch_journal::{Journal, JournalFault};
 use link_frames::{Packet, Place};
@@ -57,11 +57,15 @@ pub struct Kept<L: Ledger, D: Disk> {
 }
 
 impl<L: Ledger, D: Disk> Model for Kept<L, D> {
+    ghost use Rattle.std.specs.Coded.{codes};
     ghost use Rattle.std.specs.Vec.{vec_capacity};
+    ghost use Rattle.node_lock.specs.Holds.{held_code};
     ghost use Rattle.kept_node.specs.Keeping.{KeptValue};
     ghost use Rattle.kept_node.specs.inside.Fields.{IsKept};
 
     ghost Value = { KeptValue D };
+
+    ghost coded = { Prim.hlevel (codes, held_code) };
 
     ghost view = { λ a. record {
       held = a.locked;
@@ -202,13 +206,12 @@ impl<L: Ledger, D: Disk> Kept<L, D> {
         ensures journal { self.new ≡ record self.old { held = self.new.held } }
         ensures crash { Survives D.Disk.may_leave D.Disk.is_clean self.new }
     {
+        let event = event_of(call);
         let (receipt, view) = self.locked.hold(seat, call, owner, place)?;
         let at = u64::from(view.at);
-        if let Some(Call::Step(event)) = call {
-            if at > self.recorded {
-                put_behind(&mut self.waiting, &event);
-                self.recorded = at;
-            }
+        if at > self.recorded {
+            put_behind(&mut self.waiting, event);
+            self.recorded = at;
         }
         Ok(Untold::new(receipt, view, at))
     }
@@ -297,17 +300,29 @@ fn wanting<D: Disk>(files: Files<D>) -> Unrestored<D>
     }
 }
 
+/// The event that a call applies.
+fn event_of(call: Option<Call>) -> Option<Event>
+    ensures { result ≡ event_in call }
+{
+    match call {
+        Some(Call::Step(event)) => Some(event),
+        _ => None,
+    }
+}
+
 /// Puts the digits of an event behind those that wait, for which there is memory.
-fn put_behind(waiting: &mut Vec<u8>, event: &Event)
+fn put_behind(waiting: &mut Vec<u8>, event: Option<Event>)
     requires { vec_len waiting.old + 19 ≤ vec_capacity waiting.old }
-    ensures digits { waiting.new.items ≡ waiting.old.items ++ event_digits event.now }
+    ensures digits { IfSome event (λ e. waiting.new.items ≡ waiting.old.items ++ event_digits e) }
     ensures few { vec_len waiting.new ≤ vec_len waiting.old + 19 }
     ensures capacity { vec_capacity waiting.old ≤ vec_capacity waiting.new }
-    ensures fits { IsEvent event.now }
+    ensures fits { IfSome event IsEvent }
 {
-    let Ok(()) = push_event(waiting, event) else {
-        unreachable!()
-    };
+    if let Some(event) = event {
+        let Ok(()) = push_event(waiting, &event) else {
+            unreachable!()
+        };
+    }
 }
 
 /// Writes what waits as one batch, and syncs it.

@@ -11,7 +11,7 @@ mod fault;
 mod head;
 mod kept;
 pub mod laws;
-mod replay;
+mod replaying;
 mod untold;
 
 pub use event_digits::{MOST_EVENT_DIGITS, push_event};
@@ -19,5 +19,5 @@ pub use event_reading::read_event;
 pub use fault::Unrestored;
 pub use head::head_of;
 pub use kept::{Kept, MOST_WAITING};
-pub use replay::{NotNew, ReplayFault, new_locked, replay};
+pub use replaying::{NotNew, ReplayFault, new_locked, replay};
 pub use untold::{Leaving, Synced, Told, Untold};

@@ -1,5 +1,5 @@
 -- What holds of the fields of a kept node. Serves the code, and no public contract.
-use Rattle.std.specs.Prelude.{◌≡◌, ℕ, ◌+◌, ◌-◌, ◌*◌, ◌≤◌, Bool, false, IsTrue, List, [], ◌∷◌, ◌++◌, length, All}
+use Rattle.std.specs.Prelude.{◌≡◌, ℕ, ◌+◌, ◌-◌, ◌*◌, ◌≤◌, Bool, false, IsTrue, List, [], ◌∷◌, ◌++◌, length, All, Option, Some, None}
 use Rattle.std.specs.List.{concat}
 use Rattle.quorum_sizes.specs.Sizes.{AreSizes}
 use Rattle.batch_journal.specs.Digits.{AreDigits}
@@ -7,9 +7,17 @@ use Rattle.batch_journal.specs.Journals as journals
 use Rattle.batch_journal.specs.Journals.{JournalValue}
 use Rattle.role_node.specs.declared.event.Event.{Event}
 use Rattle.node_lock.specs.Holds.{Held, end_of}
+use Rattle.node_lock.specs.declared.receipt.Call.{Call}
+use Rattle.node_lock.specs.declared.receipt.Call.TheVariants.{Step, Ask}
 use Rattle.kept_node.specs.Events.{IsEventOf, digits_of_events}
 use Rattle.kept_node.specs.NodeHeads.{IsHeadOf}
 use Rattle.kept_node.specs.Keeping.{most_waiting}
+
+-- the event that a call applies
+abbrev pub event_in : Option Call → Option Event
+event_in (Some (Step event)) = Some event
+event_in (Some (Ask question)) = None
+event_in None = None
 
 -- The history in three parts: those events that are synced, those of a batch that is written and not synced, if there
 -- is one, and those whose digits wait to be written.

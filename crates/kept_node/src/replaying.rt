@@ -5,9 +5,10 @@ ghost use Rattle.quorum_sizes.specs.Sizes.{AreSizes};
 ghost use Rattle.role_node.specs.Answers.{is_recorded};
 ghost use Rattle.role_node.specs.Nodes.{IsLegalNode, due_at};
 ghost use Rattle.node_lock.specs.Holds.{end_of, Fits, held_after, seat_after};
+ghost use Rattle.node_lock.specs.Receipts.{is_recorded_outcome};
 ghost use Rattle.kept_node.specs.Events.{IsEventOf, digits_of_events};
 ghost use Rattle.kept_node.specs.Restoring.{IsReplayFault};
-ghost use Rattle.kept_node.specs.declared.replay.ReplayFault.TheVariants as fault;
+ghost use Rattle.kept_node.specs.declared.replaying.ReplayFault.TheVariants as fault;
 
 use crate::event_reading::read_event;
 use node_lock::{Locked, Outcome, Seat, SharedNode, StepFault};
@@ -66,12 +67,19 @@ fn replay_one<L: Ledger>(
     ensures legal { IsLegalNode locked.new.node }
 {
     match locked.step(seat, event) {
-        Ok(receipt) => match receipt.outcome {
-            Outcome::Reply(Reply::Idle) | Outcome::Answer(_) | Outcome::Refused(_) => Ok(false),
-            Outcome::Reply(_) => Ok(true),
-        },
+        Ok(receipt) => Ok(has_recorded(&receipt.outcome)),
         Err(StepFault::Memory) => Err(ReplayFault::Memory),
         Err(_) => unreachable!(),
+    }
+}
+
+/// Whether an outcome is of an event that was recorded.
+fn has_recorded(outcome: &Outcome) -> bool
+    ensures { result ≡ is_recorded_outcome outcome.now }
+{
+    match outcome {
+        Outcome::Reply(reply) => !matches!(reply, Reply::Idle),
+        Outcome::Answer(_) | Outcome::Refused(_) => false,
     }
 }
 

@@ -1,0 +1,61 @@
+-- What an event does to a seat and to what is behind the lock.
+use Rattle.std.proofs.Common.{◌≡◌, ℕ, ◌+◌, ◌<◌, ◌≤◌, Bool, true, false, cond, Option, Some, None, Result, Ok, Err}
+use Rattle.std.proofs.Common.{List, [], ◌∷◌, ◌++◌, length, refl, ap, sym, ◌∙◌, subst, arith, length-append, ◌⊎◌, inl, inr}
+use Rattle.std.specs.Prelude.{IsTrue, ◌==◌, ◌&&◌, count_by, slice_get}
+use Rattle.std.proofs.lemmas.Bool.Decides.{nat_tests}
+use Rattle.std.proofs.lemmas.List.Sums.{count_by-append}
+use Rattle.link_frames.specs.Packets.{PacketValue}
+use Rattle.role_node.specs.Answers.{answer_due, is_recorded, is_routed, IsLegal, answered, unless_full, take_outlook}
+use Rattle.role_node.specs.Configs.{ConfigValue}
+use Rattle.role_node.specs.Nodes.{NodeValue, due_at, with_event}
+use Rattle.role_node.specs.declared.event.Event.{Event}
+use Rattle.role_node.specs.declared.event.Event.TheVariants.{Issue, Take, Client}
+use Rattle.role_node.specs.declared.event.Reply.{Reply}
+use Rattle.role_node.specs.declared.event.Reply.TheVariants as reply
+use Rattle.role_node.specs.declared.faults.NodeFault.{NodeFault}
+use Rattle.node_lock.specs.Holds.{Held, Fits, end_of, held_after, seat_after, count_of}
+use Rattle.node_lock.specs.Receipts.{outcome_from, is_recorded_outcome}
+use Rattle.node_lock.specs.Seats.{Sitting}
+use Rattle.kept_node.specs.Events.{IsEvent, IsEventOf}
+
+pub outcome_recorded : (due : Result Reply NodeFault) → is_recorded_outcome (outcome_from due) ≡ is_recorded due
+outcome_recorded (Ok r) = refl
+outcome_recorded (Err f) = refl
+
+pub legal_none : (config : ConfigValue) (me : ℕ) → IsLegal config me []
+legal_none config me k event e = absurd cc
+
+counted_more : (number : ℕ) (seats : List ℕ) →
+    count_by (λ n. n == number) (seats ++ number ∷ []) ≡ count_by (λ n. n == number) seats + 1
+counted_more number seats =
+    let itself : (number == number) ≡ true = grind (arith, nat_tests) in
+    count_by-append (λ n. n == number) seats (number ∷ [])
+    ∙ ap (λ (b : Bool). count_by (λ n. n == number) seats + cond b 1 0) itself
+
+pub fits_after : (h : Held) (s : Sitting) (e : Event) → Fits h s → Fits (held_after h s e) (seat_after h s e)
+fits_after h s e fits = go (is_recorded (due_at h.node e))
+  where
+    go : (b : Bool) → Fits
+        (cond b (record { node = with_event h.node e; seats = h.seats ++ s.number ∷ [] }) h)
+        (cond b (record { number = s.number; count = s.count + 1; seen = end_of h + 1 })
+            (record { number = s.number; count = s.count; seen = end_of h }))
+    go true = record {
+      seen = omega (arith, length-append h.node.history (e ∷ []));
+      count = counted_more s.number h.seats ∙ ap (λ n. n + 1) fits.count;
+    }
+    go false = record { seen = omega arith; count = fits.count }
+
+-- a packet that is recorded is for the node, from a node and about a node's stream
+taken_is_routed : (config : ConfigValue) (me : ℕ) (history : List Event) (p : PacketValue) →
+    IsTrue (is_recorded (answer_due config me history (Take p))) → IsTrue (is_routed config.roles.sizes me p)
+taken_is_routed config me history p h = go (is_routed config.roles.sizes me p) refl
+  where
+    go : (b : Bool) → is_routed config.roles.sizes me p ≡ b → IsTrue b
+    go true e = refl
+    go false e = ?
+
+pub recorded_is_of : (config : ConfigValue) (me : ℕ) (history : List Event) (e : Event) → IsEvent e →
+    IsTrue (is_recorded (answer_due config me history e)) → IsEventOf config.roles.sizes me e
+recorded_is_of config me history (Issue command) h recorded = h
+recorded_is_of config me history (Take p) h recorded = (h, taken_is_routed config me history p recorded)
+recorded_is_of config me history (Client act) h recorded = h
