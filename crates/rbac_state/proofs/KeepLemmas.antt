@@ -13,7 +13,7 @@ use Rattle.rbac_state.proofs.BlockLemmas.{around, around_set}
 use Rattle.rbac_state.proofs.PlaceLemmas.{are_blocks_taken, same_tidied}
 
 module _ {X : Type 0} (p : X → Bool) where
-  passing : (xs : List X) → AllByRecursion (λ x. p x ≡ true) (filter p xs)
+  pub passing : (xs : List X) → AllByRecursion (λ x. p x ≡ true) (filter p xs)
   passing [] = tt
   passing (x ∷ xs) =
       elim (p x) as (λ b. p x ≡ b → AllByRecursion (λ y. p y ≡ true) (cond b (x ∷ filter p xs) (filter p xs))) [
@@ -21,14 +21,14 @@ module _ {X : Type 0} (p : X → Bool) where
         | false ↦ λ e. passing xs
       ] refl
 
-  filter_all : (xs : List X) → AllByRecursion (λ x. p x ≡ true) xs → filter p xs ≡ xs
+  pub filter_all : (xs : List X) → AllByRecursion (λ x. p x ≡ true) xs → filter p xs ≡ xs
   filter_all [] all = refl
   filter_all (x ∷ xs) all = rw (all.0) (ap (λ l. x ∷ l) (filter_all xs all.1))
 
   pub filter_twice : (xs : List X) → filter p (filter p xs) ≡ filter p xs
   filter_twice xs = filter_all (filter p xs) (passing xs)
 
-  filter_three : (xs ys zs : List X) → filter p (xs ++ (ys ++ zs)) ≡ filter p xs ++ (filter p ys ++ filter p zs)
+  pub filter_three : (xs ys zs : List X) → filter p (xs ++ (ys ++ zs)) ≡ filter p xs ++ (filter p ys ++ filter p zs)
   filter_three xs ys zs =
       filter-append p xs (ys ++ zs) ∙ ap (λ l. filter p xs ++ l) (filter-append p ys zs)
 
@@ -36,7 +36,7 @@ module _ {X Z : Type 0} (p : X → Bool) where
   abbrev Passes : Vec X Z → Type 0
   Passes b = AllByRecursion (λ x. p x ≡ true) b.items
 
-  all_passing : (bs : List (Vec X Z)) → AllByRecursion Passes bs → AllByRecursion (λ x. p x ≡ true) (items_in bs)
+  pub all_passing : (bs : List (Vec X Z)) → AllByRecursion Passes bs → AllByRecursion (λ x. p x ≡ true) (items_in bs)
   all_passing [] each = tt
   all_passing (b ∷ bs) each = each_append (λ x. p x ≡ true) b.items (items_in bs) each.0 (all_passing bs each.1)
 
@@ -116,7 +116,7 @@ module _ {X Z : Type 0} (p : X → Bool) where
             (are_blocks_taken bs i b y at within capacity shrinks room (kept.room room are));
       }
 
-  each_passing : (bs : List (Vec X Z)) → AllByRecursion (λ x. p x ≡ true) (items_in bs) → AllByRecursion Passes bs
+  pub each_passing : (bs : List (Vec X Z)) → AllByRecursion (λ x. p x ≡ true) (items_in bs) → AllByRecursion Passes bs
   each_passing [] each = tt
   each_passing (b ∷ bs) each = (
     each_first (λ x. p x ≡ true) b.items (items_in bs) each,

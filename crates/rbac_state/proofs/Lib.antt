@@ -8,6 +8,7 @@ pub mod RangeLemmas
 pub mod EachLemmas
 pub mod BlockLemmas
 pub mod RunLemmas
+pub mod PickLemmas
 pub mod PlaceLemmas
 pub mod SplitLemmas
 pub mod KeepLemmas

@@ -73,7 +73,7 @@ module _ {X K : Type 0} (f : X → List K) (xs : List X) (i : ℕ) (b : X)
         ascends_taken is =
             ascends_changed (λ q h. inr (and_second (eq_by_cmp R q item) (is_among R (f b) q) (sym (is q) ∙ h)))
 
-each_set : {X : Type 0} (P : X → Type 0) (xs : List X) (i : ℕ) (y : X) → AllByRecursion P xs → P y
+pub each_set : {X : Type 0} (P : X → Type 0) (xs : List X) (i : ℕ) (y : X) → AllByRecursion P xs → P y
     → AllByRecursion P (set xs i y)
 each_set P [] zero y each here = tt
 each_set P [] (suc i) y each here = tt
@@ -93,7 +93,7 @@ later_at P [] i d within each later = absurd (omega arith)
 later_at P (x ∷ xs) zero d within each later = absurd (omega arith)
 later_at P (x ∷ xs) (suc i) d within each later = each_at P xs i d (omega arith) each
 
-length_same : {X : Type 0} (xs : List X) (i : ℕ) (y : X) → length (set xs i y) ≡ length xs
+pub length_same : {X : Type 0} (xs : List X) (i : ℕ) (y : X) → length (set xs i y) ≡ length xs
 length_same [] zero y = refl
 length_same [] (suc i) y = refl
 length_same (x ∷ xs) zero y = refl
@@ -177,7 +177,7 @@ module _ {X Z : Type 0} where
         | x ∷ l ↦ λ e. let long : length b.items ≡ length (x ∷ l) = ap length e in absurd (omega (arith, b.ok.0))
       ] refl
 
-  some_in : (b : Vec X Z) → (vec_len b == 0) ≡ false → has_none b.items ≡ false
+  pub some_in : (b : Vec X Z) → (vec_len b == 0) ≡ false → has_none b.items ≡ false
   some_in b filled =
       elim (b.items) as (λ l. b.items ≡ l → has_none l ≡ false) [
         | [] ↦ λ e.

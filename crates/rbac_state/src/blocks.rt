@@ -7,7 +7,8 @@ ghost use Rattle.std.specs.List.{AllByRecursion};
 ghost use Rattle.std.specs.List.Sorted.{IsStrictlySortedBy};
 ghost use Rattle.std.specs.Ordering.{eq_by_cmp, is_le, nat_cmp};
 ghost use Rattle.std.specs.declared.cmp.Ordering.TheVariants.{Less};
-ghost use Rattle.rbac_state.specs.inside.Blocks.{AreBlocks, IsSplit, block_size, items_in, begins, tidied};
+ghost use Rattle.rbac_state.specs.inside.Blocks.{AreBlocks, IsRoomy, IsSplit, block_size, items_in};
+ghost use Rattle.rbac_state.specs.inside.Blocks.{begins, has_none, tidied};
 ghost use Rattle.rbac_state.specs.inside.Relations.{is_among};
 
 use crate::pair::Pair;
@@ -192,6 +193,35 @@ pub fn take_away_second<const LIMIT: u64>(blocks: &mut Vec<Vec<Pair<LIMIT>>>, se
     while place > 0 {
         place -= 1;
         sorted::take_away_second(&mut blocks[place], second);
-        drop_if_empty(blocks, place);
     }
+    drop_empty(blocks);
+}
+
+/// Drops all blocks that are empty, save that one stays. Those that stay are moved once.
+pub fn drop_empty<T: Drop>(blocks: &mut Vec<Vec<T>>)
+    ensures same { items_in blocks.new.items ≡ items_in blocks.old.items }
+    ensures room { (room : ℕ) → AllByRecursion (IsRoomy room) blocks.old.items
+        → (0 < room → 0 < length blocks.old.items) → AreBlocks room blocks.new.items }
+{
+    if have_items(blocks) {
+        blocks.retain(
+            |block: &Vec<T>| -> bool
+                ensures { result ≡ not (has_none block.now.items) }
+            { !block.is_empty() },
+        );
+    } else {
+        blocks.truncate(1);
+    }
+}
+
+/// Whether some block has an item.
+fn have_items<T>(blocks: &[Vec<T>]) -> bool
+    ensures { result ≡ not (has_none (items_in blocks.now)) }
+{
+    for block in blocks {
+        if !block.is_empty() {
+            return true;
+        }
+    }
+    false
 }

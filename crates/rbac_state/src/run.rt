@@ -10,7 +10,7 @@ ghost use Rattle.rbac_state.specs.inside.Pairs.{number_cmp, most_firsts};
 ghost use Rattle.rbac_state.specs.inside.Relations.{is_among};
 ghost use Rattle.rbac_state.specs.inside.Runs.{AreAlike, IsFilled, pairs_in};
 
-use crate::blocks::{self, drop_if_empty, later};
+use crate::blocks::{self, drop_empty, drop_if_empty, later};
 use crate::pair::{Pair, ROLES};
 use crate::sorted;
 
@@ -19,6 +19,9 @@ const PASSED_A_SEARCH: usize = 256;
 
 /// Fewer pairs than so many are gone over in the time in which it is seen how many there are of one first.
 const FEW: usize = 64;
+
+/// Of fewer blocks that get empty each is dropped by itself: to drop several together all blocks are looked at.
+const FEW_BLOCKS: usize = 8;
 
 /// Where the pairs of one first lie: in a part of one block, which has no others, or in blocks behind one another,
 /// which may begin and end with others.
@@ -171,12 +174,59 @@ pub fn take_away_first<const LIMIT: u64>(blocks: &mut Vec<Vec<Pair<LIMIT>>>, fir
     ensures room { (room : ℕ) → AreBlocks room blocks.old.items → AreBlocks room blocks.new.items }
 {
     let start = start_of(blocks, first);
-    let mut place = end_of(blocks, first, start);
+    let end = end_of(blocks, first, start);
+    if end - start <= FEW_BLOCKS {
+        take_away_in_few(blocks, first, start, end);
+    } else {
+        take_away_in_many(blocks, first, start, end);
+    }
+}
+
+/// As `take_away_first`, where all pairs of this first lie in the blocks from one place up to another. Each block that
+/// gets empty is dropped by itself.
+fn take_away_in_few<const LIMIT: u64>(
+    blocks: &mut Vec<Vec<Pair<LIMIT>>>,
+    first: u64,
+    start: usize,
+    end: usize,
+)
+    requires onward { start ≤ end }
+    requires within { end ≤ length blocks.old.items }
+    requires below { AllByRecursion (λ p. nat_cmp p.0 first ≡ Less) (items_in (take start blocks.old.items)) }
+    requires above { AllByRecursion (λ p. nat_cmp first p.0 ≡ Less) (items_in (drop end blocks.old.items)) }
+    ensures items { items_in blocks.new.items
+        ≡ filter (λ p. not (eq_by_cmp nat_cmp p.0 first)) (items_in blocks.old.items) }
+    ensures room { (room : ℕ) → AreBlocks room blocks.old.items → AreBlocks room blocks.new.items }
+{
+    let mut place = end;
     while place > start {
         place -= 1;
         sorted::take_away_first(&mut blocks[place], first);
         drop_if_empty(blocks, place);
     }
+}
+
+/// As `take_away_in_few`, but the blocks that get empty are dropped together.
+fn take_away_in_many<const LIMIT: u64>(
+    blocks: &mut Vec<Vec<Pair<LIMIT>>>,
+    first: u64,
+    start: usize,
+    end: usize,
+)
+    requires onward { start ≤ end }
+    requires within { end ≤ length blocks.old.items }
+    requires below { AllByRecursion (λ p. nat_cmp p.0 first ≡ Less) (items_in (take start blocks.old.items)) }
+    requires above { AllByRecursion (λ p. nat_cmp first p.0 ≡ Less) (items_in (drop end blocks.old.items)) }
+    ensures items { items_in blocks.new.items
+        ≡ filter (λ p. not (eq_by_cmp nat_cmp p.0 first)) (items_in blocks.old.items) }
+    ensures room { (room : ℕ) → AreBlocks room blocks.old.items → AreBlocks room blocks.new.items }
+{
+    let mut next = end;
+    while next > start {
+        next -= 1;
+        sorted::take_away_first(&mut blocks[next], first);
+    }
+    drop_empty(blocks);
 }
 
 /// Takes away all pairs of this second: each by a search where they are few beside all pairs, and else in one pass.

@@ -1,6 +1,7 @@
 //! Lists in ascending order without repeats: a look-up is a search, or a look at each of a few.
 
-ghost use Rattle.std.specs.Prelude.{◌≡◌, ◌<◌, ◌≤◌, ◌+◌, ◌||◌, ◌&&◌, not, filter, insert, vec_len, vec_capacity};
+ghost use Rattle.std.specs.Prelude.{◌≡◌, ◌<◌, ◌≤◌, ◌+◌, ◌||◌, ◌&&◌, All, false, true, not, filter, insert};
+ghost use Rattle.std.specs.Prelude.{vec_len, vec_capacity};
 ghost use Rattle.std.specs.List.Sorted.{IsStrictlySortedBy};
 ghost use Rattle.std.specs.Ordering.{eq_by_cmp, is_eq, is_lt, nat_cmp};
 ghost use Rattle.rbac_state.specs.inside.Pairs.{number_cmp};
@@ -78,12 +79,27 @@ pub fn take_away<T: Ord + Drop>(items: &mut Vec<T>, item: &T)
     }
 }
 
+/// Whether a pair may be of this second. It only chooses a way, of two with one result: all pairs are looked at, since
+/// a look that ends at the first such pair takes longer.
+fn may_have_second<const LIMIT: u64>(pairs: &[Pair<LIMIT>], second: u64) -> bool
+    ensures { result ≡ false → All (λ p. not (eq_by_cmp nat_cmp p.1 second) ≡ true) pairs.now }
+{
+    let mut found = false;
+    for pair in pairs {
+        found |= pair.second().cmp(&second).is_eq();
+    }
+    found
+}
+
 /// Takes away all pairs of this second.
 pub fn take_away_second<const LIMIT: u64>(pairs: &mut Vec<Pair<LIMIT>>, second: u64)
     ensures items { pairs.new.items ≡ filter (λ p. not (eq_by_cmp nat_cmp p.1 second)) pairs.old.items }
     ensures shrinks { vec_len pairs.new ≤ vec_len pairs.old }
     ensures capacity { vec_capacity pairs.old ≤ vec_capacity pairs.new }
 {
+    if !may_have_second(pairs, second) {
+        return;
+    }
     pairs.retain(
         |pair: &Pair<LIMIT>| -> bool
             ensures { result ≡ not (eq_by_cmp nat_cmp pair.now.1 second) }

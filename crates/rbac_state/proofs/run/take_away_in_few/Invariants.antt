@@ -1,7 +1,7 @@
 use Rattle.std.proofs.Common.{not}
 use Rattle.std.specs.Ordering.{eq_by_cmp, nat_cmp}
 use Rattle.rbac_state.proofs.KeepLemmas.{IsKeptBetween}
-use Rattle.rbac_state.proofs.run.take_away_first.Given as goal
+use Rattle.rbac_state.proofs.run.take_away_in_few.Given as goal
 
 abbrev pub invariant-loop-place : goal.invariant-loop-place
 invariant-loop-place g l =
