@@ -1,11 +1,15 @@
 -- What an event does to a seat and to what is behind the lock.
 use Rattle.std.proofs.Common.{◌≡◌, ℕ, ◌+◌, ◌<◌, ◌≤◌, Bool, true, false, cond, Option, Some, None, Result, Ok, Err}
 use Rattle.std.proofs.Common.{List, [], ◌∷◌, ◌++◌, length, refl, ap, sym, ◌∙◌, subst, arith, length-append, ◌⊎◌, inl, inr}
-use Rattle.std.specs.Prelude.{IsTrue, ◌==◌, ◌&&◌, count_by, slice_get}
+use Rattle.std.specs.Prelude.{IsTrue, ◌==◌, ◌&&◌, count_by, slice_get, nat_le}
 use Rattle.std.proofs.lemmas.Bool.Decides.{nat_tests}
-use Rattle.std.proofs.lemmas.List.Sums.{count_by-append}
+use Rattle.std.proofs.lemmas.List.Sums.{sum_by-append}
 use Rattle.link_frames.specs.Packets.{PacketValue}
-use Rattle.role_node.specs.Answers.{answer_due, is_recorded, is_routed, IsLegal, answered, unless_full, take_outlook}
+use Rattle.bracha_instance.specs.declared.instance.Effect.{Effect}
+use Rattle.owner_streams.specs.Steps.{step_due, effect_due}
+use Rattle.role_node.specs.Answers.{answer_due, is_recorded, is_routed, IsLegal, answered, unless_full, of_effect_due}
+use Rattle.role_node.specs.Answers.{reply_to}
+use Rattle.role_node.specs.Histories.{packets}
 use Rattle.role_node.specs.Configs.{ConfigValue}
 use Rattle.role_node.specs.Nodes.{NodeValue, due_at, with_event}
 use Rattle.role_node.specs.declared.event.Event.{Event}
@@ -13,6 +17,7 @@ use Rattle.role_node.specs.declared.event.Event.TheVariants.{Issue, Take, Client
 use Rattle.role_node.specs.declared.event.Reply.{Reply}
 use Rattle.role_node.specs.declared.event.Reply.TheVariants as reply
 use Rattle.role_node.specs.declared.faults.NodeFault.{NodeFault}
+use Rattle.role_node.specs.declared.faults.NodeFault.TheVariants.{Misrouted}
 use Rattle.node_lock.specs.Holds.{Held, Fits, end_of, held_after, seat_after, count_of}
 use Rattle.node_lock.specs.Receipts.{outcome_from, is_recorded_outcome}
 use Rattle.node_lock.specs.Seats.{Sitting}
@@ -29,8 +34,8 @@ counted_more : (number : ℕ) (seats : List ℕ) →
     count_by (λ n. n == number) (seats ++ number ∷ []) ≡ count_by (λ n. n == number) seats + 1
 counted_more number seats =
     let itself : (number == number) ≡ true = grind (arith, nat_tests) in
-    count_by-append (λ n. n == number) seats (number ∷ [])
-    ∙ ap (λ (b : Bool). count_by (λ n. n == number) seats + cond b 1 0) itself
+    sum_by-append (λ n. cond (n == number) 1 0) seats (number ∷ [])
+    ∙ (λ i. count_by (λ n. n == number) seats + (0 + cond (itself i) 1 0))
 
 pub fits_after : (h : Held) (s : Sitting) (e : Event) → Fits h s → Fits (held_after h s e) (seat_after h s e)
 fits_after h s e fits = go (is_recorded (due_at h.node e))
@@ -48,11 +53,14 @@ fits_after h s e fits = go (is_recorded (due_at h.node e))
 -- a packet that is recorded is for the node, from a node and about a node's stream
 taken_is_routed : (config : ConfigValue) (me : ℕ) (history : List Event) (p : PacketValue) →
     IsTrue (is_recorded (answer_due config me history (Take p))) → IsTrue (is_routed config.roles.sizes me p)
-taken_is_routed config me history p h = go (is_routed config.roles.sizes me p) refl
+taken_is_routed config me history p h =
+    go (is_routed config.roles.sizes me p) (of_effect_due (effect_due (step_due config.roles.sizes (packets history) p))) h
   where
-    go : (b : Bool) → is_routed config.roles.sizes me p ≡ b → IsTrue b
-    go true e = refl
-    go false e = ?
+    go : (b : Bool) (due : Result Effect NodeFault) → is_recorded (answered
+        (unless_full (nat_le config.limit (length history)) (cond b due (Err Misrouted)))
+        (reply_to config.roles me history (Take p))) ≡ true → IsTrue b
+    go true due e = refl
+    go false due e = absurd cc
 
 pub recorded_is_of : (config : ConfigValue) (me : ℕ) (history : List Event) (e : Event) → IsEvent e →
     IsTrue (is_recorded (answer_due config me history e)) → IsEventOf config.roles.sizes me e

@@ -2,16 +2,19 @@
 use Rattle.std.proofs.Common.{◌≡◌, ◌≢◌, ℕ, zero, suc, ◌+◌, ◌-◌, ◌<◌, ◌≤◌, Bool, true, false, cond, Option, Some, None}
 use Rattle.std.proofs.Common.{List, [], ◌∷◌, ◌++◌, length, take, drop, refl, ap, sym, ◌∙◌, subst, arith, append_assoc}
 use Rattle.std.proofs.Common.{append-nil, length-append, Result, Ok, Err}
-use Rattle.std.specs.Prelude.{IsTrue, All, ◌==◌}
+use Rattle.std.specs.Prelude.{IsTrue, All, ◌==◌, slice_index}
 use Rattle.std.specs.List.{concat, flat_map}
 use Rattle.std.proofs.lemmas.List.Concat.{flat_map-append}
+use Rattle.std.proofs.lemmas.List.Elements.{All-nil}
 use Rattle.std.proofs.Math.Seq.{take-append_seam}
 use Rattle.quorum_sizes.specs.Sizes.{Counts, AreSizes}
 use Rattle.link_frames.specs.Hmac.{hmac}
+use Rattle.batch_journal.specs.Batches.{sealed}
 use Rattle.batch_journal.specs.Digits.{digits_of}
 use Rattle.batch_journal.specs.Heads.{head_of, opened_head, other_head}
 use Rattle.batch_journal.specs.Readings.{reading, batch_key, behind_head, agreeing}
 use Rattle.batch_journal.specs.declared.fault.JournalFault.{JournalFault}
+use Rattle.batch_journal.specs.declared.fault.JournalFault.TheVariants.{NotAJournal}
 use Rattle.batch_journal.specs.declared.head.Head.{Head}
 use Rattle.role_node.specs.Configs.{ConfigValue}
 use Rattle.role_node.specs.declared.event.Event.{Event}
@@ -34,8 +37,8 @@ All-cons P x xs p h zero d less = p
 All-cons P x xs p h (suc k) d less = h k d (omega arith)
 
 pub All-take : {X : Type 0} (P : X → Type 0) (n : ℕ) (xs : List X) → All P xs → All P (take n xs)
-All-take P zero xs h k d less = absurd (omega arith)
-All-take P (suc n) [] h k d less = absurd (omega arith)
+All-take P zero xs h = All-nil P
+All-take P (suc n) [] h = All-nil P
 All-take P (suc n) (x ∷ xs) h =
     All-cons P x (take n xs) (All-first P x xs h) (All-take P n xs (All-rest P x xs h))
 
@@ -76,16 +79,24 @@ same_head : (key : List ℕ) (config : ConfigValue) (me : ℕ) (a b : Head) → 
 unfolding head_of
 same_head key config me a b ha hb = let same = same_opened config me a b ha hb in λ i. sealed key (same i)
 
+not_ok : (b : Bool) (f g : JournalFault) (batches : List (List ℕ)) → cond b (Err f) (Err g) ≡ Ok batches → ⊥
+not_ok true f g batches e = absurd cc
+not_ok false f g batches e = absurd cc
+
 read_ok : (key : List ℕ) (head : Head) (bytes : List ℕ) (batches : List (List ℕ)) →
     reading key head bytes ≡ Ok batches →
     behind_head (hmac key (head_of key head)) (drop (agreeing (head_of key head) bytes) bytes) ≡ Ok batches
 unfolding reading batch_key
 read_ok key head bytes batches e =
-    go (agreeing (head_of key head) bytes == length (head_of key head)) _ _ e
+    go (agreeing (head_of key head) bytes == length (head_of key head))
+    (behind_head (hmac key (head_of key head)) (drop (agreeing (head_of key head) bytes) bytes)) e
   where
-    go : (b : Bool) (x : Result (List (List ℕ)) JournalFault) (y : Result (List (List ℕ)) JournalFault) →
-        cond b x y ≡ Ok batches → x ≡ Ok batches
-    go b x y e = ?
+    go : (b : Bool) (x : Result (List (List ℕ)) JournalFault) →
+        cond b x (cond (slice_index bytes (agreeing (head_of key head) bytes) == 0) (Err NotAJournal)
+            (Err (other_head head (agreeing (head_of key head) bytes)))) ≡ Ok batches → x ≡ Ok batches
+    go true x e = e
+    go false x e = absurd (not_ok (slice_index bytes (agreeing (head_of key head) bytes) == 0) NotAJournal
+        (other_head head (agreeing (head_of key head) bytes)) batches e)
 
 -- what a crash leaves is read in one way
 pub one_reading : (key : List ℕ) (config : ConfigValue) (me : ℕ) (bytes : List ℕ) (a b : Head)

@@ -3,5 +3,6 @@ mod FoundLemmas
 mod HeadLemmas
 mod HeldLemmas
 mod HistoryLemmas
+mod KeptLemmas
 mod ReadLemmas
 mod ReadingLemmas

@@ -24,7 +24,7 @@ ghost use Rattle.kept_node.specs.Restoring.{IsUnrestored, LeavesAsBefore, file_o
 use crate::event_digits::{MOST_EVENT_DIGITS, push_event};
 use crate::fault::Unrestored;
 use crate::head::head_of;
-use crate::replaying::{ReplayFault, replay};
+use crate::replaying::{ReplayFault, replay_events};
 use crate::untold::{Synced, Untold};
 use batch_journal::{Journal, JournalFault};
 use link_frames::{Packet, Place};
@@ -130,7 +130,7 @@ impl<L: Ledger, D: Disk> Kept<L, D> {
         if journal.make_room(WAITING_DIGITS).is_err() {
             return Err(Unrestored::Memory { journal });
         }
-        match replay(&mut locked, seat, &digits) {
+        match replay_events(&mut locked, seat, &digits) {
             Ok(count) => Ok(Kept {
                 locked,
                 journal,
@@ -206,7 +206,7 @@ impl<L: Ledger, D: Disk> Kept<L, D> {
         ensures journal { self.new ≡ record self.old { held = self.new.held } }
         ensures crash { Survives D.Disk.may_leave D.Disk.is_clean self.new }
     {
-        let event = event_of(call);
+        let event = event_of(&call);
         let (receipt, view) = self.locked.hold(seat, call, owner, place)?;
         let at = u64::from(view.at);
         if at > self.recorded {
@@ -301,11 +301,11 @@ fn wanting<D: Disk>(files: Files<D>) -> Unrestored<D>
 }
 
 /// The event that a call applies.
-fn event_of(call: Option<Call>) -> Option<Event>
-    ensures { result ≡ event_in call }
+fn event_of(call: &Option<Call>) -> Option<Event>
+    ensures { result ≡ event_in call.now }
 {
     match call {
-        Some(Call::Step(event)) => Some(event),
+        Some(Call::Step(event)) => Some(*event),
         _ => None,
     }
 }

@@ -19,5 +19,5 @@ pub use event_reading::read_event;
 pub use fault::Unrestored;
 pub use head::head_of;
 pub use kept::{Kept, MOST_WAITING};
-pub use replaying::{NotNew, ReplayFault, new_locked, replay};
+pub use replaying::{NotNew, ReplayFault, new_locked, replay_events};
 pub use untold::{Leaving, Synced, Told, Untold};

@@ -88,7 +88,7 @@ fn has_recorded(outcome: &Outcome) -> bool
 /// # Errors
 ///
 /// The digits behind some events are none, or the node does not record it; want of memory.
-pub fn replay<L: Ledger>(
+pub fn replay_events<L: Ledger>(
     locked: &mut Locked<L>,
     seat: &mut Seat<L>,
     digits: &[u8],

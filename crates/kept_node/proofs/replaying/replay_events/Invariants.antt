@@ -4,7 +4,7 @@ use Rattle.quorum_sizes.specs.Sizes.{AreSizes}
 use Rattle.role_node.specs.Nodes.{IsLegalNode}
 use Rattle.node_lock.specs.Holds.{Fits, end_of}
 use Rattle.kept_node.specs.Events.{IsEventOf, digits_of_events}
-use Rattle.kept_node.proofs.replaying.replay.Given as goal
+use Rattle.kept_node.proofs.replaying.replay_events.Given as goal
 
 abbrev pub invariant-loop-at : goal.invariant-loop-at
 invariant-loop-at g l = record {
