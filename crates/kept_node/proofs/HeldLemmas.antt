@@ -21,6 +21,10 @@ use Rattle.role_node.specs.declared.faults.NodeFault.TheVariants.{Misrouted}
 use Rattle.node_lock.specs.Holds.{Held, Fits, end_of, held_after, seat_after, count_of}
 use Rattle.node_lock.specs.Receipts.{outcome_from, is_recorded_outcome}
 use Rattle.node_lock.specs.Seats.{Sitting}
+use Rattle.node_lock.specs.Views.{held_after_hold}
+use Rattle.node_lock.specs.declared.receipt.Call.{Call}
+use Rattle.node_lock.specs.declared.receipt.Call.TheVariants.{Step, Ask}
+use Rattle.kept_node.specs.inside.Fields.{event_in}
 use Rattle.kept_node.specs.Events.{IsEvent, IsEventOf}
 
 pub outcome_recorded : (due : Result Reply NodeFault) → is_recorded_outcome (outcome_from due) ≡ is_recorded due
@@ -67,3 +71,33 @@ pub recorded_is_of : (config : ConfigValue) (me : ℕ) (history : List Event) (e
 recorded_is_of config me history (Issue command) h recorded = h
 recorded_is_of config me history (Take p) h recorded = (h, taken_is_routed config me history p recorded)
 recorded_is_of config me history (Client act) h recorded = h
+
+-- only an event that is recorded makes the history longer
+pub held_put : (h : Held) (s : Sitting) (call : Option Call) → end_of h < end_of (held_after_hold h s call) →
+    (e : Event) × (event_in call ≡ Some e) × IsTrue (is_recorded (due_at h.node e))
+    × (held_after_hold h s call ≡ record { node = with_event h.node e; seats = h.seats ++ s.number ∷ [] })
+held_put h s None less = absurd (omega arith)
+held_put h s (Some (Ask question)) less = absurd (omega arith)
+held_put h s (Some (Step e)) less = go (is_recorded (due_at h.node e)) refl less
+  where
+    go : (b : Bool) → is_recorded (due_at h.node e) ≡ b →
+        length h.node.history < length (cond b (record { node = with_event h.node e; seats = h.seats ++ s.number ∷ [] }) h).node.history →
+        (x : Event) × (Some e ≡ Some x) × IsTrue (is_recorded (due_at h.node x))
+        × (cond (is_recorded (due_at h.node e)) (record { node = with_event h.node e; seats = h.seats ++ s.number ∷ [] }) h
+            ≡ record { node = with_event h.node x; seats = h.seats ++ s.number ∷ [] })
+    go true t l = (e, refl, t,
+        ap (λ (b : Bool). cond b (record { node = with_event h.node e; seats = h.seats ++ s.number ∷ [] }) h) t)
+    go false t l = absurd (omega arith)
+
+pub held_same : (h : Held) (s : Sitting) (call : Option Call) → end_of (held_after_hold h s call) ≤ end_of h →
+    held_after_hold h s call ≡ h
+held_same h s None few = refl
+held_same h s (Some (Ask question)) few = refl
+held_same h s (Some (Step e)) few = go (is_recorded (due_at h.node e)) few
+  where
+    go : (b : Bool) →
+        length (cond b (record { node = with_event h.node e; seats = h.seats ++ s.number ∷ [] }) h).node.history
+            ≤ length h.node.history →
+        cond b (record { node = with_event h.node e; seats = h.seats ++ s.number ∷ [] }) h ≡ h
+    go true l = absurd (omega (arith, length-append h.node.history (e ∷ [])))
+    go false l = refl

@@ -14,6 +14,7 @@ use Rattle.role_commands.specs.declared.command.Command.TheVariants.{Assign, Dea
 use Rattle.role_sessions.specs.declared.event.ClientEvent.{ClientEvent}
 use Rattle.role_sessions.specs.declared.event.ClientEvent.TheVariants.{Open, Activate, DropRole, Close}
 use Rattle.batch_journal.specs.Digits.{digits_of, AreDigits}
+use Rattle.batch_journal.specs.Faults.{Failed}
 use Rattle.batch_journal.specs.Journals as journals
 use Rattle.batch_journal.specs.Journals.{JournalValue, IsSame, Records}
 use Rattle.batch_journal.specs.Readings.{reading}
@@ -394,3 +395,7 @@ module _ {D : Type 0} where
           let e = device f d in
           kept_failed may_leave is_clean held j new waiting capacity recorded synced now wide k same f e.0 e.1 e.2 room is
           survives
+
+-- a call of the disk has failed since some moment, so since the first
+pub failed_at_all : (old new : ℕ) (is_mixing : Bool) → Failed old new is_mixing → Failed 0 new is_mixing
+failed_at_all old new is_mixing h = ⊎_elim (λ more. inl (omega arith)) (λ torn. inr torn) h

@@ -1,3 +1,4 @@
+mod CallLemmas
 mod DigitLemmas
 mod FoundLemmas
 mod HeadLemmas

@@ -209,10 +209,8 @@ impl<L: Ledger, D: Disk> Kept<L, D> {
         let event = event_of(&call);
         let (receipt, view) = self.locked.hold(seat, call, owner, place)?;
         let at = u64::from(view.at);
-        if at > self.recorded {
-            put_behind(&mut self.waiting, event);
-            self.recorded = at;
-        }
+        if_recorded(&mut self.waiting, self.recorded, at, event);
+        self.recorded = at;
         Ok(Untold::new(receipt, view, at))
     }
 
@@ -234,16 +232,17 @@ impl<L: Ledger, D: Disk> Kept<L, D> {
         ensures err { OnErr result (self.new.synced ≡ self.old.synced) }
         ensures which { IfErr result (λ e. (e ≡ journal_fault.Device) ⊎ (e ≡ journal_fault.Full)) }
         ensures device { self.old.broken ≡ false → result ≡ Err journal_fault.Device → IsTrue self.new.broken
-            × Failed (D.Disk.faults self.old.disk) (D.Disk.faults self.new.disk) (D.Disk.is_mixing self.new.disk) }
+            × Failed 0 (D.Disk.faults self.new.disk) (D.Disk.is_mixing self.new.disk) }
         ensures full { result ≡ Err journal_fault.Full → (self.new ≡ self.old)
             × (IsTrue (D.Disk.is_clean self.old.disk) →
                 536870912 < length (D.Disk.seen self.old.disk) + room_behind) }
         ensures crash { Survives D.Disk.may_leave D.Disk.is_clean self.new }
     {
-        if self.synced < self.recorded {
-            commit(&mut self.journal, &mut self.waiting)?;
-            self.synced = self.recorded;
+        if self.synced == self.recorded {
+            return Ok(Synced::new(self.synced));
         }
+        commit(&mut self.journal, &mut self.waiting)?;
+        self.synced = self.recorded;
         Ok(Synced::new(self.synced))
     }
 
@@ -310,19 +309,25 @@ fn event_of(call: &Option<Call>) -> Option<Event>
     }
 }
 
-/// Puts the digits of an event behind those that wait, for which there is memory.
-fn put_behind(waiting: &mut Vec<u8>, event: Option<Event>)
+/// Puts the digits of an event behind those that wait, if it was recorded: the history has become longer. There must be
+/// memory for them.
+fn if_recorded(waiting: &mut Vec<u8>, before: u64, after: u64, event: Option<Event>)
     requires { vec_len waiting.old + 19 ≤ vec_capacity waiting.old }
-    ensures digits { IfSome event (λ e. waiting.new.items ≡ waiting.old.items ++ event_digits e) }
+    ensures digits { before < after → IfSome event (λ e. waiting.new.items ≡ waiting.old.items ++ event_digits e) }
+    ensures fits { before < after → IfSome event IsEvent }
+    ensures same { after ≤ before → waiting.new.items ≡ waiting.old.items }
     ensures few { vec_len waiting.new ≤ vec_len waiting.old + 19 }
     ensures capacity { vec_capacity waiting.old ≤ vec_capacity waiting.new }
-    ensures fits { IfSome event IsEvent }
 {
-    if let Some(event) = event {
-        let Ok(()) = push_event(waiting, &event) else {
-            unreachable!()
-        };
+    if after <= before {
+        return;
     }
+    let Some(event) = event else {
+        return;
+    };
+    let Ok(()) = push_event(waiting, &event) else {
+        unreachable!()
+    };
 }
 
 /// Writes what waits as one batch, and syncs it.
@@ -343,8 +348,7 @@ fn commit<D: Disk>(journal: &mut Journal<D>, waiting: &mut Vec<u8>) -> Result<()
         × (waiting.new.items ≡ waiting.old.items) }
     ensures device { journal.old.broken ≡ false → result ≡ Err journal_fault.Device → IsTrue journal.new.broken
         × Records D.Disk.is_clean journal.old journal.new waiting.old.items × (waiting.new.items ≡ [])
-        × Failed (D.Disk.faults journal.old.disk) (D.Disk.faults journal.new.disk)
-        (D.Disk.is_mixing journal.new.disk) }
+        × Failed 0 (D.Disk.faults journal.new.disk) (D.Disk.is_mixing journal.new.disk) }
     ensures full { result ≡ Err journal_fault.Full → (journal.new ≡ record journal.old { room = journal.new.room })
         × (waiting.new.items ≡ waiting.old.items)
         × (IsTrue (D.Disk.is_clean journal.old.disk) →
