@@ -7,3 +7,4 @@ mod HistoryLemmas
 mod KeptLemmas
 mod ReadLemmas
 mod ReadingLemmas
+mod RestoreLemmas
