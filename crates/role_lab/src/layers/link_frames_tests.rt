@@ -362,11 +362,10 @@ fn the_reads_of_a_frame_are_counted(rt: HostRuntime) {
     ] {
         let slow = Faulty::new(frame.as_slice(), Mishap::Short, 0, short);
         let mut reader = Watched::new(Faulty::new(slow, Mishap::Interrupt, first, interruptions));
-        let came = read_frame(&mut reader);
+        let (came, count) = (read_frame(&mut reader), reader.reads());
         assert!(rt;
-            came == due && reader.reads() == reads,
-            "{interruptions} from {first} on: {came:?} after {} reads",
-            reader.reads()
+            came == due && count == reads,
+            "{interruptions} from {first} on: {came:?} after {count}"
         );
     }
 }
