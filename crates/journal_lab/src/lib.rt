@@ -7,3 +7,5 @@ mod bytes_tests;
 mod files_tests;
 #[cfg(test)]
 mod given;
+#[cfg(test)]
+mod kept_tests;

@@ -1,0 +1,10 @@
+mod CallLemmas
+mod DigitLemmas
+mod FoundLemmas
+mod HeadLemmas
+mod HeldLemmas
+mod HistoryLemmas
+mod KeptLemmas
+mod ReadLemmas
+mod ReadingLemmas
+mod RestoreLemmas

@@ -1,0 +1,2 @@
+pub mod EventReading
+pub mod Fields
