@@ -29,8 +29,11 @@ enum Trial {
     ManyLines,
     StopThenReset,
     ManyClients,
+    NextClient,
+    WebPage,
     DeafClient,
     SilentPeer,
+    ThirdConnection,
     LateFrames,
     PeerThatCloses,
     CutFrame,
@@ -150,6 +153,40 @@ where
     Ok(right && opens(rt, alloc, place.client)?)
 }
 
+/// Whether the next client is served at once where one of sixteen has gone.
+fn next_client<R>(rt: &R, alloc: Global, place: &Place) -> Result<bool, Fail>
+where
+    R: Net<Listener = TcpListener, Stream = TcpStream> + Clock,
+{
+    let mut held = Vec::new(alloc);
+    for _ in 0..16 {
+        let stream = connected(rt, place.client)?;
+        ask(alloc, &stream, OPEN)?;
+        held.push(stream)?;
+    }
+    for _ in 0..100u32 {
+        drop(held.pop());
+        let stream = connected(rt, place.client)?;
+        if !ask(alloc, &stream, OPEN)?.as_str().starts_with("{\"session\":") {
+            return Ok(false);
+        }
+        held.push(stream)?;
+    }
+    Ok(true)
+}
+
+/// Whether an HTTP request is answered once, and a stop behind its first line is none.
+fn web_page<R>(rt: &R, alloc: Global, place: &Place) -> Result<bool, Fail>
+where
+    R: Net<Listener = TcpListener, Stream = TcpStream> + Clock,
+{
+    let mut stream = connected(rt, place.client)?;
+    stream.write_all(b"POST / HTTP/1.1\r\nContent-Length: 14\r\n\r\n{\"op\":\"stop\"}\n")?;
+    let mut answers = String::new(alloc);
+    stream.read_to_string(&mut answers)?;
+    Ok(answers.as_str() == "{\"error\":\"J1 NotJson\"}\n" && opens(rt, alloc, place.client)?)
+}
+
 /// Whether a client is answered while another does not read the answers to its 10,000 lines.
 fn deaf_client<R>(rt: &R, alloc: Global, place: &Place) -> Result<bool, Fail>
 where
@@ -177,6 +214,32 @@ where
     let mut wrong = connected(rt, place.peers)?;
     wrong.write_all(&[0; 2 * FRAME_LEN])?;
     Ok(is_closed(&silent) && is_closed(&wrong) && opens(rt, alloc, place.client)?)
+}
+
+/// Whether of three connections of a peer that is closed which has brought nothing new, the older of two of these.
+fn third_connection<R>(rt: &R, alloc: Global, place: &Place) -> Result<bool, Fail>
+where
+    R: Net<Listener = TcpListener, Stream = TcpStream> + Clock,
+{
+    let client = connected(rt, place.client)?;
+    let mut first = connected(rt, place.peers)?;
+    first.write_all(&FRAME)?;
+    for _ in 0..MOST_LOOKS {
+        if ask(alloc, &client, AGAIN)?.as_str() == "{\"again\":1}\n" {
+            break;
+        }
+        thread::sleep(rt, Duration::from_millis(1));
+    }
+    let mut second = connected(rt, place.peers)?;
+    second.write_all(&FRAME)?;
+    thread::sleep(rt, Duration::from_millis(20));
+    let mut third = connected(rt, place.peers)?;
+    third.write_all(&FRAME)?;
+    let closed = is_closed(&second);
+    for kept in [&first, &third] {
+        kept.set_read_timeout(Some(Duration::from_millis(1)))?;
+    }
+    Ok(closed && !is_closed(&first) && !is_closed(&third))
 }
 
 /// Whether frames do no harm whose connections are closed before they are taken.
@@ -289,8 +352,11 @@ where
         Trial::ManyLines => many_lines(rt, alloc, place),
         Trial::StopThenReset => stop_then_reset(rt, place),
         Trial::ManyClients => many_clients(rt, alloc, place),
+        Trial::NextClient => next_client(rt, alloc, place),
+        Trial::WebPage => web_page(rt, alloc, place),
         Trial::DeafClient => deaf_client(rt, alloc, place),
         Trial::SilentPeer => silent_peer(rt, alloc, place),
+        Trial::ThirdConnection => third_connection(rt, alloc, place),
         Trial::LateFrames => late_frames(rt, alloc, place),
         Trial::PeerThatCloses => peer_that_closes(rt, alloc, place),
         Trial::CutFrame => are_lost(rt, alloc, place, &FRAME[..FRAME_LEN - 1]),
@@ -373,6 +439,18 @@ fn the_seventeenth_client_is_closed(rt: HostRuntime) -> Result<(), Fail> {
 }
 
 #[test]
+fn a_client_is_served_where_another_has_gone(rt: HostRuntime) -> Result<(), Fail> {
+    assert!(rt; is_fit(&rt, rt.alloc(), Trial::NextClient)?);
+    Ok(())
+}
+
+#[test]
+fn an_http_request_is_answered_once(rt: HostRuntime) -> Result<(), Fail> {
+    assert!(rt; is_fit(&rt, rt.alloc(), Trial::WebPage)?);
+    Ok(())
+}
+
+#[test]
 fn a_client_that_does_not_read_holds_up_nobody(rt: HostRuntime) -> Result<(), Fail> {
     assert!(rt; is_fit(&rt, rt.alloc(), Trial::DeafClient)?);
     Ok(())
@@ -381,6 +459,12 @@ fn a_client_that_does_not_read_holds_up_nobody(rt: HostRuntime) -> Result<(), Fa
 #[test]
 fn a_connection_without_frames_is_closed(rt: HostRuntime) -> Result<(), Fail> {
     assert!(rt; is_fit(&rt, rt.alloc(), Trial::SilentPeer)?);
+    Ok(())
+}
+
+#[test]
+fn a_peers_third_connection_is_closed(rt: HostRuntime) -> Result<(), Fail> {
+    assert!(rt; is_fit(&rt, rt.alloc(), Trial::ThirdConnection)?);
     Ok(())
 }
 
