@@ -60,15 +60,6 @@ pub state-readiers : (s : Counts) (ts : List Take) → (state s ts).readiers ≡
 unfolding state
 state-readiers s ts = refl
 
-pub state-echo_votes : (s : Counts) (ts : List Take) → (state s ts).echo_votes ≡ kept (delivered s ts) (votes Echo ts)
-unfolding state
-state-echo_votes s ts = refl
-
-pub state-ready_votes : (s : Counts) (ts : List Take)
-    → (state s ts).ready_votes ≡ kept (delivered s ts) (votes Ready ts)
-unfolding state
-state-ready_votes s ts = refl
-
 -- What another kind's message leaves.
 
 -- what is never due is not kept
@@ -101,12 +92,6 @@ SameVotes kind ts us = (q : ℕ) → vote kind q us ≡ vote kind q ts
 supporters_same : (kind : Kind) (c : Command) (ts us : List Take) → SameVotes kind ts us
     → supporters kind c us ≡ supporters kind c ts
 supporters_same kind c ts us same = supporters_alike kind c ts us (λ q. ap (is_for c) (same q))
-
--- only a READY can deliver
-pub delivered_push-other : (s : Counts) (ts : List Take) (t : Take) → same_kind Ready t.kind ≡ false
-    → delivered s (ts ++ t ∷ []) ≡ delivered s ts
-delivered_push-other s ts t other =
-    delivered_same s ts t (supporters_same Ready t.command ts (ts ++ t ∷ []) (λ q. vote_push-other Ready q ts t other))
 
 state_by : (s : Counts) (ts us : List Take) → echoed us ≡ echoed ts → readied s us ≡ readied s ts
     → delivered s us ≡ delivered s ts →

@@ -89,15 +89,6 @@ vote_push-again kind name ts t voted = vote_push kind name ts t
 pub or_is : (o more : Option Command) (c : Command) → o ≡ Some c → option_or o more ≡ Some c
 or_is o more c e = ap (λ x. option_or x more) e
 
--- a vote stays
-pub vote_stays : (kind : Kind) (name : ℕ) (before later : List Take) (c : Command) → vote kind name before ≡ Some c
-    → vote kind name (before ++ later) ≡ Some c
-unfolding vote
-vote_stays kind name before later c e =
-    ap (option_map command_of) (find-append (is_vote_of kind name) before later)
-    ∙ map_or (find (is_vote_of kind name) before) (find (is_vote_of kind name) later)
-    ∙ or_is (option_map command_of (find (is_vote_of kind name) before)) _ c e
-
 -- The voters, the map of votes and the supporters, by the votes.
 
 voter_by : (kind : Kind) (q : ℕ) (ts : List Take) →
@@ -176,10 +167,6 @@ pub supporters_in-votes : (kind : Kind) (c : Command) (ts : List Take)
 supporters_in-votes kind c ts = same_names _ _ (λ q.
     contains-supporters kind c ts q
     ∙ sym (contains-supporters_in c (votes kind ts) q ∙ ap (is_for c) (get-votes kind ts q)))
-
-pub names_of-votes : (kind : Kind) (ts : List Take) → names_of (votes kind ts) ≡ voters kind ts
-names_of-votes kind ts = same_names _ _ (λ q.
-    contains-names_of (votes kind ts) q ∙ ap is_some (get-votes kind ts q) ∙ sym (contains-voters kind ts q))
 
 -- A message for another command.
 

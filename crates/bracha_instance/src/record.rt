@@ -6,10 +6,10 @@ ghost use Rattle.quorum_sizes.specs.Sizes.{Counts};
 ghost use Rattle.bracha_instance.specs.Broadcast.{Take, vote};
 ghost use Rattle.bracha_instance.specs.States.{state};
 ghost use Rattle.bracha_instance.specs.NewTakes.{taken_for};
-ghost use Rattle.bracha_instance.specs.Taking.{SendsAreFrom, has_voted, effect_of, newly_sent, newly_delivered};
+ghost use Rattle.bracha_instance.specs.Taking.{SendsAreFrom, has_voted, newly_sent, newly_delivered};
 ghost use Rattle.bracha_instance.specs.inside.Next.{after_kind};
 
-use crate::instance::{Caused, Effect, Taken, is_new, keep_first, kind_for};
+use crate::instance::{Caused, is_new, keep_first, kind_for};
 use link_frames::Kind;
 use quorum_sizes::{NodeName, NodeSet};
 use role_commands::Command;
@@ -68,35 +68,8 @@ impl Record {
         }
     }
 
-    /// Takes a message, as [`Instance::take`](crate::Instance::take) does.
-    #[inline(always)]
-    pub fn take(&mut self, kind: Kind, from: NodeName, command: Command) -> Taken
-        ensures state { let t : Take = record { kind = kind; from = from; command = command } in
-            (s : Counts) (takes : List Take) →
-            self.old ≡ state s takes → self.new ≡ state s (takes ++ t ∷ []) }
-        ensures effect { let t : Take = record { kind = kind; from = from; command = command } in
-            (s : Counts) (takes : List Take) (owner : ℕ) →
-            self.old ≡ state s takes → SendsAreFrom owner (takes ++ t ∷ []) →
-            result.effect ≡ effect_of takes t }
-        ensures broadcast { let t : Take = record { kind = kind; from = from; command = command } in
-            (s : Counts) (takes : List Take) →
-            self.old ≡ state s takes → result.broadcast ≡ newly_sent s takes (takes ++ t ∷ []) }
-        ensures delivered { let t : Take = record { kind = kind; from = from; command = command } in
-            (s : Counts) (takes : List Take) →
-            self.old ≡ state s takes → result.delivered ≡ newly_delivered s takes (takes ++ t ∷ []) }
-        ensures idle { result.effect ≡ Effect.Idle → self.new ≡ self.old }
-    {
-        if self.voted(kind, from) {
-            return Taken {
-                effect: Effect::Idle,
-                broadcast: None,
-                delivered: None,
-            };
-        }
-        self.take_new(kind, from, command).taken(command)
-    }
-
-    /// Takes a message as [`take`](Self::take) does, where that node's of that kind was not taken before.
+    /// Takes a message, as [`Instance::take_new`](crate::Instance::take_new) does, where that node's of that kind was
+    /// not taken before.
     #[inline(always)]
     pub fn take_new(&mut self, kind: Kind, from: NodeName, command: Command) -> Caused
         requires { has_voted self.old kind from ≡ false }
@@ -134,7 +107,7 @@ impl Record {
         }
     }
 
-    /// Whether that node's message of that kind was taken: [`take`](Self::take) would answer that it is idle.
+    /// Whether that node's message of that kind was taken, so that another is idle.
     #[inline(always)]
     pub fn voted(&self, kind: Kind, from: NodeName) -> bool
         ensures seen { result ≡ has_voted self.now kind from }

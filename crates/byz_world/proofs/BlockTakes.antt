@@ -57,9 +57,6 @@ unfolding marks_due all_passed
 member_marks-none None = refl
 member_marks-none (Some node) = refl
 
-take_none : (sent : List Sent) → take 0 sent ≡ []
-take_none sent = refl
-
 -- the mark of a message
 marks_due-at : (node : NodeValue) (sent : List Sent) (j : ℕ) (s : Sent) → slice_get sent j ≡ Some s →
     slice_get (marks_due node sent) j ≡ Some (mark_due (after_takes node (take j sent)) s)

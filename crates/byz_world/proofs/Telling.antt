@@ -53,13 +53,6 @@ node_is w name node e = let both = node_by (is_correct_in w name) (node_in w nam
   is = both.1;
 }
 
-pub some_is_correct : (w : WorldValue) (name : ℕ) → is_some (node_due w name) ≡ is_correct_in w name
-some_is_correct w name = by (is_correct_in w name) (node_in w name)
-  where
-    by : (b : Bool) (x : NodeValue) → is_some (if b then Some x else None) ≡ b
-    by true x = refl
-    by false x = refl
-
 -- Packets.
 
 -- packet k of the pool is due, of message k / n to node k mod n

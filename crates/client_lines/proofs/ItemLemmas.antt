@@ -41,16 +41,6 @@ first_item block rest k p h short written =
 pub first_ascii : (block : List ℕ) (k : ℕ) → k < length block → IsAscii (drop k block) → IsAscii (drop (k + 1) block)
 first_ascii block k h ascii = subst IsAscii (behind_one block k h) (IsAscii-drop (drop k block) 1 ascii)
 
--- an item stands before those that follow it
-pub item_before : (ps : List (ℕ × ℕ)) (i : ℕ) (written rest : List ℕ) → i < length ps
-    → rest ≡ behind_commas (drop (i + 1) ps) → written ≡ behind_comma (get_or ps i (0, 0)) ++ rest
-    → written ≡ behind_commas (drop i ps)
-item_before ps i written rest h e w =
-    let item = behind_comma (get_or ps i (0, 0)) in
-    let next : i + 1 ≡ suc i = omega arith in
-    w ∙ ap (λ (xs : List ℕ). item ++ xs) e ∙ ap (λ n. item ++ behind_commas (drop n ps)) next
-    ∙ ap behind_commas (sym (drop-cons ps i (0, 0) h))
-
 -- an item as it is written piece by piece, from the last
 pub item_grouped : (p : ℕ × ℕ) (rest : List ℕ)
     → codes ",[" ++ (decimal p.0 ++ (codes "," ++ (decimal p.1 ++ (codes "]" ++ rest)))) ≡ behind_comma p ++ rest

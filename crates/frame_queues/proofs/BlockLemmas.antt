@@ -6,26 +6,16 @@ use Rattle.std.proofs.Common.{inr}
 use borrow.Rule.Slice.PartMut.{put_mid}
 use borrow.Author.Tests.{eqb-true, eqb-false, ltb-true, ltb-false}
 use Rattle.std.specs.List.{copy_within}
-use Rattle.std.specs.Simd.{first_chunks}
 use Rattle.std.specs.Io.KnownBytes.{Consumes, Keeps}
-use Rattle.std.proofs.lemmas.List.{take-append-drop, append-nil}
+use Rattle.std.proofs.lemmas.List.{append-nil}
 use Rattle.std.proofs.lemmas.Slice.{take-put_mid_below}
 use Rattle.link_frames.proofs.Exported.{front_read}
 use Rattle.link_frames.specs.Layout.{frame_len}
 use Rattle.frame_queues.specs.declared.frame_block.Came.TheVariants as came
-use Rattle.frame_queues.specs.Blocks.{AreFramesOf, Says, rest_of}
+use Rattle.link_frames.specs.FrameStreams.{rest_of}
+use Rattle.frame_queues.specs.Blocks.{Says}
 use Rattle.frame_queues.specs.inside.Answers.{came_with}
-use Rattle.frame_queues.proofs.FrameBytes.{chunks_are_frames, concat-first_chunks, take-moved}
-
--- as many chunks as there are whole frames
-pub chunks_of : (bytes : List ℕ) → AreFramesOf bytes (first_chunks frame_len (length bytes / frame_len) bytes)
-chunks_of bytes =
-    let k = length bytes / frame_len in record {
-      whole = chunks_are_frames k bytes (omega arith);
-      all =
-          ap (λ xs. xs ++ rest_of bytes) (concat-first_chunks k bytes)
-          ∙ take-append-drop (k * frame_len) bytes;
-    }
+use Rattle.frame_queues.proofs.FrameBytes.{take-moved}
 
 -- less than a frame is left
 pub length-rest_of : (bytes : List ℕ) → length (rest_of bytes) ≡ length bytes % frame_len
@@ -40,13 +30,6 @@ rest_is_kept have bytes within =
     let from : have - have % frame_len ≡ have / frame_len * frame_len = omega arith in
     take-moved (have - have % frame_len) (have % frame_len) have bytes (omega arith) within
     ∙ ap (λ n. drop n (take have bytes)) (from ∙ ap (λ n. n / frame_len * frame_len) (sym len))
-
--- the chunks of what is seen of a buffer
-pub frames_are : (bytes now : List ℕ) (frames : List (List ℕ)) → bytes ≡ now →
-    frames ≡ first_chunks frame_len (length bytes / frame_len) bytes → AreFramesOf now frames
-frames_are bytes now frames same chunks =
-    subst (AreFramesOf now) (sym chunks)
-    (subst (λ xs. AreFramesOf xs (first_chunks frame_len (length bytes / frame_len) bytes)) same (chunks_of bytes))
 
 -- what is left is less than a frame
 pub rest_is_short : (have : ℕ) (room old : List ℕ) → have ≤ length room → take have room ≡ rest_of old →

@@ -2,15 +2,14 @@
 use Rattle.std.proofs.Common.{◌≡◌, ◌∙◌, refl, sym, ap, ℕ, zero, suc, ◌+◌, ◌-◌, ◌*◌, ◌≤◌, List, [], ◌∷◌, ◌++◌}
 use Rattle.std.proofs.Common.{length, take, drop, arith, length-drop, length-take-le, length-append}
 use Rattle.std.specs.List.{concat, flat_map, copy_within}
-use Rattle.std.specs.Simd.{first_chunks}
-use Rattle.std.proofs.Math.Seq.{take-add, drop-nil}
+use Rattle.std.proofs.Math.Seq.{drop-nil}
 use Rattle.std.proofs.lemmas.List.{drop-drop, drop_at, drop-append-le, drop-take}
 use Rattle.std.proofs.lemmas.List.{take-append-le, take-append-drop, take_at}
 use Rattle.std.proofs.lemmas.List.Concat.{concat_is}
-use Rattle.std.proofs.lemmas.List.Elements.{All-head, All-tail, All-nil, All-cons}
+use Rattle.std.proofs.lemmas.List.Elements.{All-head, All-tail}
 use Rattle.std.proofs.lemmas.List.Folds.{concat-append}
 use Rattle.link_frames.specs.Layout.{frame_len}
-use Rattle.frame_queues.specs.Unsent.{AreFrames}
+use Rattle.link_frames.specs.FrameStreams.{AreFrames}
 
 pub concat-length : (frames : List (List ℕ)) → AreFrames frames → length (concat frames) ≡ length frames * frame_len
 concat-length [] are = refl
@@ -31,25 +30,6 @@ concat-drop (suc k) (f ∷ fs) are =
     rest ∙ ap (drop (k * frame_len)) (sym (drop_at f (concat fs) frame_len len))
     ∙ drop-drop (k * frame_len) frame_len (f ++ concat fs)
     ∙ ap (λ n. drop n (f ++ concat fs)) more
-
--- the first chunks of bytes are frames, and one behind another they are the front of the bytes
-pub chunks_are_frames : (k : ℕ) (bytes : List ℕ) → k * frame_len ≤ length bytes →
-    AreFrames (first_chunks frame_len k bytes)
-chunks_are_frames zero bytes within = All-nil (λ frame. length frame ≡ frame_len)
-chunks_are_frames (suc k) bytes within =
-    All-cons (λ frame. length frame ≡ frame_len) (take frame_len bytes)
-    (first_chunks frame_len k (drop frame_len bytes))
-    (length-take-le frame_len bytes (omega arith))
-    (chunks_are_frames k (drop frame_len bytes) (omega (arith, length-drop frame_len bytes)))
-
-pub concat-first_chunks : (k : ℕ) (bytes : List ℕ) →
-    concat (first_chunks frame_len k bytes) ≡ take (k * frame_len) bytes
-concat-first_chunks zero bytes = refl
-concat-first_chunks (suc k) bytes =
-    let more : frame_len + k * frame_len ≡ suc k * frame_len = omega arith in
-    ap (λ xs. take frame_len bytes ++ xs) (concat-first_chunks k (drop frame_len bytes))
-    ∙ sym (take-add frame_len (k * frame_len) bytes)
-    ∙ ap (λ n. take n bytes) more
 
 -- a part of the front is a part of the whole
 pub part_of_front : (front behind : List ℕ) (from n : ℕ) → from ≤ length front → n ≤ length front - from →

@@ -10,7 +10,8 @@ use Rattle.std.proofs.lemmas.List.{drop-drop, drop-append-le, take_all, take_min
 use Rattle.std.proofs.lemmas.List.Elements.{All-append, All-take}
 use Rattle.std.proofs.lemmas.List.Folds.{concat-append}
 use Rattle.link_frames.specs.Layout.{frame_len}
-use Rattle.frame_queues.specs.Unsent.{UnsentValue, AreFrames, most_frames, unsent, GoesOn}
+use Rattle.link_frames.specs.FrameStreams.{AreFrames}
+use Rattle.frame_queues.specs.Unsent.{UnsentValue, most_frames, unsent, GoesOn}
 use Rattle.frame_queues.specs.inside.Kept.{IsUnsent}
 use Rattle.frame_queues.proofs.FrameBytes.{concat-drop, concat-length, concat-split, part_of_front}
 

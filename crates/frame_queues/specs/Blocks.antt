@@ -1,24 +1,14 @@
 -- Bytes that are read a block at a time, and the frames among them.
-use Rattle.std.specs.Prelude.{◌≡◌, ℕ, ◌*◌, ◌/◌, ◌<◌, ◌⊎◌, min, max, List, ◌++◌, length, drop, Option}
-use Rattle.std.specs.List.{concat}
+use Rattle.std.specs.Prelude.{◌≡◌, ℕ, ◌*◌, ◌<◌, ◌⊎◌, min, max, List, ◌++◌, Option}
 use Rattle.std.specs.Io.KnownBytes.{Consumes}
 use Rattle.link_frames.specs.Layout.{frame_len}
-use Rattle.frame_queues.specs.Unsent.{AreFrames}
+use Rattle.link_frames.specs.FrameStreams.{rest_of}
 use Rattle.frame_queues.specs.declared.frame_block.Came.{Came}
 use Rattle.frame_queues.specs.declared.frame_block.Came.TheVariants.{Nothing, Some, More, End}
 
 -- the most frames of a block
 abbrev pub block_frames : ℕ
 block_frames = 160
-
--- the part of a frame that is left behind the whole frames
-abbrev pub rest_of : List ℕ → List ℕ
-rest_of bytes = drop (length bytes / frame_len * frame_len) bytes
-
--- frames that, one behind another, are the bytes but for the part of a frame that is left
-pub record AreFramesOf (bytes : List ℕ) (frames : List (List ℕ)) : Type 0 where
-  pub whole : AreFrames frames
-  pub all : concat frames ++ rest_of bytes ≡ bytes
 
 -- what a reader gives stands behind the part of a frame that was left, and no byte is lost
 abbrev pub ReadsOn : Option (List ℕ) → Option (List ℕ) → List ℕ → List ℕ → Type 0

@@ -1,7 +1,8 @@
 -- Frames that wait to be written over a connection, and what a write takes of them.
-use Rattle.std.specs.Prelude.{◌≡◌, ℕ, ◌+◌, ◌/◌, ◌%◌, ◌≤◌, List, length, take, drop, All, Option, Result, MatchResult}
+use Rattle.std.specs.Prelude.{◌≡◌, ℕ, ◌+◌, ◌/◌, ◌%◌, ◌≤◌, List, length, take, drop, Option, Result, MatchResult}
 use Rattle.std.specs.List.{concat}
 use Rattle.std.specs.Io.KnownBytes.{Appends, Keeps}
+use Rattle.link_frames.specs.FrameStreams.{AreFrames}
 use Rattle.link_frames.specs.Layout.{frame_len}
 
 -- the most frames that wait
@@ -12,10 +13,6 @@ most_frames = 1024
 pub record UnsentValue : Type 0 where
   pub frames : List (List ℕ)
   pub written : ℕ
-
--- each has the bytes of a frame
-abbrev pub AreFrames : List (List ℕ) → Type 0
-AreFrames frames = All (λ frame. length frame ≡ frame_len) frames
 
 -- the bytes that are still to be written
 abbrev pub unsent : UnsentValue → List ℕ

@@ -1,10 +1,11 @@
 //! Bytes of frames as they are read, a block at a time.
 
 ghost use Rattle.std.specs.Prelude.{◌≡◌, ◌+◌, ◌≤◌, [], length, IfOk};
-ghost use Rattle.frame_queues.specs.Blocks.{AreFramesOf, ReadsOn, Says, block_frames, block_end, rest_of};
+ghost use Rattle.link_frames.specs.FrameStreams.{AreFramesOf, rest_of};
+ghost use Rattle.frame_queues.specs.Blocks.{ReadsOn, Says, block_frames, block_end};
 ghost use Rattle.frame_queues.specs.inside.Answers.{came_with, came_after};
 
-use link_frames::{FRAME_LEN, Frame};
+use link_frames::{FRAME_LEN, Frame, frames_of};
 use std::alloc::{AllocError, Global};
 use std::io::{ErrorKind, Read};
 use std::marker::Model;
@@ -70,7 +71,7 @@ impl FrameBlock {
         ensures frames { AreFramesOf self.now result.now }
         ensures few { length result.now ≤ block_frames }
     {
-        self.bytes[..self.have].as_chunks::<FRAME_LEN>().0
+        frames_of(&self.bytes[..self.have]).0
     }
 
     /// Reads on behind the part of a frame that is left, in one call of the reader, up to so many frames with that: one

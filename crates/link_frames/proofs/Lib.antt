@@ -2,6 +2,7 @@ pub mod ProgramEndLemmas
 pub mod Exported
 pub mod FrameLaws
 pub mod FrameReadLemmas
+pub mod FrameStreamLemmas
 pub mod LineEndLemmas
 pub mod LineLemmas
 pub mod ListTextLemmas

@@ -2,6 +2,7 @@ pub mod Aheads
 pub mod Blocks
 pub mod Devices
 pub mod FrameReads
+pub mod FrameStreams
 pub mod Frames
 pub mod Holding
 pub mod Hmac

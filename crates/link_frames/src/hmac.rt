@@ -59,8 +59,8 @@ fn finished(mut inner: Sha256, mut outer: Sha256, text: &[u8]) -> [u8; 32]
     outer.finalize()
 }
 
-/// The HMAC of the text under the key, with SHA-256 (RFC 2104, FIPS 180-4). Keys may have every
-/// length. It takes no memory.
+/// The HMAC of the text under the key, with SHA-256 (RFC 2104, FIPS 180-4). Key and text have fewer than 2^60 bytes
+/// each. It takes no memory.
 pub fn hmac_sha256(key: &[u8], text: &[u8]) -> [u8; 32]
     requires key { length key.now < 2 ^ 60 }
     requires text { length text.now < 2 ^ 60 }

@@ -1,5 +1,6 @@
 //! What is true of frames and of opening them.
 
+ghost use Rattle.link_frames.specs.FrameStreams.{FramesAreOne};
 ghost use Rattle.link_frames.specs.Laws.{SealedIsOpened, OpenedIsSealed, OneFrame, FramesDiffer, FrameLength};
 
 /// Sealing and opening undo each other.
@@ -13,4 +14,9 @@ pub fn one_frame()
     ensures one { OneFrame }
     ensures differ { FramesDiffer }
     ensures len { FrameLength }
+{}
+
+/// Bytes are cut into frames in one way.
+pub fn one_cut()
+    ensures { FramesAreOne }
 {}

@@ -7,6 +7,7 @@
 
 mod ahead;
 mod blocks;
+mod cutting;
 mod device;
 mod faulty;
 mod held;
@@ -27,6 +28,7 @@ mod words;
 
 pub use ahead::Ahead;
 pub use blocks::AheadFault;
+pub use cutting::frames_of;
 pub use device::{DeviceFault, read_patiently, write_whole};
 pub use faulty::{Faulty, Mishap};
 pub use held::Held;

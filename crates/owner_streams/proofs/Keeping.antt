@@ -9,7 +9,6 @@ use Rattle.link_frames.specs.Packets.{PacketValue}
 use Rattle.bracha_instance.proofs.Exported.{delivery_stays}
 use Rattle.bracha_instance.specs.Broadcast.{Take, delivered}
 use Rattle.bracha_instance.specs.States.{State, state}
-use Rattle.bracha_instance.specs.inside.Next.{after}
 use Rattle.bracha_instance.specs.Taking.{newly}
 use Rattle.bracha_instance.specs.declared.instance.Taken.{Taken}
 use Rattle.role_commands.proofs.Exported.{some_value}

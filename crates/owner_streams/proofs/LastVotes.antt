@@ -196,35 +196,6 @@ pub no_vote : (owner voter : ℕ) (p : PacketValue) → ((place : ℕ) → IsVot
     → vote_place owner voter p ≡ None
 no_vote owner voter p h = no_place (vote_place owner voter p) (λ place e. h place (is_vote owner voter place p e))
 
--- where there is none, no packet is a vote
-pub last_vote-nothing : (owner voter : ℕ) (packets : List PacketValue) (p : PacketValue)
-    → last_vote owner voter packets ≡ None → Contains packets p → vote_place owner voter p ≡ None
-last_vote-nothing owner voter packets p none c =
-    no_place (vote_place owner voter p) (λ place e.
-    let known = last_vote-most owner voter packets p place c e in
-    let clash : None ≡ Some known.0 = sym none ∙ known.1 in
-    cc)
-
--- it only moves on
-pub last_vote-grows : (owner voter : ℕ) (xs ys : List PacketValue) (m : ℕ) → last_vote owner voter xs ≡ Some m
-    → (n : ℕ) × (last_vote owner voter (xs ++ ys) ≡ Some n) × (m ≤ n)
-last_vote-grows owner voter xs ys m e =
-    let one = last_vote-stands owner voter xs m e in
-    last_vote-most owner voter (xs ++ ys) one.0 m (Contains-append_left xs ys one.0 one.1) one.2
-
--- the place of a packet that is a vote, where none is further on, is the last vote
-pub last_vote-is : (owner voter : ℕ) (packets : List PacketValue) (p : PacketValue) (m : ℕ)
-    → Contains packets p → vote_place owner voter p ≡ Some m
-    → ((q : PacketValue) (place : ℕ) → Contains packets q → vote_place owner voter q ≡ Some place → place ≤ m)
-    → last_vote owner voter packets ≡ Some m
-last_vote-is owner voter packets p m c e most =
-    let found = last_vote-most owner voter packets p m c e in
-    let above = found.2 in
-    let one = last_vote-stands owner voter packets found.0 found.1 in
-    let below = most one.0 found.0 one.1 one.2 in
-    let same : found.0 ≡ m = omega arith in
-    found.1 ∙ ap Some same
-
 -- The last vote by the votes at each place.
 
 -- where these packets have a vote the others have one

@@ -60,14 +60,6 @@ reach_of_run s owner places packets n is run ends =
     (λ place h. delivered_is s (places place) (takes_at owner place packets) (is place)
     ∙ stream_is_exact_lem s owner packets place h) run ends
 
--- the same of a list of places
-pub reach_is : (s : Counts) (owner : ℕ) (places : List (Option State)) (packets : List PacketValue) (n : ℕ) →
-    ((place : ℕ) → state_in s (slot_at places place) ≡ state s (takes_at owner place packets)) →
-    ((place : ℕ) → place < n → IsSome (delivered_in (slot_at places place))) → delivered_in (slot_at places n) ≡ None →
-    reach s owner packets ≡ n
-reach_is s owner places packets n is run ends =
-    reach_of_run s owner (λ place. slot_at places place) packets n is run ends
-
 -- the reach is no more than there are places
 pub reach_within : (s : Counts) (a : OwnerStream) → IsOwnerStream s a → reach_in a ≤ place_count
 reach_within s a kept =

@@ -12,11 +12,10 @@ use Rattle.link_frames.specs.declared.kind.Kind.TheVariants.{Send, Echo, Ready}
 use Rattle.std.specs.FinSet as sets
 use Rattle.std.specs.Ordering.{nat_cmp}
 use Rattle.link_frames.specs.Packets.{PacketValue}
-use Rattle.bracha_instance.proofs.Exported.{voted, state_push, state-echoed, state-readied, state-delivered, newly_same}
+use Rattle.bracha_instance.proofs.Exported.{voted, idle_state, state-echoed, state-readied, state-delivered, newly_same}
 use Rattle.bracha_instance.specs.Broadcast.{Take, vote, voters, delivered, echoed, readied}
 use Rattle.bracha_instance.specs.States.{State, state}
 use Rattle.bracha_instance.specs.Taking.{effect_of, sent_for, newly_sent, newly_delivered, has_voted}
-use Rattle.bracha_instance.specs.inside.Next.{after, after_kind}
 use Rattle.bracha_instance.specs.declared.instance.Effect.{Effect}
 use Rattle.bracha_instance.specs.declared.instance.Effect.TheVariants.{Idle, Counted}
 use Rattle.bracha_instance.specs.declared.instance.Taken.{Taken}
@@ -118,11 +117,8 @@ look_idle a p is =
 pub voted_changes_nothing : (s : Counts) (slot : Option State) (t : Take) → voted_in slot t.kind t.from ≡ true
     → (takes : List Take) → state_in s slot ≡ state s takes →
     state_in s slot ≡ state s (takes ++ t ∷ [])
-unfolding after
 voted_changes_nothing s None t v takes is = absurd cc
-voted_changes_nothing s (Some st) t v takes is =
-    sym (ap (λ b. cond b st (after_kind s st t.kind t.from t.command)) v) ∙ ap (λ x. after s x t) is
-    ∙ sym (state_push s takes t)
+voted_changes_nothing s (Some st) t v takes is = idle_state s takes t st v is
 
 -- the effect that was looked up is that of the step
 pub effect_is : (s : Counts) (packets : List PacketValue) (p : PacketValue) (e : Effect)

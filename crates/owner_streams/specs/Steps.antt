@@ -18,7 +18,7 @@ use Rattle.owner_streams.specs.declared.steps.StreamFault.TheVariants.{Beyond, M
 abbrev pub SendsAreOwners : List PacketValue → Type 0
 SendsAreOwners packets = All SentByOwner packets
 
--- the first place of the owner that is not taken yet
+-- the first place of the owner beyond the window: it is not taken yet
 abbrev pub window_end : Counts → ℕ → List PacketValue → ℕ
 window_end s owner packets = reach s owner packets + window
 

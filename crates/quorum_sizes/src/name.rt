@@ -8,7 +8,7 @@ use std::marker::Model;
 /// The name of a node: its index in the cluster, from 0. Contracts see it as that number.
 ///
 /// Only [`Sizes::name`](crate::Sizes::name) makes one.
-#[derive(Clone, Copy, Debug, PartialEq, Eq, PartialOrd, Ord)]
+#[derive(Clone, Copy, Debug, PartialEq, Eq)]
 pub struct NodeName {
     pub(crate) index: u8,
 }

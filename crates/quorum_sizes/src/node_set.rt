@@ -1,6 +1,6 @@
 //! Sets of nodes, a bit for each node.
 
-ghost use Rattle.std.specs.Prelude.{◌≡◌, ◌<◌, ◌≤◌, ◌==◌, not};
+ghost use Rattle.std.specs.Prelude.{◌≡◌, ◌<◌, ◌≤◌, not};
 ghost use Rattle.std.specs.FinSet as sets;
 ghost use Rattle.quorum_sizes.specs.Sizes.{most_nodes, echo_quorum_of};
 ghost use Rattle.quorum_sizes.specs.NodeSets.{AreNodes, nodes_among};
@@ -82,13 +82,6 @@ impl NodeSet {
     {
         let beyond = MOST_NODES - sizes.n();
         (self.word & (Word::MAX >> beyond)).count_ones() as usize
-    }
-
-    /// Whether there are no names.
-    pub fn is_empty(&self) -> bool
-        ensures { result ≡ (sets.len self.now == 0) }
-    {
-        self.len() == 0
     }
 }
 

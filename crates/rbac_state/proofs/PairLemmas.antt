@@ -6,7 +6,7 @@ use Rattle.std.specs.Cmp.{IsTotalOrder, both_tied, unsigned_ties}
 use Rattle.std.specs.Ordering.{eq_by_cmp, nat_cmp}
 use Rattle.std.specs.FinSet as set
 use Rattle.std.proofs.lemmas.Cmp.{nat_cmp_total, then_total, on_total, eq_by_cmp_equiv}
-use Rattle.std.proofs.lemmas.Map.Lookups.{CmpEqualImpliesEq, exact_unsigned, exact_pairs}
+use Rattle.std.proofs.lemmas.Map.Lookups.{CmpEqualImpliesEq}
 use Rattle.std.proofs.lemmas.Map.Views.{Contains-from_any, list_any-from_Contains, tells_apart}
 use Rattle.rbac_state.specs.Policies.{assignment_cmp, permission_cmp, grant_cmp}
 use Rattle.rbac_state.specs.inside.Relations.{is_among}
@@ -14,20 +14,11 @@ use Rattle.rbac_state.specs.inside.Relations.{is_among}
 pub assignments_total : IsTotalOrder assignment_cmp
 assignments_total = then_total (on_total (λ a. a.0) nat_cmp_total) (on_total (λ a. a.1) nat_cmp_total)
 
-pub assignments_exact : CmpEqualImpliesEq assignment_cmp
-assignments_exact = exact_pairs nat_cmp nat_cmp exact_unsigned exact_unsigned
-
 pub permissions_total : IsTotalOrder permission_cmp
 permissions_total = then_total (on_total (λ p. p.0) nat_cmp_total) (on_total (λ p. p.1) nat_cmp_total)
 
-pub permissions_exact : CmpEqualImpliesEq permission_cmp
-permissions_exact = exact_pairs nat_cmp nat_cmp exact_unsigned exact_unsigned
-
 pub grants_total : IsTotalOrder grant_cmp
 grants_total = then_total (on_total (λ g. g.0) permissions_total) (on_total (λ g. g.1) nat_cmp_total)
-
-pub grants_exact : CmpEqualImpliesEq grant_cmp
-grants_exact = exact_pairs permission_cmp nat_cmp permissions_exact exact_unsigned
 
 -- the set of a list has what is in the list
 pub members : {K : Type 0} {R : K → K → Ordering} → IsTotalOrder R → CmpEqualImpliesEq R → (ks : List K) (q : K) →

@@ -60,23 +60,6 @@ module _ {X : Type 0} (passes : X → Bool) (xs : List X) (base size : ℕ) (x :
     };
   }
 
--- at the last item
-module _ {X : Type 0} (passes : X → Bool) (xs : List X) (base size : ℕ) (x : X)
-    (at : IsSearching passes base size xs) (one : size ≤ 1) (is : x ≡ get_or xs base x) where
-  pub last_passes : passes x ≡ true → IsPartitionedBy passes xs →
-      IsPartitionPoint (λ y. passes y ≡ true) (λ y. passes y ≡ false) xs (base + 1)
-  last_passes does parted = (
-    passed passes xs base x (omega (arith, at.some, at.within)) is parted does (base + 1) (omega arith),
-    λ k d low below. (at.about parted).behind k d (omega arith) below,
-  )
-
-  pub last_fails : passes x ≡ false → IsPartitionedBy passes xs →
-      IsPartitionPoint (λ y. passes y ≡ true) (λ y. passes y ≡ false) xs base
-  last_fails fails parted = (
-    (at.about parted).before,
-    failed passes xs base x (omega (arith, at.some, at.within)) is parted fails base (omega arith),
-  )
-
 lt_is : (u : Ordering) → is_lt u ≡ true → u ≡ Less
 lt_is Less e = refl
 lt_is Equal e = cc

@@ -66,10 +66,6 @@ pub last_said-none : (says : Command → Option Bool) → last_said says [] ≡ 
 unfolding last_said
 last_said-none says = refl
 
-if_both : (b : Bool) (x : Bool) → (if b then x else x) ≡ x
-if_both true x = refl
-if_both false x = refl
-
 one_stream : (streams : ℕ → List Command) (node : ℕ) (command : Command) (says : Command
     → Option Bool) (owner : ℕ) (mine : Bool) →
     last_said says (if mine then streams owner ++ command ∷ [] else streams owner)

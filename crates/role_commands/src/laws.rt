@@ -17,7 +17,7 @@ pub fn one_spelling()
     ensures differ { SpellingsDiffer }
 {}
 
-/// `==` tells whether two commands are one.
+/// `same_command` tells whether two commands are one.
 pub fn sameness()
     ensures itself { CommandsAreThemselves }
     ensures one { SameCommandsAreOne }

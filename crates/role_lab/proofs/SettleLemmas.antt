@@ -2,43 +2,39 @@
 use Rattle.role_lab.specs.inside.Flags.{AreSet, with_many}
 use Rattle.std.proofs.Common.{◌≡◌, ℕ, zero, suc, ◌+◌, ◌<◌, ◌≤◌, ⊎_elim, Bool, true, false, ◌||◌, ◌==◌, length, sym, ap}
 use Rattle.std.proofs.Common.{◌∙◌, arith}
-use Rattle.std.specs.Prelude.{nat_lt}
+use Rattle.std.specs.Prelude.{nat_lt, max}
 use Rattle.std.proofs.lemmas.Bool.{cases_lt}
 use Rattle.std.proofs.lemmas.Bool.Decides.{nat_tests}
 use Rattle.byz_world.specs.Settled.{settled}
 use Rattle.byz_world.specs.Worlds.{WorldValue}
 use Rattle.role_lab.specs.Labs.{Lab, pool_length, with_number, with_all_below, after_settling, settling_adds}
 
-pub below_none : (given : ℕ → Bool) → given ≡ with_all_below given 0
-below_none given = λ i k. by k i
-  where
-    by : (k : ℕ) → given k ≡ (nat_lt k 0 || given k)
-    by k = let none : nat_lt k 0 ≡ false = grind (arith, nat_tests) in sym (ap (λ b. b || given k) none)
-
-one_more : (k n : ℕ) (g : Bool) → ((k == n) || (nat_lt k n || g)) ≡ (nat_lt k (n + 1) || g)
-one_more k n g =
+below_both : (k m n : ℕ) (g : Bool) → (nat_lt k (max m n) || g) ≡ (nat_lt k n || (nat_lt k m || g))
+below_both k m n g =
     ⊎_elim
-    (λ (before : k < n).
-    let other : (k == n) ≡ false = grind (arith, nat_tests) in
-    let was : nat_lt k n ≡ true = grind (arith, nat_tests) in
-    let now : nat_lt k (n + 1) ≡ true = grind (arith, nat_tests) in
-    (λ i. other i || (was i || g)) ∙ sym (ap (λ b. b || g) now))
+    (λ (first : k < n).
+    let now : nat_lt k (max m n) ≡ true = grind (arith, nat_tests) in
+    let too : nat_lt k n ≡ true = grind (arith, nat_tests) in
+    ap (λ b. b || g) now ∙ sym (ap (λ b. b || (nat_lt k m || g)) too))
     (λ (past : n ≤ k).
+    let none : nat_lt k n ≡ false = grind (arith, nat_tests) in
+    let same : nat_lt k (max m n) ≡ nat_lt k m =
     ⊎_elim
-    (λ (last : k < n + 1).
-    let same : (k == n) ≡ true = grind (arith, nat_tests) in
-    let now : nat_lt k (n + 1) ≡ true = grind (arith, nat_tests) in
-    ap (λ b. b || (nat_lt k n || g)) same ∙ sym (ap (λ b. b || g) now))
-    (λ (later : n + 1 ≤ k).
-    let other : (k == n) ≡ false = grind (arith, nat_tests) in
-    let was : nat_lt k n ≡ false = grind (arith, nat_tests) in
-    let now : nat_lt k (n + 1) ≡ false = grind (arith, nat_tests) in
-    (λ i. other i || (was i || g)) ∙ sym (ap (λ b. b || g) now))
-    (cases_lt k (n + 1)))
+    (λ (below : k < m).
+    let now : nat_lt k (max m n) ≡ true = grind (arith, nat_tests) in
+    let was : nat_lt k m ≡ true = grind (arith, nat_tests) in
+    now ∙ sym was)
+    (λ (behind : m ≤ k).
+    let now : nat_lt k (max m n) ≡ false = grind (arith, nat_tests) in
+    let was : nat_lt k m ≡ false = grind (arith, nat_tests) in
+    now ∙ sym was)
+    (cases_lt k m) in
+    ap (λ b. b || g) same ∙ sym (ap (λ b. b || (nat_lt k m || g)) none))
     (cases_lt k n)
 
-pub below_more : (given : ℕ → Bool) (n : ℕ) → with_number (with_all_below given n) n ≡ with_all_below given (n + 1)
-below_more given n = λ i k. one_more k n (given k) i
+-- all below either of two numbers are all below the greater
+pub below_max : (given : ℕ → Bool) (m n : ℕ) → with_all_below given (max m n) ≡ with_all_below (with_all_below given m) n
+below_max given m n = λ i k. below_both k m n (given k) i
 
 -- what the code keeps is the cluster after it has settled
 pub settled_lab : (first last : Lab) (end : ℕ) → last.world ≡ settled first.world → end ≡ pool_length last.world →
@@ -65,30 +61,6 @@ swapped false b c = λ i. b || c
 pub below_swapped : (given : ℕ → Bool) (end n : ℕ) →
     with_all_below (with_number given n) end ≡ with_number (with_all_below given end) n
 below_swapped given end n = λ i k. swapped (nat_lt k end) (k == n) (given k) i
-
-passed_by : (given : ℕ → Bool) (from end k : ℕ) → AreSet given from end → from ≤ end →
-    (nat_lt k end || given k) ≡ (nat_lt k from || given k)
-passed_by given from end k set h =
-    ⊎_elim
-    (λ (early : k < from).
-    let now : nat_lt k end ≡ true = grind (arith, nat_tests) in
-    let was : nat_lt k from ≡ true = grind (arith, nat_tests) in
-    (λ i. now i || given k) ∙ sym (λ i. was i || given k))
-    (λ (over : from ≤ k).
-    let was : nat_lt k from ≡ false = grind (arith, nat_tests) in
-    ⊎_elim
-    (λ (inside : k < end).
-    let now : nat_lt k end ≡ true = grind (arith, nat_tests) in
-    (λ i. now i || given k) ∙ sym (set k over inside) ∙ sym (λ i. was i || given k))
-    (λ (past : end ≤ k).
-    let now : nat_lt k end ≡ false = grind (arith, nat_tests) in
-    (λ i. now i || given k) ∙ sym (λ i. was i || given k))
-    (cases_lt k end))
-    (cases_lt k from)
-
-pub below_passed : (given : ℕ → Bool) (from end : ℕ) → AreSet given from end → from ≤ end →
-    with_all_below given end ≡ with_all_below given from
-below_passed given from end set h = λ i k. passed_by given from end k set h i
 
 pub below_set : (given : ℕ → Bool) (from end k : ℕ) → AreSet given from end → k < end →
     with_all_below given from k ≡ true

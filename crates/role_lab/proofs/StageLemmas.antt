@@ -269,10 +269,6 @@ pub cluster_goes_on : (lab : labs.Lab) (line : List ℕ) → after_line (OfClust
 unfolding after_line
 cluster_goes_on lab line = refl
 
-pub asking-none : (lab : labs.Lab) (stage : Stage) (line : List ℕ) → order_of_line (lab_sizes lab) line ≡ None
-    → Answers (after_cluster_line lab line) stage None
-asking-none lab stage line e = rw e tt
-
 pub asking-some : (lab : labs.Lab) (new : Lab) (line text : List ℕ) (order : Order)
     → order_of_line (lab_sizes lab) line ≡ Some order → lab_in new ≡ after_order lab order
     → AreSizes (lab_sizes lab) → text ≡ order_text lab order

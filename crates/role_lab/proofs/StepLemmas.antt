@@ -57,25 +57,3 @@ asked_ok bytes w node q a (Ok t) due is within told =
     told ∙ ap answer_text one
     ∙ ap (λ o. option_map_or world_fault_text o (answer_text (answer_after w.config.roles history q))) (sym due)
 asked_ok bytes w node q a (Err e) due is within told = tt
-
--- or a refusal
-pub asked_err : {S E : Type 0} (bytes : S → List ℕ) (w : WorldValue) (node : ℕ) (q : Question) (f : WorldFault)
-    (r : Result S E)
-    → IsQuestionAnswer w node q (Err f) → (f ≡ fault.Memory → ⊥)
-    → IfOk r (λ t. bytes t ≡ world_fault_text f) → IfOk r (λ t. bytes t ≡ asked_text w node q)
-asked_err bytes w node q f (Ok t) is other told =
-    let answer = answer_text (answer_after w.config.roles (history_of node w.run) q) in
-    told ∙ ap (λ o. option_map_or world_fault_text o answer) (sym (refused f is other))
-  where
-    refused : (f : WorldFault) → IsQuestionAnswer w node q (Err f) → (f ≡ fault.Memory → ⊥) → question_due w node q
-        ≡ Some f
-    refused fault.TooManyLiars is other = absurd is
-    refused fault.NotCorrect is other = is
-    refused fault.NoSuchPacket is other = absurd is
-    refused fault.NotSent is other = absurd is
-    refused fault.PoolFull is other = absurd is
-    refused (fault.Link g) is other = absurd is
-    refused (fault.Node g) is other = absurd is
-    refused fault.NoSession is other = is
-    refused fault.Memory is other = absurd (other refl)
-asked_err bytes w node q f (Err e) is other told = tt

@@ -92,18 +92,11 @@ impl Given {
         self.end <= number as usize && self.least <= number as usize
     }
 
-    /// Adds all numbers below `end`.
-    ///
-    /// # Errors
-    ///
-    /// Only for want of memory.
-    pub fn mark_below(&mut self, end: u32) -> Result<(), AllocError>
-        ensures { OnOk result (given_in self.new ≡ with_all_below (given_in self.old) end) }
+    /// Adds all numbers below `end`. It takes no memory.
+    pub fn mark_below(&mut self, end: u32)
+        ensures { given_in self.new ≡ with_all_below (given_in self.old) end }
     {
-        for number in 0..end {
-            self.mark(number)?;
-        }
-        Ok(())
+        self.least = self.least.max(end as usize);
     }
 
     /// The least number below `end` that was not given.

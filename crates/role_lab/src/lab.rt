@@ -157,7 +157,7 @@ impl Lab {
         ensures after { OnOk result (lab_in self.new ≡ after_settling (lab_in self.old)) }
     {
         let count = self.world.settle()?;
-        self.given.mark_below(self.world.sent_len())?;
+        self.given.mark_below(self.world.sent_len());
         Ok(count)
     }
 

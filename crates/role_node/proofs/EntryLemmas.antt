@@ -39,10 +39,6 @@ pub events-length : (entries : List EntryValue) → length (events entries) ≡ 
 events-length [] = refl
 events-length (e ∷ entries) = ap suc (events-length entries)
 
-was_due : ConfigValue → ℕ → List Event → EntryValue → Type 0
-was_due config me past entry =
-    (answer_due config me past entry.event ≡ Ok entry.reply) × IsTrue (is_recorded (Ok entry.reply))
-
 -- one more entry whose reply was due
 pub entries_push : (config : ConfigValue) (me : ℕ) (entries : List EntryValue) (entry : EntryValue)
     → AreEntries config me entries →

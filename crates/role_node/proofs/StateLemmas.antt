@@ -185,16 +185,6 @@ pub none_kept : (relations : Relations) (sessions : SessionsValue) → sessions.
     → KeptAreRight relations sessions
 none_kept relations sessions e = rw e (All-nil _)
 
--- a packet that counts is refused for want of memory alone
-pub only_memory : (due : Result StreamStep StreamFault) (f : StreamFault) (routed : Bool) → IsAnswer due (Err f) →
-    ◌≡◌ {A = Result Effect NodeFault} (if routed then of_effect_due (effect_due due)
-    else Err fault.Misrouted) (Ok effect.Counted) →
-    of_stream_fault f ≡ fault.Memory
-only_memory due stream_fault.Memory routed a e = refl
-only_memory (Ok step) (stream_fault.Beyond place end) routed a e = absurd cc
-only_memory (Err f) (stream_fault.Beyond place end) true a e = absurd cc
-only_memory (Err f) (stream_fault.Beyond place end) false a e = absurd cc
-
 -- a blank policy is that of no packets
 pub blank_policy : (roles : Table) (streams : ℕ → List Command) (p : PolicyValue) → ((node : ℕ) → streams node ≡ [])
     → IsBlank roles p → IsPolicyOf streams p

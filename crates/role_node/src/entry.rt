@@ -5,7 +5,7 @@ ghost use Rattle.link_frames.specs.Packets.{IsSound};
 ghost use Rattle.owner_streams.specs.Places.{window};
 ghost use Rattle.role_sessions.specs.declared.event.ClientEvent.{ClientEvent};
 ghost use Rattle.role_node.specs.Answers.{counted_reply};
-ghost use Rattle.role_node.specs.inside.Entries.{IsOwn, kept_with, packet_with, reply_with};
+ghost use Rattle.role_node.specs.inside.Entries.{IsOwn, kept_with, packet_in, packet_with, reply_with};
 ghost use Rattle.role_node.specs.inside.Entries.{said_in, said_of, said_kind};
 ghost use Rattle.role_node.specs.declared.event.Event.{Event};
 ghost use Rattle.role_node.specs.declared.event.Event.TheVariants.{Client};
@@ -41,48 +41,28 @@ enum Said {
     Ready,
 }
 
+/// The first place that was new in the stream.
+type Reach = u32;
+
+type User = u32;
+
+type Role = u16;
+
+type Operation = u16;
+
+type Object = u32;
+
 /// What is kept of an event and its reply: of the reply only what the event doesn't tell.
 ///
 /// A packet's command stands in it by its parts, so that an entry has 24 bytes and not 32.
 #[derive(Clone, Copy)]
 enum Kept {
     /// A packet of this command, and what it caused.
-    Assign {
-        head: Head,
-        place: Place,
-        reach: u32,
-        role: u16,
-        user: u32,
-    },
-    Deassign {
-        head: Head,
-        place: Place,
-        reach: u32,
-        role: u16,
-        user: u32,
-    },
-    Grant {
-        head: Head,
-        place: Place,
-        reach: u32,
-        role: u16,
-        operation: u16,
-        object: u32,
-    },
-    Revoke {
-        head: Head,
-        place: Place,
-        reach: u32,
-        role: u16,
-        operation: u16,
-        object: u32,
-    },
-    Clear {
-        head: Head,
-        place: Place,
-        reach: u32,
-        role: u16,
-    },
+    Assign(Head, Place, Reach, Role, User),
+    Deassign(Head, Place, Reach, Role, User),
+    Grant(Head, Place, Reach, Role, Operation, Object),
+    Revoke(Head, Place, Reach, Role, Operation, Object),
+    Clear(Head, Place, Reach, Role),
     /// The SEND of a command that the node published.
     Issued(Message),
     /// A session that opened, with its id.
@@ -215,61 +195,10 @@ impl Entry {
     pub fn event(&self) -> Event
         ensures { result ≡ self.now.event }
     {
+        if let Some((head, place, _, command)) = self.kept.packet() {
+            return head.event(place, command);
+        }
         match self.kept {
-            Kept::Assign {
-                head,
-                place,
-                role,
-                user,
-                ..
-            } => head.event(place, Command::Assign { user, role }),
-            Kept::Deassign {
-                head,
-                place,
-                role,
-                user,
-                ..
-            } => head.event(place, Command::Deassign { user, role }),
-            Kept::Grant {
-                head,
-                place,
-                role,
-                operation,
-                object,
-                ..
-            } => {
-                head.event(
-                    place,
-                    Command::Grant {
-                        role,
-                        operation,
-                        object,
-                    },
-                )
-            }
-            Kept::Revoke {
-                head,
-                place,
-                role,
-                operation,
-                object,
-                ..
-            } => {
-                head.event(
-                    place,
-                    Command::Revoke {
-                        role,
-                        operation,
-                        object,
-                    },
-                )
-            }
-            Kept::Clear {
-                head,
-                place,
-                role,
-                ..
-            } => head.event(place, Command::Clear { role }),
             Kept::Issued(send) => Event::Issue(send.command),
             Kept::Opened { user, .. } => Event::Client(ClientEvent::Open { user }),
             Kept::Activated {
@@ -291,6 +220,7 @@ impl Entry {
                 role,
             }),
             Kept::Closed { user, session } => Event::Client(ClientEvent::Close { session, user }),
+            _ => unreachable!(),
         }
     }
 
@@ -299,122 +229,73 @@ impl Entry {
     pub fn reply(&self) -> Reply
         ensures { result ≡ self.now.reply }
     {
+        if let Some((head, place, reach, command)) = self.kept.packet() {
+            return head.reply(place, reach, command);
+        }
         match self.kept {
-            Kept::Assign {
-                head,
-                place,
-                reach,
-                role,
-                user,
-            } => head.reply(place, reach, Command::Assign { user, role }),
-            Kept::Deassign {
-                head,
-                place,
-                reach,
-                role,
-                user,
-            } => { head.reply(place, reach, Command::Deassign { user, role }) }
-            Kept::Grant {
-                head,
-                place,
-                reach,
-                role,
-                operation,
-                object,
-            } => {
-                head.reply(
-                    place,
-                    reach,
-                    Command::Grant {
-                        role,
-                        operation,
-                        object,
-                    },
-                )
-            }
-            Kept::Revoke {
-                head,
-                place,
-                reach,
-                role,
-                operation,
-                object,
-            } => {
-                head.reply(
-                    place,
-                    reach,
-                    Command::Revoke {
-                        role,
-                        operation,
-                        object,
-                    },
-                )
-            }
-            Kept::Clear {
-                head,
-                place,
-                reach,
-                role,
-            } => head.reply(place, reach, Command::Clear { role }),
             Kept::Issued(send) => Reply::Issued(send),
             Kept::Opened { session, .. } => Reply::Session(session),
-            Kept::Activated { .. } | Kept::Dropped { .. } | Kept::Closed { .. } => Reply::Done,
+            _ => Reply::Done,
         }
+    }
+}
+
+impl Kept {
+    /// What is kept of a packet: its head, its place, the first place that was new, and its command.
+    #[inline(always)]
+    fn packet(self) -> Option<(Head, Place, Reach, Command)>
+        ensures { result ≡ packet_in self }
+    {
+        let (head, place, reach, command) = match self {
+            Kept::Assign(head, place, reach, role, user) => {
+                (head, place, reach, Command::Assign { user, role })
+            }
+            Kept::Deassign(head, place, reach, role, user) => {
+                (head, place, reach, Command::Deassign { user, role })
+            }
+            Kept::Grant(head, place, reach, role, operation, object) => {
+                let command = Command::Grant {
+                    role,
+                    operation,
+                    object,
+                };
+                (head, place, reach, command)
+            }
+            Kept::Revoke(head, place, reach, role, operation, object) => {
+                let command = Command::Revoke {
+                    role,
+                    operation,
+                    object,
+                };
+                (head, place, reach, command)
+            }
+            Kept::Clear(head, place, reach, role) => (head, place, reach, Command::Clear { role }),
+            _ => return None,
+        };
+        Some((head, place, reach, command))
     }
 }
 
 impl Head {
     /// What is kept of a packet at this place, of this command, with the first place that was new.
     #[inline(always)]
-    fn with(self, place: Place, reach: u32, command: Command) -> Kept
+    fn with(self, place: Place, reach: Reach, command: Command) -> Kept
         ensures { result ≡ kept_with self place reach command }
     {
-        let head = self;
         match command {
-            Command::Assign { user, role } => Kept::Assign {
-                head,
-                place,
-                reach,
-                role,
-                user,
-            },
-            Command::Deassign { user, role } => Kept::Deassign {
-                head,
-                place,
-                reach,
-                role,
-                user,
-            },
+            Command::Assign { user, role } => Kept::Assign(self, place, reach, role, user),
+            Command::Deassign { user, role } => Kept::Deassign(self, place, reach, role, user),
             Command::Grant {
                 role,
                 operation,
                 object,
-            } => Kept::Grant {
-                head,
-                place,
-                reach,
-                role,
-                operation,
-                object,
-            },
+            } => Kept::Grant(self, place, reach, role, operation, object),
             Command::Revoke {
                 role,
                 operation,
                 object,
-            } => Kept::Revoke {
-                head,
-                place,
-                reach,
-                role,
-                operation,
-                object,
-            },
-            Command::Clear { role } => Kept::Clear {
-                head,
-                place,
-                reach,
-                role,
-            },
+            } => Kept::Revoke(self, place, reach, role, operation, object),
+            Command::Clear { role } => Kept::Clear(self, place, reach, role),
         }
     }
 
@@ -434,7 +315,7 @@ impl Head {
 
     /// What it caused.
     #[inline(always)]
-    fn reply(self, place: Place, reach: u32, command: Command) -> Reply
+    fn reply(self, place: Place, reach: Reach, command: Command) -> Reply
         requires { reach + self.grown < 2 ^ 32 }
         ensures { result ≡ reply_with self place reach command }
     {

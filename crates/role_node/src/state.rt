@@ -17,6 +17,7 @@ ghost use Rattle.role_node.specs.inside.Kept.{obeyed, IsStateAfter, Follows, Sta
 ghost use Rattle.role_node.specs.inside.Kept.{IsEntryFor, FailsForMemory, IsInRange, MayRecord};
 ghost use Rattle.role_node.specs.declared.event.Event.{Event};
 ghost use Rattle.role_node.specs.declared.event.Event.TheVariants.{Issue, Take, Client};
+ghost use Rattle.role_node.specs.declared.question.Question.TheVariants.{SessionRoles, SessionPermissions};
 
 use crate::entry::Entry;
 use crate::event::{Event, NodeAgain};
@@ -264,18 +265,34 @@ impl State {
             Question::UserOperations { user, object } => Ok(Answer::Operations(Items::new(
                 self.policy.user_operations(user, object)?,
             ))),
-            Question::SessionRoles(session) => {
-                match self.sessions.session_roles(&self.policy, session) {
-                    Ok(roles) => Ok(Answer::Roles(Items::new(roles))),
-                    Err(fault) => Err(listing_fault(fault)),
-                }
-            }
-            Question::SessionPermissions(session) => {
-                match self.sessions.session_permissions(&self.policy, session) {
-                    Ok(permissions) => Ok(Answer::Permissions(Items::new(permissions))),
-                    Err(fault) => Err(listing_fault(fault)),
-                }
-            }
+            Question::SessionRoles(session) => self.session_roles(session),
+            Question::SessionPermissions(session) => self.session_permissions(session),
+        }
+    }
+
+    /// The answer to the question which roles count in the session.
+    fn session_roles(&self, session: u64) -> Result<Answer, AskFault>
+        ensures due { let question = SessionRoles session in
+            IsAsked (ask_due self.now.sessions.state question) question result }
+        ensures answer { IfOk result
+            (IsAnswerUnder (relations_of self.now.policy) self.now.sessions.state (SessionRoles session)) }
+    {
+        match self.sessions.session_roles(&self.policy, session) {
+            Ok(roles) => Ok(Answer::Roles(Items::new(roles))),
+            Err(fault) => Err(listing_fault(fault)),
+        }
+    }
+
+    /// The answer to the question what some role may do that counts in the session.
+    fn session_permissions(&self, session: u64) -> Result<Answer, AskFault>
+        ensures due { let question = SessionPermissions session in
+            IsAsked (ask_due self.now.sessions.state question) question result }
+        ensures answer { IfOk result
+            (IsAnswerUnder (relations_of self.now.policy) self.now.sessions.state (SessionPermissions session)) }
+    {
+        match self.sessions.session_permissions(&self.policy, session) {
+            Ok(permissions) => Ok(Answer::Permissions(Items::new(permissions))),
+            Err(fault) => Err(listing_fault(fault)),
         }
     }
 

@@ -108,13 +108,6 @@ module _ (old new : Entries) (id : ℕ) (session written : Session) (here : Some
       ∙ (λ i. map.insert (view i) id (is i))
       ∙ ap (λ o. option_map_or (λ s. map.insert m id (change s)) o m) (sym found)
 
--- what stood there, written anew, changes nothing
-pub map_of-same : (old new : Entries) (id : ℕ) (session written : Session) → Some session ≡ lookup (nat_eq id) old
-    → new ≡ set_value (nat_eq id) old written → written ≡ session →
-    map_of new ≡ map_of old
-map_of-same old new id session written here is same =
-    ap map_of (is ∙ ap (set_value (nat_eq id) old) same ∙ set_value_same (nat_eq id) old session (sym here))
-
 -- no session has the id
 pub map_of-absent : (old new : Entries) (id : ℕ) (m : map.FinMap nat_cmp Session) (change : Session → Session)
     → None ≡ lookup (nat_eq id) old → new ≡ old → map_of old ≡ m →

@@ -2,7 +2,8 @@
 use Rattle.std.specs.Prelude.{◌≡◌, ℕ, ◌*◌, ◌<◌, ◌≤◌, List, length, refl}
 use Rattle.std.specs.Coded.{Coded, code_by, coded×, coded_list, coded_ℕ}
 use Rattle.link_frames.specs.Layout.{frame_len}
-use Rattle.frame_queues.specs.Unsent.{UnsentValue, AreFrames, most_frames}
+use Rattle.link_frames.specs.FrameStreams.{AreFrames}
+use Rattle.frame_queues.specs.Unsent.{UnsentValue, most_frames}
 use Rattle.frame_queues.specs.Blocks.{block_frames}
 
 -- unsent frames are stored as the pair of their parts

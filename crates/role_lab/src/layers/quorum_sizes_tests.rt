@@ -47,7 +47,7 @@ fn sets_of_nodes(rt: HostRuntime) -> Result<(), Fail> {
     let last = Sizes::new(128, 42)?.name(127).ok_or("no name")?;
     assert!(rt; last.index() == 127 && sizes.has(first) && !sizes.has(last));
     let mut one = NodeSet::new();
-    assert!(rt; one.is_empty() && one.insert(first) && !one.insert(first));
+    assert!(rt; one.len() == 0 && one.insert(first) && !one.insert(first));
     let mut both = one;
     assert!(rt; both.insert(last) && both.contains(last) && !one.contains(last));
     assert!(rt; both.len() == 2 && both.count_among(&sizes) == 1);

@@ -1,6 +1,7 @@
 -- What is kept of an entry of a node's history. Serves the code, and no public contract.
 use Rattle.std.specs.Prelude.{ℕ, ◌≡◌, ◌+◌, ◌-◌, ◌^◌, ◌<◌, Bool, true, false, if◌then◌else◌}
-use Rattle.std.specs.Prelude.{Option, Some, None, option_map, is_some, IfSome, ⊤, refl}
+use Rattle.std.specs.Prelude.{Option, Some, None, option_map, is_some, IfSome, refl}
+use Rattle.std.specs.Option.{option_map_or}
 use Rattle.std.specs.Coded.{Coded, code_by, coded×}
 use Rattle.std.proofs.Math.Nat.{add-sub_cancel_left}
 use Rattle.role_commands.specs.declared.command.Command.{Command}
@@ -80,33 +81,38 @@ reply_with h place reach command =
     reply.Counted (option_map (said_of h.owner place command) (said_kind h.send))
     (if h.delivered then Some command else None) reach (reach + h.grown)
 
+-- a packet that is kept: its head, its place, the first place that was new, and its command
+abbrev pub packet_in : Kept → Option (Head × ℕ × ℕ × Command)
+packet_in (kept.Assign h place reach role user) = Some (h, place, reach, Assign user role)
+packet_in (kept.Deassign h place reach role user) = Some (h, place, reach, Deassign user role)
+packet_in (kept.Grant h place reach role operation object) = Some (h, place, reach, Grant role operation object)
+packet_in (kept.Revoke h place reach role operation object) = Some (h, place, reach, Revoke role operation object)
+packet_in (kept.Clear h place reach role) = Some (h, place, reach, Clear role)
+packet_in k = None
+
+-- the event of what is kept that is no packet
+abbrev pub own_event : Kept → Event
+own_event (kept.Issued send) = Issue send.command
+own_event (kept.Opened user session) = Client (Open user)
+own_event (kept.Activated role user session) = Client (Activate session user role)
+own_event (kept.Dropped role user session) = Client (DropRole session user role)
+own_event (kept.Closed user session) = Client (Close session user)
+own_event k = Client (Close 0 0)
+
+-- its reply
+abbrev pub own_reply : Kept → Reply
+own_reply (kept.Issued send) = reply.Issued send
+own_reply (kept.Opened user session) = reply.Session session
+own_reply k = reply.Done
+
 -- the event of what is kept
 abbrev pub kept_event : Kept → Event
-kept_event (kept.Assign h place reach role user) = Take (packet_with h place (Assign user role))
-kept_event (kept.Deassign h place reach role user) = Take (packet_with h place (Deassign user role))
-kept_event (kept.Grant h place reach role operation object) =
-    Take (packet_with h place (Grant role operation object))
-kept_event (kept.Revoke h place reach role operation object) =
-    Take (packet_with h place (Revoke role operation object))
-kept_event (kept.Clear h place reach role) = Take (packet_with h place (Clear role))
-kept_event (kept.Issued send) = Issue send.command
-kept_event (kept.Opened user session) = Client (Open user)
-kept_event (kept.Activated role user session) = Client (Activate session user role)
-kept_event (kept.Dropped role user session) = Client (DropRole session user role)
-kept_event (kept.Closed user session) = Client (Close session user)
+kept_event k = option_map_or (λ (p : Head × ℕ × ℕ × Command). Take (packet_with p.0 p.1 p.3)) (packet_in k) (own_event k)
 
 -- its reply
 abbrev pub kept_reply : Kept → Reply
-kept_reply (kept.Assign h place reach role user) = reply_with h place reach (Assign user role)
-kept_reply (kept.Deassign h place reach role user) = reply_with h place reach (Deassign user role)
-kept_reply (kept.Grant h place reach role operation object) =
-    reply_with h place reach (Grant role operation object)
-kept_reply (kept.Revoke h place reach role operation object) =
-    reply_with h place reach (Revoke role operation object)
-kept_reply (kept.Clear h place reach role) = reply_with h place reach (Clear role)
-kept_reply (kept.Issued send) = reply.Issued send
-kept_reply (kept.Opened user session) = reply.Session session
-kept_reply k = reply.Done
+kept_reply k =
+    option_map_or (λ (p : Head × ℕ × ℕ × Command). reply_with p.0 p.1 p.2 p.3) (packet_in k) (own_reply k)
 
 abbrev pub kept_value : Kept → EntryValue
 kept_value k = record { event = kept_event k; reply = kept_reply k }
@@ -116,12 +122,7 @@ abbrev pub IsKeptWith : Head → ℕ → ℕ → Command → Type 0
 IsKeptWith h place reach command = IsSound (packet_with h place command) × (reach + h.grown < 2 ^ 32)
 
 abbrev pub IsKept : Kept → Type 0
-IsKept (kept.Assign h place reach role user) = IsKeptWith h place reach (Assign user role)
-IsKept (kept.Deassign h place reach role user) = IsKeptWith h place reach (Deassign user role)
-IsKept (kept.Grant h place reach role operation object) = IsKeptWith h place reach (Grant role operation object)
-IsKept (kept.Revoke h place reach role operation object) = IsKeptWith h place reach (Revoke role operation object)
-IsKept (kept.Clear h place reach role) = IsKeptWith h place reach (Clear role)
-IsKept k = ⊤
+IsKept k = IfSome (packet_in k) (λ p. IsKeptWith p.0 p.1 p.2 p.3)
 
 -- what is kept beside a packet's places and command
 abbrev pub head_of : PacketValue → Option Message → Option Command → ℕ → ℕ → Head

@@ -10,7 +10,8 @@ use Rattle.link_frames.proofs.reading.read_frame.Goals.{in-Ok+else-have-eq-FRAME
 pub returns-in-Err-2 : goal.returns-in-Err-2
 returns-in-Err-2 g c =
     let broke = rw (sym c.if-is_interruption.ensures) at c.in-Err.ensures.breaks in
-    failed _ (watched_tally c.read.new.self) c.loop.invariant c.in-Err.ensures.bytes c.in-Err.ensures.faults broke
+    failed _ (watched_tally c.read.new.self) c.loop.invariant c.in-Err.ensures.bytes (omega arith)
+    c.in-Err.ensures.faults c.in-Err.ensures.reads broke
 
 pub loop-preserved : goal.loop-preserved
 loop-preserved g c =
@@ -35,10 +36,10 @@ loop-preserved g c =
           omega (arith, room, given.bound.0, so_far.part, w.if-have-eq-FRAME_LEN.false) in
           let len = same_len_mid _ _ _ _ c.read.auto.buf in
           let front = front_read _ _ _ _ _ within given.bound.0 in
-          rw w.have-is (gave_more _ n _ _ _ so_far given.bytes.0 given.faults given.breaks some part len front)
+          rw w.have-is (gave_more _ n _ _ _ so_far given.bytes.0 given.faults given.reads given.breaks some part len front)
       | in-Err w ↦
           let again = rw (sym w.if-is_interruption.ensures) at w.in-Err.ensures.breaks in
           let len = same_len_mid _ _ _ _ c.read.auto.buf in
           let front = take-put_mid_below _ _ _ _ _ (le_refl _) within in
-          rw w.have-is (interrupted _ _ _ so_far w.in-Err.ensures.bytes w.in-Err.ensures.faults again len front)
+          rw w.have-is (interrupted _ _ _ so_far w.in-Err.ensures.bytes w.in-Err.ensures.faults w.in-Err.ensures.reads again len front)
     ]

@@ -9,4 +9,4 @@ returns-clause-count c =
 pub returns-clause-after : goal.returns-clause-after
 returns-clause-after c =
     settled_lab (lab_in c.args.self.now) _ c.sent_len.result c.in_ok-count.ensures.after c.sent_len.ensures.value
-    c.in_ok-mark_below.ensures
+    c.mark_below.ensures

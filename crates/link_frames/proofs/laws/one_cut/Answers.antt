@@ -1,0 +1,5 @@
+use Rattle.link_frames.proofs.FrameStreamLemmas.{frames_are_one}
+use Rattle.link_frames.proofs.laws.one_cut.Goals as goal
+
+pub returns : goal.returns
+returns c = frames_are_one
