@@ -1,5 +1,5 @@
 -- Which connections of frames have a place.
-use Rattle.std.specs.Prelude.{ℕ, ◌+◌, ◌==◌, Bool, false, not, ◌&&◌, ◌||◌, nat_lt, nat_le, cond, List, drop, length, min}
+use Rattle.std.specs.Prelude.{ℕ, ◌+◌, ◌==◌, Bool, false, ◌&&◌, ◌||◌, nat_lt, cond, List, drop, length, min}
 use Rattle.std.specs.Prelude.{Option, Some, None, is_none, option_map, count_by, position}
 use Rattle.frame_queues.specs.declared.keys.PeerName.{PeerName}
 use Rattle.frame_queues.specs.declared.places.Connected.{Connected}

@@ -63,7 +63,9 @@ pub fn third_of(places: &[Option<Connected>], name: PeerName) -> Option<usize>
 fn first_least(places: &[Option<Connected>], name: PeerName) -> Option<usize>
     ensures { result ≡ position (due.is_least places.now name) places.now }
 {
-    places.iter().position(|place| is_least(places, place, name))
+    places
+        .iter()
+        .position(|place| is_least(places, place, name))
 }
 
 fn count_of(places: &[Option<Connected>], name: PeerName) -> usize
@@ -113,8 +115,7 @@ fn is_before(one: &Option<Connected>, other: &Option<Connected>) -> bool
 {
     match (one, other) {
         (Some(one), Some(other)) => {
-            one.counted < other.counted
-                || (one.counted == other.counted && one.began < other.began)
+            one.counted < other.counted || (one.counted == other.counted && one.began < other.began)
         }
         _ => false,
     }

@@ -127,7 +127,9 @@ where
     let queue = queues.pop().ok_or(ServerFault::Memory)?;
     let outboxes = outboxes(alloc, &keys, &site.addresses)?;
     let (poll, waker) = poll_of(rt).map_err(fault_of)?;
-    let server = server_of(rt, alloc, node, seats, keys, queues, outboxes, waker, site.idle)?;
+    let server = server_of(
+        rt, alloc, node, seats, keys, queues, outboxes, waker, site.idle,
+    )?;
     let peers = Peers::new(&server, queue)?;
     let listeners = (site.peers, site.clients);
     run(Ports::new(&server, poll, listeners, peers).map_err(fault_of)?)?;

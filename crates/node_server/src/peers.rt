@@ -4,8 +4,10 @@ use crate::behind::HeldNode;
 use crate::crew::REFUSED;
 use crate::job_queue::JobQueue;
 use crate::server::{Server, millis};
-use frame_queues::{BLOCK_FRAMES, Came, Connected, FrameBlock, FrameKeys, PeerName, Turn, Turns};
-use frame_queues::{Caller, MOST_PEERS, place_for, third_of};
+use frame_queues::{
+    BLOCK_FRAMES, Caller, Came, Connected, FrameBlock, FrameKeys, MOST_PEERS, PeerName, Turn,
+    Turns, place_for, third_of,
+};
 use link_frames::Packet;
 use mio::unix::SourceFd;
 use mio::{Interest, Registry, Token};
@@ -94,7 +96,9 @@ impl<'a, 'b, N: HeldNode, K: FrameKeys, R: Wait + Clock> Peers<'a, 'b, N, K, R> 
         for slot in 0..PLACES {
             let end = match self.places.get(slot) {
                 Some(Some(place)) if place.counted == REFUSED => now,
-                Some(Some(place)) if place.name.is_none() => place.began.saturating_add(FIRST_FRAME),
+                Some(Some(place)) if place.name.is_none() => place
+                    .began
+                    .saturating_add(FIRST_FRAME),
                 _ => continue,
             };
             if end <= now {
@@ -143,9 +147,10 @@ impl<'a, 'b, N: HeldNode, K: FrameKeys, R: Wait + Clock> Peers<'a, 'b, N, K, R> 
             came: Came::Nothing,
             has_end: false,
         };
-        if let (Some(place), Some(room)) =
-            (self.places.get_mut(slot), self.connections.get_mut(slot))
-        {
+        if let (Some(place), Some(room)) = (
+            self.places.get_mut(slot),
+            self.connections.get_mut(slot),
+        ) {
             *place = Some(Connected {
                 name: None,
                 counted: 0,
@@ -159,9 +164,10 @@ impl<'a, 'b, N: HeldNode, K: FrameKeys, R: Wait + Clock> Peers<'a, 'b, N, K, R> 
 
     /// Closes the connection of a place, if there is one.
     fn close(&mut self, slot: usize) {
-        if let (Some(place), Some(room)) =
-            (self.places.get_mut(slot), self.connections.get_mut(slot))
-        {
+        if let (Some(place), Some(room)) = (
+            self.places.get_mut(slot),
+            self.connections.get_mut(slot),
+        ) {
             *place = None;
             *room = None;
         }
@@ -173,7 +179,11 @@ impl<'a, 'b, N: HeldNode, K: FrameKeys, R: Wait + Clock> Peers<'a, 'b, N, K, R> 
     pub fn read_ready(&mut self) {
         for slot in &self.ready {
             if let Some(Some(connection)) = self.connections.get_mut(*slot) {
-                let most = if connection.opened.is_some() { BLOCK_FRAMES } else { 1 };
+                let most = if connection.opened.is_some() {
+                    BLOCK_FRAMES
+                } else {
+                    1
+                };
                 let mut reader = &connection.stream;
                 connection.came = connection.block.read(&mut reader, most);
                 // there is room for each place
@@ -219,7 +229,12 @@ impl<'a, 'b, N: HeldNode, K: FrameKeys, R: Wait + Clock> Peers<'a, 'b, N, K, R> 
             return 0;
         };
         let mut count = 0usize;
-        for frame in connection.block.frames().get(turn.from..turn.to).unwrap_or(&[]) {
+        for frame in connection
+            .block
+            .frames()
+            .get(turn.from..turn.to)
+            .unwrap_or(&[])
+        {
             if let Some(packet) = server.keys.open(frame) {
                 connection.opened = connection.opened.or(Some(server.keys.peer(&packet)));
                 put_packet(server, &mut self.queue, slot, packet);
@@ -236,9 +251,10 @@ impl<'a, 'b, N: HeldNode, K: FrameKeys, R: Wait + Clock> Peers<'a, 'b, N, K, R> 
     /// from now on, and the third of that peer is closed: so a peer's connection runs to its end beside the next, and
     /// who sends a captured frame again and again ends none but his own.
     fn goes_on(&mut self, slot: usize) -> bool {
-        let (Some(Some(connection)), Some(Some(place))) =
-            (self.connections.get(slot), self.places.get_mut(slot))
-        else {
+        let (Some(Some(connection)), Some(Some(place))) = (
+            self.connections.get(slot),
+            self.places.get_mut(slot),
+        ) else {
             return false;
         };
         let goes_on = match connection.came {

@@ -62,7 +62,11 @@ impl Port {
             Ok((stream, _)) => Some(stream),
             Err(error) => {
                 let is_empty = error.kind() == ErrorKind::WouldBlock;
-                self.accept_at = if is_empty { u64::MAX } else { now.saturating_add(NEXT_TRY) };
+                self.accept_at = if is_empty {
+                    u64::MAX
+                } else {
+                    now.saturating_add(NEXT_TRY)
+                };
                 None
             }
         }

@@ -96,9 +96,11 @@ impl<'a> Slot<'a> {
     pub fn wait<R: Wait>(&self, rt: &R, put: u32) -> Option<MutexGuard<'_, Place<'a>>> {
         let mut place = self.place.lock(rt);
         place.wanted = put;
-        let mut place = self
-            .done
-            .wait_while(rt, place, |place| !place.ended && place.done < place.wanted);
+        let mut place = self.done.wait_while(
+            rt,
+            place,
+            |place| !place.ended && place.done < place.wanted,
+        );
         if place.ended {
             return None;
         }

@@ -66,12 +66,7 @@ impl Told {
     /// # Errors
     ///
     /// One of them has no answer, or finds no room. Those before it are held.
-    pub fn hold_answers(
-        &self,
-        alloc: Global,
-        held: &mut Held,
-        lines: u32,
-    ) -> Result<(), AllocError>
+    pub fn hold_answers(&self, alloc: Global, held: &mut Held, lines: u32) -> Result<(), AllocError>
         ensures held { OnOk result (held.new ≡ held.old ++ lines_due (take lines self.now)) }
         ensures all { OnOk result (All IsSome (take lines self.now)) }
     {

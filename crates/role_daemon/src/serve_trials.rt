@@ -29,8 +29,6 @@ enum Trial {
     ManyLines,
     StopThenReset,
     ManyClients,
-    NextClient,
-    WebPage,
     DeafClient,
     SilentPeer,
     ThirdConnection,
@@ -151,40 +149,6 @@ where
     let right = is_closed(&connected(rt, place.client)?);
     drop(held);
     Ok(right && opens(rt, alloc, place.client)?)
-}
-
-/// Whether the next client is served at once where one of sixteen has gone.
-fn next_client<R>(rt: &R, alloc: Global, place: &Place) -> Result<bool, Fail>
-where
-    R: Net<Listener = TcpListener, Stream = TcpStream> + Clock,
-{
-    let mut held = Vec::new(alloc);
-    for _ in 0..16 {
-        let stream = connected(rt, place.client)?;
-        ask(alloc, &stream, OPEN)?;
-        held.push(stream)?;
-    }
-    for _ in 0..100u32 {
-        drop(held.pop());
-        let stream = connected(rt, place.client)?;
-        if !ask(alloc, &stream, OPEN)?.as_str().starts_with("{\"session\":") {
-            return Ok(false);
-        }
-        held.push(stream)?;
-    }
-    Ok(true)
-}
-
-/// Whether an HTTP request is answered once, and a stop behind its first line is none.
-fn web_page<R>(rt: &R, alloc: Global, place: &Place) -> Result<bool, Fail>
-where
-    R: Net<Listener = TcpListener, Stream = TcpStream> + Clock,
-{
-    let mut stream = connected(rt, place.client)?;
-    stream.write_all(b"POST / HTTP/1.1\r\nContent-Length: 14\r\n\r\n{\"op\":\"stop\"}\n")?;
-    let mut answers = String::new(alloc);
-    stream.read_to_string(&mut answers)?;
-    Ok(answers.as_str() == "{\"error\":\"J1 NotJson\"}\n" && opens(rt, alloc, place.client)?)
 }
 
 /// Whether a client is answered while another does not read the answers to its 10,000 lines.
@@ -352,8 +316,6 @@ where
         Trial::ManyLines => many_lines(rt, alloc, place),
         Trial::StopThenReset => stop_then_reset(rt, place),
         Trial::ManyClients => many_clients(rt, alloc, place),
-        Trial::NextClient => next_client(rt, alloc, place),
-        Trial::WebPage => web_page(rt, alloc, place),
         Trial::DeafClient => deaf_client(rt, alloc, place),
         Trial::SilentPeer => silent_peer(rt, alloc, place),
         Trial::ThirdConnection => third_connection(rt, alloc, place),
@@ -435,18 +397,6 @@ fn stop_stops_though_its_connection_is_reset(rt: HostRuntime) -> Result<(), Fail
 #[test]
 fn the_seventeenth_client_is_closed(rt: HostRuntime) -> Result<(), Fail> {
     assert!(rt; is_fit(&rt, rt.alloc(), Trial::ManyClients)?);
-    Ok(())
-}
-
-#[test]
-fn a_client_is_served_where_another_has_gone(rt: HostRuntime) -> Result<(), Fail> {
-    assert!(rt; is_fit(&rt, rt.alloc(), Trial::NextClient)?);
-    Ok(())
-}
-
-#[test]
-fn an_http_request_is_answered_once(rt: HostRuntime) -> Result<(), Fail> {
-    assert!(rt; is_fit(&rt, rt.alloc(), Trial::WebPage)?);
     Ok(())
 }
 

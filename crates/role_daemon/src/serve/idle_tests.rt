@@ -20,10 +20,10 @@ const SHORT: u64 = 50;
 
 const LONG: u64 = 600_000;
 
-/// How often a stop is said, and how often the node is looked for after each.
-const MOST_STOPS: u32 = 10;
+/// How often the node is looked for after a stop, and the milliseconds between two looks.
+const STOP_LOOKS: u32 = 1_000;
 
-const STOP_LOOKS: u32 = 5_000;
+const NEXT_STOP_LOOK: u64 = 40;
 
 /// The most connections of peers at once.
 const MOST_PEERS: u32 = 128;
@@ -63,16 +63,17 @@ where
     Ok(stream)
 }
 
-/// Whether nobody listens at the port any more, at the last of so many looks.
-fn has_stopped<R>(rt: &R, port: u16, looks: u32) -> bool
+/// Whether nobody listens at the port any more, at the last of some looks. Each look is a client that comes and goes, so
+/// there are few of them.
+fn has_stopped<R>(rt: &R, port: u16) -> bool
 where
     R: Net<Listener = TcpListener, Stream = TcpStream> + Clock,
 {
-    for _ in 0..looks {
+    for _ in 0..STOP_LOOKS {
         if TcpStream::connect(rt, local(port)).is_err() {
             return true;
         }
-        thread::sleep(rt, Duration::from_millis(1));
+        thread::sleep(rt, Duration::from_millis(NEXT_STOP_LOOK));
     }
     false
 }
@@ -123,23 +124,14 @@ fn say_stop_unheard(stream: &TcpStream, times: u32) {
     let _ = writer.write_all(STOP);
 }
 
-/// Whether the node stops though a client that says so has read none of many answers. On a busy machine the node may
-/// have listened to it for long enough before the stop came, so it is said again and again.
+/// Whether the node stops though the client that says so has read none of many answers.
 fn deaf_then_stop<R>(rt: &R, ports: Ports) -> Result<bool, Fail>
 where
     R: Net<Listener = TcpListener, Stream = TcpStream> + Clock,
 {
-    let _first = connected(rt, ports.client)?;
-    for _ in 0..MOST_STOPS {
-        let Ok(stream) = TcpStream::connect(rt, local(ports.client)) else {
-            return Ok(true);
-        };
-        say_stop_unheard(&stream, 600);
-        if has_stopped(rt, ports.client, STOP_LOOKS) {
-            return Ok(true);
-        }
-    }
-    Ok(false)
+    let stream = connected_at_once(rt, ports.client)?;
+    say_stop_unheard(&stream, 200);
+    Ok(has_stopped(rt, ports.client))
 }
 
 /// The same, where the connection is reset, as it is where an answer was not read.
@@ -147,19 +139,11 @@ fn deaf_then_reset<R>(rt: &R, ports: Ports) -> Result<bool, Fail>
 where
     R: Net<Listener = TcpListener, Stream = TcpStream> + Clock,
 {
-    let _first = connected(rt, ports.client)?;
-    for _ in 0..MOST_STOPS {
-        let Ok(stream) = TcpStream::connect(rt, local(ports.client)) else {
-            return Ok(true);
-        };
-        say_stop_unheard(&stream, 100);
-        let _ = stream.peek(&mut [0u8; 1]);
-        drop(stream);
-        if has_stopped(rt, ports.client, STOP_LOOKS) {
-            return Ok(true);
-        }
-    }
-    Ok(false)
+    let stream = connected_at_once(rt, ports.client)?;
+    say_stop_unheard(&stream, 50);
+    stream.peek(&mut [0u8; 1])?;
+    drop(stream);
+    Ok(has_stopped(rt, ports.client))
 }
 
 /// Whether a client is served while it says something, and closed when it says nothing for a while.
