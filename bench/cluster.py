@@ -1,6 +1,6 @@
 """Nodes of one cluster as processes on 127.0.0.1, and what a script says to them in the name of others.
 
-For bench/heal and bench/pressure. Each starts only processes of its own, and ends them by their ids.
+For bench/heal, bench/pressure and bench/crashes. Each starts only processes of its own, and ends them by their ids.
 """
 import hashlib
 import hmac
@@ -25,12 +25,12 @@ ROLE = 2  # of owner 0; that of owner k is ROLE + k
 PATIENCE = 20  # seconds
 
 
-def program_of(given):
-    """The program that is given, or the one that was built in the checkout that is given."""
+def program_of(given, name="role_daemon"):
+    """The program that is given, or the one of this name that was built in the checkout that is given."""
     if os.path.isdir(given):
-        given = os.path.join(given, "crates/role_daemon/out/role_daemon")
+        given = os.path.join(given, "crates", name, "out", name)
     if not os.path.exists(given):
-        sys.exit(f"{given} is not there: run `rt run` in crates/role_daemon first")
+        sys.exit(f"{given} is not there: run `rt run` in crates/{name} first")
     return os.path.abspath(given)
 
 
@@ -85,8 +85,11 @@ class Cluster:
         if self.descriptors:
             few = (self.descriptors, self.descriptors)
             limit = lambda: resource.setrlimit(resource.RLIMIT_NOFILE, few)
-        self.running[me] = subprocess.Popen([self.program, "serve", "--cluster", self.paths[me]], preexec_fn=limit,
-                                            stdin=subprocess.DEVNULL, close_fds=True)
+        self.running[me] = subprocess.Popen(self.words(me), preexec_fn=limit, stdin=subprocess.DEVNULL, close_fds=True)
+
+    def words(self, me):
+        """The program and the words with which it serves a node."""
+        return [self.program, "serve", "--cluster", self.paths[me]]
 
     def wait(self):
         """Waits until each node answers clients."""

@@ -63,4 +63,7 @@ CALL(int, setsockopt, "option", (int s, int level, int name, const void *v, unsi
 CALL(ssize_t, read, "read", (int f, void *p, size_t n), (f, p, n), -1, EIO)
 CALL(ssize_t, recv, "read", (int f, void *p, size_t n, int flags), (f, p, n, flags), -1, ECONNRESET)
 CALL(ssize_t, write, "write", (int f, const void *p, size_t n), (f, p, n), -1, EIO)
+CALL(ssize_t, pwrite, "keep", (int f, const void *p, size_t n, long at), (f, p, n, at), -1, EIO)
+CALL(int, fsync, "sync", (int f), (f), -1, EIO)
+CALL(int, fdatasync, "sync", (int f), (f), -1, EIO)
 CALL(ssize_t, send, "write", (int f, const void *p, size_t n, int flags), (f, p, n, flags), -1, EPIPE)

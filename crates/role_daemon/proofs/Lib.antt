@@ -1,6 +1,3 @@
-pub mod ShapeLemmas
-pub mod SetupLemmas
-pub mod FileLemmas
 pub mod AnswerLemmas
 pub mod OwnLemmas
 pub mod PipeLemmas

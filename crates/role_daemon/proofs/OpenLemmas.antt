@@ -18,27 +18,23 @@ use Rattle.link_frames.specs.declared.next.Next.TheVariants.{TooLong, Last}
 use Rattle.link_frames.proofs.Exported.{lines_of-nil, lines_of-line, lines_of-last, lines_of-begun}
 use Rattle.link_frames.proofs.Exported.{Consumes-front, HasBytes-done, WroteFront-nothing, tail_of, tail_at_end}
 use Rattle.role_node.specs.Nodes.{NodeValue}
-use Rattle.role_daemon.specs.Setups.{setup_due, most_text_bytes}
+use Rattle.cluster_text.proofs.Exported.{setup_due-long}
+use Rattle.cluster_text.specs.Setups.{setup_due, most_text_bytes}
 use Rattle.role_daemon.specs.Pipes.{answers_text, one_stops, node_of, opened_text, text_of_lines, pipe_text}
 use Rattle.role_daemon.specs.Pipes.{fault_of_lines, opening_fault, opened_stops, lines_stop, pipe_stops}
-use Rattle.role_daemon.specs.Results.{IsDueOrMemory}
+use Rattle.cluster_text.specs.Results.{IsDueOrMemory}
 use Rattle.role_daemon.specs.Runs.{PipeRan, IsEndless}
 use Rattle.link_frames.specs.Watching.{Tally}
 use Rattle.link_frames.proofs.Exported.{ReaderFailed-later}
 use Rattle.role_daemon.specs.inside.Steps.{of_ahead_fault, IsNodeOf, RefusesNode, Opened, client_text, LinesRan}
 use Rattle.role_daemon.specs.inside.Steps.{LinesEndless}
-use Rattle.role_daemon.specs.declared.cluster.Mode.TheVariants.{Pipe}
-use Rattle.role_daemon.specs.declared.cluster.Setup.{Setup}
-use Rattle.role_daemon.specs.declared.fault.ClusterFault.TheVariants.{NotJson}
+use Rattle.cluster_text.specs.declared.cluster.Mode.TheVariants.{Pipe}
+use Rattle.cluster_text.specs.declared.cluster.Setup.{Setup}
+use Rattle.cluster_text.specs.declared.fault.ClusterFault.TheVariants.{NotJson}
 use Rattle.role_daemon.specs.declared.fault.PipeFault.{PipeFault}
 use Rattle.role_daemon.specs.declared.fault.PipeFault.TheVariants.{Cluster, Device, Memory}
 use Rattle.role_daemon.proofs.PipeLemmas.{answers_text-nil}
 use Rattle.role_daemon.proofs.RunLemmas.{reads, HasBytes-kept}
-
-setup_due-long : (line : List ℕ) → most_text_bytes < length line → setup_due Pipe line ≡ Err NotJson
-unfolding setup_due
-setup_due-long line long =
-    let past : nat_lt most_text_bytes (length line) ≡ true = grind (arith, nat_tests) in rw past refl
 
 module _ (p q reader known : Option (List ℕ)) (front : List ℕ) (kept : Keeps p (prepend_known front known)) where
   -- the first line of bytes ahead
@@ -119,7 +115,7 @@ module _ (p q reader known : Option (List ℕ)) (front : List ℕ) (kept : Keeps
           begun.lines,
           ap lines_of joined
               ∙ begun.is,
-          setup_due-long begun.line (omega (arith, begun.long, whole)),
+          setup_due-long Pipe begun.line (omega (arith, begun.long, whole)),
         ),
       )
 

@@ -1,11 +1,6 @@
-pub mod Shapes
-pub mod Results
-pub mod Setups
 pub mod Statuses
-pub mod Files
 pub mod Answers
 pub mod Laws
 pub mod Pipes
 pub mod Runs
-pub mod Linked
 pub mod inside

@@ -14,11 +14,11 @@ use Rattle.client_lines.specs.declared.fault.LineFault.{LineFault}
 use Rattle.client_lines.specs.declared.request.Request.{Request}
 use Rattle.client_lines.specs.declared.request.Request.TheVariants as request
 use Rattle.role_daemon.specs.Answers.{answer_to, after_request}
-use Rattle.role_daemon.specs.Setups.{setup_due}
-use Rattle.role_daemon.specs.declared.cluster.Mode.TheVariants.{Pipe}
-use Rattle.role_daemon.specs.declared.cluster.Setup.{Setup}
-use Rattle.role_daemon.specs.declared.fault.ClusterFault.{ClusterFault}
-use Rattle.role_daemon.specs.declared.fault.ClusterFault.TheVariants.{NotJson}
+use Rattle.cluster_text.specs.Setups.{setup_due}
+use Rattle.cluster_text.specs.declared.cluster.Mode.TheVariants.{Pipe}
+use Rattle.cluster_text.specs.declared.cluster.Setup.{Setup}
+use Rattle.cluster_text.specs.declared.fault.ClusterFault.{ClusterFault}
+use Rattle.cluster_text.specs.declared.fault.ClusterFault.TheVariants.{NotJson}
 
 -- what a line asks of the node
 abbrev pub request_in : NodeValue → List ℕ → Result Request LineFault

@@ -1,11 +1,9 @@
 -- The exit status of the program at each fault.
 use Rattle.std.specs.Prelude.{ℕ, Bool, true, false}
-use Rattle.role_daemon.specs.declared.fault.ClusterFault.{ClusterFault}
-use Rattle.role_daemon.specs.declared.fault.ClusterFault.TheVariants as cluster
+use Rattle.cluster_text.specs.Statuses.{cluster_status, file_status}
 use Rattle.role_daemon.specs.declared.fault.DaemonFault.{DaemonFault}
 use Rattle.role_daemon.specs.declared.fault.DaemonFault.TheVariants as daemon
-use Rattle.role_daemon.specs.declared.fault.FileFault.{FileFault}
-use Rattle.role_daemon.specs.declared.fault.FileFault.TheVariants as file
+use Rattle.cluster_text.specs.declared.fault.FileFault.TheVariants as file
 use Rattle.role_daemon.specs.declared.fault.PipeFault.{PipeFault}
 use Rattle.role_daemon.specs.declared.fault.PipeFault.TheVariants as pipe
 use Rattle.role_daemon.specs.declared.fault.ServeFault.{ServeFault}
@@ -16,20 +14,6 @@ use Rattle.role_daemon.specs.declared.fault.WordsFault.TheVariants as words
 abbrev pub words_status : WordsFault → ℕ
 words_status words.Refused = 2
 words_status words.Memory = 5
-
-abbrev pub cluster_status : ClusterFault → ℕ
-cluster_status cluster.NotJson = 3
-cluster_status cluster.NotObject = 3
-cluster_status (cluster.Missing member) = 3
-cluster_status (cluster.OutOfRange member) = 3
-cluster_status (cluster.Sizes fault) = 3
-cluster_status (cluster.Table fault) = 3
-cluster_status cluster.Memory = 5
-
-abbrev pub file_status : FileFault → ℕ
-file_status file.Unread = 3
-file_status (file.Cluster fault) = cluster_status fault
-file_status file.Memory = 5
 
 abbrev pub pipe_status : PipeFault → ℕ
 pipe_status (pipe.Cluster fault) = cluster_status fault

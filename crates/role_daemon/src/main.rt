@@ -1,23 +1,21 @@
 //! A node of the registry. Without words it is a pipe: the first line on standard input is a cluster text of one
 //! node, and each later one is a client's line, with one line of answer on standard output.
 //!
-//! `specs/Setups.antt` says what a cluster text sets up, `specs/Answers.antt` what the node answers, `specs/Pipes.antt`
-//! which text is due for an input, and `specs/Runs.antt` what running the pipe does.
+//! `cluster_text` says what a cluster text sets up, `specs/Answers.antt` what the node answers, `specs/Pipes.antt` which
+//! text is due for an input, and `specs/Runs.antt` what running the pipe does.
 #![tactic(auto)]
 
 ghost use Rattle.std.specs.Prelude.{IfOk};
-ghost use Rattle.role_daemon.specs.Setups.{IsNodeSetup, IsServerSetup};
+ghost use Rattle.cluster_text.specs.Setups.{IsNodeSetup, IsServerSetup};
 
-pub mod cluster;
-pub mod cluster_file;
 pub mod fault;
 pub mod pipe;
 pub mod serve;
-mod shape;
 pub mod words;
 
 use cluster::Setup;
 use cluster_file::read_setup;
+pub use cluster_text::{cluster, cluster_file};
 use fault::{DaemonFault, FileFault, WordsFault};
 use link_frames::Watched;
 use pipe::run_pipe;

@@ -1,8 +1,8 @@
 //! The node over TCP: frames of its peers, and lines of its clients, on this machine's own address.
 
 ghost use Rattle.std.specs.Prelude.{◌≡◌, length, IfOk};
-ghost use Rattle.role_daemon.specs.Linked.{ring_of};
-ghost use Rattle.role_daemon.specs.Setups.{IsNodeSetup, IsServerSetup};
+ghost use Rattle.cluster_text.specs.Linked.{ring_of};
+ghost use Rattle.cluster_text.specs.Setups.{IsNodeSetup, IsServerSetup};
 
 #[cfg(test)]
 mod ahead_tests;
@@ -13,7 +13,6 @@ mod slot_tests;
 
 use crate::cluster::Setup;
 use crate::fault::ServeFault;
-use link_frames::{KeyFault, PairKeys};
 use node_lock::SharedNode;
 use node_server::{ClusterKeys, SEATS, Site, listen};
 use role_node::Node;
@@ -125,11 +124,7 @@ fn keys_of(alloc: Global, setup: &Setup) -> Result<ClusterKeys, AllocError>
     ensures keys { IfOk result (λ made. made.keys ≡ ring_of setup.now) }
     ensures cluster { IfOk result (λ made. made.cluster ≡ setup.now.config.cluster) }
 {
+    let keys = setup.pair_keys(alloc)?;
     let sizes = setup.config.roles().sizes();
-    let keys = match PairKeys::new(alloc, &sizes, setup.me, setup.keys.as_slice()) {
-        Ok(keys) => keys,
-        Err(KeyFault::Memory) => return Err(AllocError),
-        Err(KeyFault::WrongCount) => unreachable!(),
-    };
     Ok(ClusterKeys::new(keys, sizes, setup.config.cluster(), setup.me))
 }

@@ -11,10 +11,10 @@ use Rattle.link_frames.specs.declared.blocks.AheadFault.{AheadFault}
 use Rattle.link_frames.specs.declared.blocks.AheadFault.TheVariants as ahead
 use Rattle.role_node.specs.Nodes.{NodeValue}
 use Rattle.role_daemon.specs.Pipes.{answers_text, one_stops, stops, line_text, after_line, node_of}
-use Rattle.role_daemon.specs.Setups.{setup_due}
-use Rattle.role_daemon.specs.declared.cluster.Mode.TheVariants.{Pipe}
-use Rattle.role_daemon.specs.declared.cluster.Setup.{Setup}
-use Rattle.role_daemon.specs.declared.fault.ClusterFault.TheVariants.{NotJson}
+use Rattle.cluster_text.specs.Setups.{setup_due}
+use Rattle.cluster_text.specs.declared.cluster.Mode.TheVariants.{Pipe}
+use Rattle.cluster_text.specs.declared.cluster.Setup.{Setup}
+use Rattle.cluster_text.specs.declared.fault.ClusterFault.TheVariants.{NotJson}
 use Rattle.role_daemon.specs.declared.fault.PipeFault.{PipeFault}
 use Rattle.role_daemon.specs.declared.fault.PipeFault.TheVariants.{Cluster, Device, Memory}
 

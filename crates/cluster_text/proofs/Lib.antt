@@ -1,0 +1,4 @@
+pub mod Exported
+pub mod ShapeLemmas
+pub mod SetupLemmas
+pub mod FileLemmas

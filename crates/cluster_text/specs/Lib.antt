@@ -1,0 +1,6 @@
+pub mod Shapes
+pub mod Results
+pub mod Setups
+pub mod Statuses
+pub mod Files
+pub mod Linked
