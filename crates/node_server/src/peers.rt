@@ -8,7 +8,7 @@ use frame_queues::{
     BLOCK_FRAMES, Caller, Came, Connected, FrameBlock, FrameKeys, MOST_PEERS, PeerName, Turn,
     Turns, place_for, third_of,
 };
-use link_frames::Packet;
+use link_frames::{Frame, Packet};
 use mio::unix::SourceFd;
 use mio::{Interest, Registry, Token};
 use node_lock::{Call, Job};
@@ -46,6 +46,20 @@ struct Connection {
     came: Came,
     /// The peer writes no more, so that the end comes behind its bytes.
     has_end: bool,
+}
+
+impl Connection {
+    /// Reads a block at most, or one frame where none has opened yet: so who can't seal frames takes little of a turn.
+    fn read(&mut self) {
+        let most = if self.opened.is_some() { BLOCK_FRAMES } else { 1 };
+        let mut reader = &self.stream;
+        self.came = self.block.read(&mut reader, most);
+    }
+
+    /// The whole frames of the last block.
+    fn frames(&self) -> &[Frame] {
+        self.block.frames()
+    }
 }
 
 /// The connections of peers, each at a place of its own.
@@ -174,20 +188,13 @@ impl<'a, 'b, N: HeldNode, K: FrameKeys, R: Wait + Clock> Peers<'a, 'b, N, K, R> 
     }
 
     /// Reads of each connection that may have bytes, one block at most, and puts the frames of these blocks in turns, a
-    /// few of each: so no connection's block is behind another's. Those that may have more stay ready. Where none has
-    /// opened yet one frame is read, so who can't seal frames takes little of each turn.
+    /// few of each: so no connection's block is behind another's. Those that may have more stay ready.
     pub fn read_ready(&mut self) {
         for slot in &self.ready {
             if let Some(Some(connection)) = self.connections.get_mut(*slot) {
-                let most = if connection.opened.is_some() {
-                    BLOCK_FRAMES
-                } else {
-                    1
-                };
-                let mut reader = &connection.stream;
-                connection.came = connection.block.read(&mut reader, most);
+                connection.read();
                 // there is room for each place
-                let _ = self.turns.add(*slot, connection.block.frames().len());
+                let _ = self.turns.add(*slot, connection.frames().len());
             }
         }
         let mut put = 0usize;
@@ -228,22 +235,19 @@ impl<'a, 'b, N: HeldNode, K: FrameKeys, R: Wait + Clock> Peers<'a, 'b, N, K, R> 
         ) else {
             return 0;
         };
+        let mut opened = connection.opened;
         let mut count = 0usize;
-        for frame in connection
-            .block
-            .frames()
-            .get(turn.from..turn.to)
-            .unwrap_or(&[])
-        {
+        for frame in connection.frames().get(turn.from..turn.to).unwrap_or(&[]) {
             if let Some(packet) = server.keys.open(frame) {
-                connection.opened = connection.opened.or(Some(server.keys.peer(&packet)));
+                opened = opened.or(Some(server.keys.peer(&packet)));
                 put_packet(server, &mut self.queue, slot, packet);
                 count = count.saturating_add(1);
-            } else if connection.opened.is_none() {
+            } else if opened.is_none() {
                 connection.came = Came::End;
                 break;
             }
         }
+        connection.opened = opened;
         count
     }
 
@@ -281,9 +285,9 @@ fn put_packet<N: HeldNode, K: FrameKeys, R: Wait + Clock>(
     slot: u32,
     packet: Packet,
 ) {
-    let number = Caller::Peer { slot }.number();
-    let call = Call::Step(Event::Take(packet));
     for _ in server.rt.forever() {
+        let number = Caller::Peer { slot }.number();
+        let call = Call::Step(Event::Take(packet));
         if queue.put(server.rt, Job { number, call }).is_ok() || server.has_ended() {
             return;
         }

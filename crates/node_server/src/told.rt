@@ -42,7 +42,7 @@ impl Told {
         ensures { IfOk result (λ made. made ≡ replicate client_numbers None) }
     {
         let mut answers = Vec::new(alloc);
-        for _ in 0..CLIENT_NUMBERS {
+        for _line in 0..CLIENT_NUMBERS {
             answers.push(None)?;
         }
         Ok(Told { answers })
@@ -56,8 +56,9 @@ impl Told {
             Some(said) => said.into_answer(),
             None => None,
         };
-        if let Some(place) = self.answers.get_mut(line as usize) {
-            *place = answer;
+        let line = line as usize;
+        if line < self.answers.len() {
+            self.answers[line] = answer;
         }
     }
 
