@@ -1,3 +1,4 @@
+pub mod Again
 pub mod Answers
 pub mod Served
-pub mod Frames
+pub mod Told
