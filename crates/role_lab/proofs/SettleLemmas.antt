@@ -33,7 +33,8 @@ below_both k m n g =
     (cases_lt k n)
 
 -- all below either of two numbers are all below the greater
-pub below_max : (given : ℕ → Bool) (m n : ℕ) → with_all_below given (max m n) ≡ with_all_below (with_all_below given m) n
+pub below_max : (given : ℕ → Bool) (m n : ℕ) →
+    with_all_below given (max m n) ≡ with_all_below (with_all_below given m) n
 below_max given m n = λ i k. below_both k m n (given k) i
 
 one_more : (k n : ℕ) (g : Bool) → ((k == n) || (nat_lt k n || g)) ≡ (nat_lt k (n + 1) || g)
