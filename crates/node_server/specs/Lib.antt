@@ -1,4 +1,3 @@
-pub mod Again
 pub mod Answers
 pub mod Served
 pub mod Told

@@ -1,14 +1,9 @@
 //! The clients: lines in, answers out.
 
-ghost use Rattle.std.specs.Prelude.{◌≡◌, ◌++◌, IfOk, OnOk};
+ghost use Rattle.std.specs.Prelude.{IfOk};
 ghost use Rattle.client_lines.specs.AnswerTexts.{IsWritten};
 ghost use Rattle.link_frames.specs.Aheads.{front_of};
 ghost use Rattle.link_frames.specs.Nexts.{Begins};
-ghost use Rattle.role_node.specs.Windows.{messages_of};
-ghost use Rattle.node_lock.specs.Inboxes.{after_put};
-ghost use Rattle.frame_queues.specs.Callers.{number_of, most_lines};
-ghost use Rattle.frame_queues.specs.declared.caller.Caller.TheVariants as callers;
-ghost use Rattle.node_server.specs.Again.{own_jobs};
 
 use crate::answers::{hold_answer, sent_count};
 use crate::behind::HeldNode;
@@ -298,10 +293,7 @@ impl<N: HeldNode, K: FrameKeys, R: Wait + Clock> Client<'_, '_, N, K, R> {
     }
 
     /// Puts a job, again until the inbox takes it. No answer is held back meanwhile.
-    fn put(&mut self, job: &Job) -> Result<(), AheadFault>
-        ensures queue { OnOk result (self.new.queue.pass ≡ after_put self.old.queue.pass job.now) }
-        ensures number { self.new.number ≡ self.old.number }
-    {
+    fn put(&mut self, job: &Job) -> Result<(), AheadFault> {
         for _ in self.server.rt.forever() {
             if self.queue.put(self.server.rt, *job).is_ok() {
                 self.put = self.put.saturating_add(1);

@@ -82,7 +82,7 @@ impl<N: HeldNode, K: FrameKeys, R: Wait + Clock> Server<'_, N, K, R> {
         let call = question.map(|question| Call::Ask(question));
         let mut seat = self.view_seat.lock(self.rt);
         let mut node = self.node.lock(self.rt);
-        if !node.has(owner) {
+        if !node.has(owner) || node.must_sync() {
             return None;
         }
         let untold = node.hold(&mut seat, call, owner, place).ok()?;

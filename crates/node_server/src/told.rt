@@ -4,7 +4,7 @@ ghost use Rattle.std.specs.Prelude.{◌≡◌, ◌++◌, None, replicate, take, 
 ghost use Rattle.std.specs.Prelude.{OnOk};
 ghost use Rattle.frame_queues.specs.Callers.{client_numbers};
 ghost use Rattle.node_server.specs.Served.{served_said};
-ghost use Rattle.node_server.specs.Told.{lines_due};
+ghost use Rattle.node_server.specs.Told.{lines_due, IsWrittenIfAny};
 
 use crate::answers::hold_answer;
 use crate::said::Said;
@@ -52,14 +52,7 @@ impl Told {
     pub fn tell(&mut self, line: u32, said: Option<Said>)
         ensures { self.new ≡ slice_set self.old line (option_and_then served_said said) }
     {
-        let answer = match said {
-            Some(said) => said.into_answer(),
-            None => None,
-        };
-        let line = line as usize;
-        if line < self.answers.len() {
-            self.answers[line] = answer;
-        }
+        put_at(&mut self.answers, line as usize, answer_to(said));
     }
 
     /// Holds the answers to so many lines, the first, in the order of the lines.
@@ -81,5 +74,29 @@ impl Told {
             }
         }
         Ok(())
+    }
+}
+
+/// What a client hears of what was said to its line, if anything was.
+fn answer_to(said: Option<Said>) -> Option<ClientAnswer>
+    ensures answer { result ≡ option_and_then served_said said }
+    ensures written { IsWrittenIfAny result }
+{
+    match said {
+        Some(said) => said.into_answer(),
+        None => None,
+    }
+}
+
+/// Puts an answer at a place, if there is one.
+#[tactic(auto, using(crate::proofs::Written::written_set))]
+fn put_at(answers: &mut Vec<Option<ClientAnswer>>, at: usize, answer: Option<ClientAnswer>)
+    requires old { All IsWrittenIfAny answers.old.items }
+    requires new { IsWrittenIfAny answer }
+    ensures set { answers.new.items ≡ slice_set answers.old.items at answer }
+    ensures all { All IsWrittenIfAny answers.new.items }
+{
+    if at < answers.len() {
+        answers[at] = answer;
     }
 }

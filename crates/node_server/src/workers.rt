@@ -228,7 +228,7 @@ fn call<N: HeldNode>(
     ensures view { IfSome result (λ u. (N.said u).view ≡ view_of (N.held node.new) me 0) }
     ensures held { IfSome result (λ u. N.held node.new ≡ held_after_hold (N.held node.old) seat.old (Some call)) }
 {
-    if node.has(me) {
+    if node.has(me) && !node.must_sync() {
         node.hold(seat, Some(call), me, 0).ok()
     } else {
         None
