@@ -2,7 +2,7 @@
 use Rattle.std.proofs.Common.{◌≡◌, ℕ, ◌+◌, ◌-◌, ◌<◌, ◌≤◌, Bool, true, false, Option, Some, None, List, [], ◌∷◌, ◌++◌}
 use Rattle.std.proofs.Common.{length, take, refl, ap, sym, ◌∙◌, subst, arith, append-nil, ◌⊎◌, inl, inr, ⊎_elim}
 use Rattle.std.proofs.Common.{Result, Ok, Err, length-append}
-use Rattle.std.specs.Prelude.{IsTrue, IfSome, IfErr, OnErr, nat_le}
+use Rattle.std.specs.Prelude.{IsTrue, IfSome, IfErr, OnOk, OnErr, is_err, nat_le}
 use Rattle.std.specs.List.{concat}
 use Rattle.std.proofs.Math.Seq.{take-append_seam}
 use Rattle.std.proofs.lemmas.Bool.{cases_lt}
@@ -38,6 +38,10 @@ at_err {T} {E} r x P e h = subst (λ (q : Result T E). IfErr q P) e h
 
 pub on_err : {T E : Type 0} (r : Result T E) (x : E) (P : Type 0) → r ≡ Err x → OnErr r P → P
 on_err {T} {E} r x P e h = subst (λ (q : Result T E). OnErr q P) e h
+
+pub not_err : {T E : Type 0} (r : Result T E) (b : Bool) (P : Type 0) → OnOk r P → b ≡ is_err r → b ≡ false → P
+not_err (Ok x) b P h e f = h
+not_err (Err x) b P h e f = let apart : true ≡ false = sym e ∙ f in absurd cc
 
 room_left : (waits : ℕ) → nat_le 1024 waits ≡ false → waits < 1024
 room_left waits h = grind (arith, nat_tests)

@@ -12,6 +12,7 @@ mod head;
 mod kept;
 pub mod laws;
 mod replaying;
+mod unkept;
 mod untold;
 
 pub use event_digits::{MOST_EVENT_DIGITS, push_event};
@@ -20,4 +21,5 @@ pub use fault::Unrestored;
 pub use head::head_of;
 pub use kept::{Kept, MOST_WAITING};
 pub use replaying::{NotNew, ReplayFault, new_locked, replay_events};
+pub use unkept::Unkept;
 pub use untold::{Leaving, Synced, Told, Untold};
