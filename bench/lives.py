@@ -22,6 +22,7 @@ from forwarders import FRAME  # noqa: E402
 
 MOST_SESSIONS = 300  # of a node
 AHEAD = 16  # places for which the liar offers two stories
+PACE = 0.03  # seconds between two commands of an owner, and two looks at sessions
 
 
 class Failed(Exception):
@@ -99,11 +100,11 @@ class Liar(threading.Thread):
         said, name = frame[13:22], (source, kind, owner, place)
         self.count += 1
         if self.kept.setdefault(name, said) != said:
-            self.wrong = self.wrong or (f"node {source} said two commands of kind {kind} at place {place} of owner {owner}: "
-                                        f"{self.kept[name].hex()} and {said.hex()}")
+            two = f"{self.kept[name].hex()} and {said.hex()}"
+            self.wrong = self.wrong or f"node {source}, kind {kind}, owner {owner}, place {place}: two commands, {two}"
 
     def tell(self):
-        """Sends each node a story at the liar's own places, now this one and now the other, and votes for what isn't so."""
+        """Sends each node a story at the liar's own places, now this one, now the other, and votes for what isn't."""
         for to in range(self.lives.correct):
             story = random.random() < 0.5
             frames = [self.lives.frame(self.me, to, SEND, self.me, place, assign(place + 1_000 * story, ROLE + self.me))
@@ -223,7 +224,7 @@ class Lives(Cluster):
                     self.wrong = self.wrong or f"node {me} published two commands at place {place}"
                 places[place] = user
                 self.issued += 1
-                time.sleep(0.003)
+                time.sleep(PACE)
                 return
 
         self.ask_on(me, step)
@@ -245,7 +246,7 @@ class Lives(Cluster):
                     held[session] = (user, True)
             for session in random.sample(list(held), min(5, len(held))):
                 self.look(me, node, session)
-            time.sleep(0.02)
+            time.sleep(PACE)
 
         self.ask_on(me, step)
 
@@ -298,7 +299,8 @@ class Lives(Cluster):
                     lists.append(sorted(node.listing("assigned_users", role=ROLE + owner)))
             gone = set(self.published.get(owner, {}).values()) - set(lists[0])
             if any(one != lists[0] for one in lists) or gone:
-                raise Failed(f"of owner {owner} the nodes list {[len(one) for one in lists]} users; without {list(gone)[:5]}")
+                counts = [len(one) for one in lists]
+                raise Failed(f"of owner {owner} the nodes list {counts} users; without {list(gone)[:5]}")
         for me, held in self.sessions.items():
             with self.client(me) as node:
                 for session, (user, is_active) in held.items():

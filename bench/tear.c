@@ -1,7 +1,7 @@
-/* Tears what was not synced, in the program that this is loaded into (LD_PRELOAD): a write at a place of a file puts some
-   of its bytes there at once, and the rest as the file is synced. So a program that is killed between the two leaves of
-   such a write some bytes old and some new, as a machine may that loses its power. What it needs of the C library of
-   Linux on x86-64 is declared here, so that a compiler without header files makes it, as the kit's. */
+/* Tears what was not synced, in the program that this is loaded into (LD_PRELOAD): a write at a place of a file puts
+   some of its bytes there at once, and the rest as the file is synced. So a program that is killed between the two
+   leaves of such a write some bytes old and some new, as a machine may that loses its power. What it needs of the C
+   library of Linux on x86-64 is declared here, so that a compiler without header files makes it, as the kit's. */
 typedef __SIZE_TYPE__ size_t;
 typedef __PTRDIFF_TYPE__ ssize_t;
 

@@ -3,9 +3,10 @@
 
     python3 examples/four_nodes.py [PROGRAM]
 
-PROGRAM is the built role_daemon, crates/role_daemon/out/role_daemon if it is left out. The script makes a key for each
-pair of nodes at random, writes a cluster file for each node, starts the nodes, and is a client of each. Node 0 owns
-role 2.
+PROGRAM is the built tundelca, crates/tundelca/out/tundelca if it is left out, or role_daemon. The script makes a key
+for each pair of nodes at random, writes a cluster file for each node, begins their journals, starts the nodes, and is a
+client of each. Node 0 owns role 2. Node 3 is killed, and with tundelca started again: it has all that it knew, and gets
+what it missed.
 """
 import json
 import os
@@ -23,7 +24,7 @@ ACCESS = {"user": USER, "operation": OPERATION, "object": OBJECT}
 def default_program():
     """Where `rt run` leaves the program."""
     root = os.path.dirname(os.path.dirname(os.path.abspath(__file__)))
-    return os.path.join(root, "crates/role_daemon/out/role_daemon")
+    return os.path.join(root, "crates/tundelca/out/tundelca")
 
 
 def say(number, client, op, **members):
@@ -40,8 +41,8 @@ def wait_for_all(clients, reach):
         print(f"node {number}: node 0's stream reaches {reach}")
 
 
-def run(running, ports):
-    """What happens to the cluster."""
+def run(running, ports, start_again):
+    """What happens to the cluster. Where it is given, `start_again` starts a node that was killed."""
     clients = [(number, tundelca.Client(port)) for number, port in enumerate(ports)]
     owner, third = clients[0][1], clients[2][1]
     say(0, owner, "assign", user=USER, role=ROLE)
@@ -60,9 +61,15 @@ def run(running, ports):
     for number, client in clients[:3]:
         say(number, client, "assigned_users", role=ROLE)
     say(2, third, "check", session=session, **ACCESS)
-    for number, client in clients[:3]:
+    left = clients[:3]
+    if start_again is not None:
+        running[3] = start_again(3)
+        print("node 3 is started again")
+        left.append((3, tundelca.Client(ports[3])))
+        wait_for_all(left[3:], 3)
+    for number, client in left:
         say(number, client, "stop")
-    print("statuses", [process.wait(10) for process in running[:3]])
+    print("statuses", [process.wait(10) for process in running[:len(left)]])
 
 
 def main():
@@ -70,11 +77,15 @@ def main():
     with tempfile.TemporaryDirectory(prefix="tundelca-") as folder:
         ports = tundelca.free_ports(2 * NODES)
         paths = tundelca.cluster_files(folder, [(ROLE, 0)], ports[:NODES], ports[NODES:], MAY_LIE)
-        running = []
+        keeps, running = tundelca.keeps_journals(program), []
+        journals = [os.path.splitext(path)[0] + ".journal" if keeps else None for path in paths]
+        start = lambda me: tundelca.start(program, paths[me], journal=journals[me])
         try:
-            for path in paths:
-                running.append(tundelca.start(program, path))
-            run(running, ports[NODES:])
+            for me in range(NODES):
+                if keeps:
+                    tundelca.begin(program, paths[me], journals[me])
+                running.append(start(me))
+            run(running, ports[NODES:], start if keeps else None)
         finally:
             for process in running:
                 if process.poll() is None:

@@ -1,4 +1,4 @@
-"""A client of `role_daemon serve`, and what it takes to set a cluster up on one machine.
+"""A client of `tundelca serve` and `role_daemon serve`, and what it takes to set a cluster up on one machine.
 
     from tundelca import Client
 
@@ -362,18 +362,38 @@ STATUSES = {
     0: "it was stopped",
     2: "its words",
     3: "its cluster file",
-    4: "a port that is held, or a failed listener",
+    4: "a port or a journal that is held, or a failed listener or disk",
     5: "want of memory",
+    6: "its journal",
 }
 
 
-def start(program, path, patience=10.0):
-    """Starts the node of a cluster file, and waits until its client port answers. The process."""
+def keeps_journals(program):
+    """Whether the program is `tundelca`, which has to be told where a node keeps its state; `role_daemon` has no words
+    for that."""
+    return os.path.basename(program) == "tundelca"
+
+
+def begin(program, path, journal):
+    """Begins the journal of the node of a cluster file: once, before the node's first start."""
+    subprocess.run([program, "journal", "--cluster", path, "--journal", journal], check=True, stdin=subprocess.DEVNULL)
+
+
+def start(program, path, patience=10.0, journal=None):
+    """Starts the node of a cluster file, and waits until its client port answers. The process.
+
+    Without a journal, which only `tundelca` can have, the node keeps all in memory.
+    """
     if not os.path.exists(program):
-        raise FileNotFoundError(f"{program} is not there: run `rt run` in crates/role_daemon first")
+        raise FileNotFoundError(f"{program} is not there: run `rt run` in crates/{os.path.basename(program)} first")
     with open(path, encoding="ascii") as file:
         port = json.load(file)["client"]
-    process = subprocess.Popen([program, "serve", "--cluster", path], stdin=subprocess.DEVNULL)
+    words = [program, "serve", "--cluster", path]
+    if journal is not None:
+        words += ["--journal", journal]
+    elif keeps_journals(program):
+        words += ["--in-memory"]
+    process = subprocess.Popen(words, stdin=subprocess.DEVNULL)
     deadline = time.monotonic() + patience
     while True:
         if process.poll() is not None:

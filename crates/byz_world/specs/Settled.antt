@@ -1,4 +1,4 @@
--- What it is to settle a world: its packets are given until none counts any more.
+-- What it is to settle a world: its packets are given until a pass over them records nothing.
 use Rattle.std.specs.Prelude.{◌≡◌, ℕ, zero, suc, ◌*◌, ◌≤◌, ◌++◌, Bool, false, IsTrue, nat_lt, if◌then◌else◌}
 use Rattle.std.specs.Prelude.{length, map}
 use Rattle.std.specs.List.{range_with_len}

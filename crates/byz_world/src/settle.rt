@@ -1,4 +1,4 @@
-//! Giving the packets of a world until none counts any more.
+//! Giving the packets of a world until a pass over them records nothing.
 
 ghost use Rattle.std.specs.Prelude.{◌≡◌, ◌+◌, length, IfOk, OnOk, OnErr};
 ghost use Rattle.byz_world.specs.Settled.{IsProlonged, IsSettled, MayAdd, after_pass, pass_adds, longest_run, settled};

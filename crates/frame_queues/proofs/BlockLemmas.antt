@@ -1,5 +1,5 @@
 -- The frames among bytes, and the part of a frame that is left behind them.
-use Rattle.std.proofs.Common.{◌≡◌, ◌∙◌, sym, ap, subst, ℕ, ◌+◌, ◌-◌, ◌*◌, ◌/◌, ◌%◌, ◌<◌, ◌≤◌, List, [], ◌++◌}
+use Rattle.std.proofs.Common.{◌≡◌, ◌∙◌, sym, ap, ℕ, ◌+◌, ◌-◌, ◌*◌, ◌/◌, ◌%◌, ◌<◌, ◌≤◌, List, [], ◌++◌}
 use Rattle.std.proofs.Common.{length, take, drop, arith, Option, Some, None, length-drop, length-take-le, le_refl}
 use Rattle.std.specs.Prelude.{Bool, true, false, ◌≢◌, ◌==◌, nat_lt, if◌then◌else◌, refl}
 use Rattle.std.proofs.Common.{inr}

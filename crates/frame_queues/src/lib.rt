@@ -5,16 +5,22 @@
 //! Nothing here knows of sockets, threads or locks.
 #![tactic(auto)]
 
+mod caller;
 mod first_packets;
 mod frame_block;
+mod keys;
 pub mod laws;
 mod parked_packets;
+mod places;
 mod stream_packets;
 mod turns;
 mod unsent_frames;
 
+pub use caller::{CLIENT_NUMBERS, Caller, MOST_CLIENTS, MOST_LINES, MOST_PEERS, NO_LINE};
 pub use first_packets::FirstPackets;
 pub use frame_block::{BLOCK_FRAMES, Came, FrameBlock};
+pub use keys::{ClusterKeys, FrameKeys, PeerName};
 pub use parked_packets::{MOST_PARKED, ParkedPackets};
+pub use places::{Connected, MOST_OF_ONE, place_for, third_of};
 pub use turns::{TURN_FRAMES, Turn, Turns};
 pub use unsent_frames::{MOST_FRAMES, UnsentFrames};

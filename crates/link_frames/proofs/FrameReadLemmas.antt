@@ -29,8 +29,7 @@ pub failed : {a b : Option (List ℕ)} {old new : Tally} {reads have : ℕ} {fra
     → GavePart a c × RoseBy 1 old.faults last.faults × (last.breaks ≡ one_more old.breaks) × FewReads old last
 failed {have} {frame} c last h keeps turn faults reads breaks =
     let len : length (take have frame) ≡ have = length-take-le have frame (omega (arith, h.len, h.part)) in
-    let given = Consumes-kept _ _ _ _ h.gave keeps in
-    (
+    let given = Consumes-kept _ _ _ _ h.gave keeps in (
       (have, h.part, (take have frame, len, given)),
       omega (arith, h.few),
       omega (arith, h.unbroken),
@@ -41,7 +40,8 @@ failed {have} {frame} c last h keeps turn faults reads breaks =
 pub interrupted : {a b : Option (List ℕ)} {old new : Tally} {reads have : ℕ} {frame : List ℕ}
     (c : Option (List ℕ)) (last : Tally) (after : List ℕ) → HasRead a b old new reads have frame → Keeps b c
     → last.faults ≡ one_more new.faults
-    → last.reads ≡ one_more new.reads → last.breaks ≡ new.breaks → length after ≡ length frame → take have after ≡ take have frame
+    → last.reads ≡ one_more new.reads → last.breaks ≡ new.breaks → length after ≡ length frame
+    → take have after ≡ take have frame
     → HasRead a c old last (reads + 1) have after
 interrupted c last after h keeps faults reads breaks len front = record {
   len = omega (arith, h.len);
@@ -58,7 +58,8 @@ interrupted c last after h keeps faults reads breaks len front = record {
 pub gave_more : {a b : Option (List ℕ)} {old new : Tally} {reads have : ℕ} {frame : List ℕ}
     (c : Option (List ℕ)) (n : ℕ) (last : Tally) (after given : List ℕ) → HasRead a b old new reads have frame
     → Consumes b c given → last.faults ≡ new.faults
-    → last.reads ≡ one_more new.reads → last.breaks ≡ new.breaks → 0 < n → have + n < frame_len → length after ≡ length frame
+    → last.reads ≡ one_more new.reads → last.breaks ≡ new.breaks → 0 < n → have + n < frame_len
+    → length after ≡ length frame
     → take (have + n) after ≡ take have frame ++ given
     → HasRead a c old last (reads + 1) (have + n) after
 gave_more c n last after given h gave faults reads breaks some part len front = record {

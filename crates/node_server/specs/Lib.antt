@@ -1,3 +1,3 @@
 pub mod Answers
 pub mod Served
-pub mod Frames
+pub mod Told

@@ -1,6 +1,7 @@
 //! What is behind a serving node's lock.
 
-ghost use Rattle.std.specs.Prelude.{◌≡◌, ◌≤◌, ◌↔◌, ◌<◌, IsTrue, IfOk, IfErr, IfSome, OnOk, OnErr, OnSome, option_map};
+ghost use Rattle.std.specs.Prelude.{◌≡◌, ◌≤◌, ◌↔◌, ◌<◌, Bool, false, IsTrue, IfOk, IfErr, IfSome, OnOk, OnErr, OnSome};
+ghost use Rattle.std.specs.Prelude.{option_map};
 ghost use Rattle.node_lock.specs.Holds.{end_of, Held};
 ghost use Rattle.node_lock.specs.Receipts.{outcome_due};
 ghost use Rattle.node_lock.specs.Views.{node_count, view_of, held_after_hold, seat_after_hold, IsHoldFault};
@@ -34,6 +35,9 @@ pub trait HeldNode {
 
     ghost held: { Self → Held };
 
+    /// So much is recorded that it has to be kept before the next hold.
+    ghost is_full: { Self → Bool };
+
     ghost said: { Self.Untold → Said };
 
     ghost may_leave: { Self → Self.Untold → Type 0 };
@@ -44,6 +48,10 @@ pub trait HeldNode {
     /// Whether the name is a node's of the sizes of the node.
     fn has(&self, name: NodeName) -> bool
         ensures { IsTrue result ↔ (name < node_count (held self.now)) };
+
+    /// Whether so much is recorded that a [`sync`](Self::sync) has to come before the next hold.
+    fn must_sync(&self) -> bool
+        ensures { result ≡ is_full self.now };
 
     /// Makes a hold, as [`Locked::hold`] does: the call, where there is one, and then the view of the owner's stream
     /// and of the place in it.
@@ -58,7 +66,8 @@ pub trait HeldNode {
         owner: NodeName,
         place: Place,
     ) -> Result<Self::Untold, StepFault>
-        requires { owner < node_count (held self.old) }
+        requires owner { owner < node_count (held self.old) }
+        requires room { is_full self.old ≡ false }
         ensures outcome { IfOk result (λ u. (said u).outcome ≡ option_map (outcome_due (held self.old).node) call) }
         ensures view { IfOk result (λ u. (said u).view ≡ view_of (held self.new) owner place) }
         ensures held { OnOk result (held self.new ≡ held_after_hold (held self.old) seat.old call) }
@@ -118,13 +127,15 @@ pub trait HeldNode {
 
 /// A node that keeps all in memory: what it records is kept at once.
 impl<L: Ledger + Send + Sync> HeldNode for Locked<L> {
-    ghost use Rattle.std.specs.Prelude.{⊤};
+    ghost use Rattle.std.specs.Prelude.{⊤, false};
 
     type Ledger = L;
 
     type Untold = Said;
 
     ghost held = { λ a. a };
+
+    ghost is_full = { λ _. false };
 
     ghost said = { λ u. u };
 
@@ -136,6 +147,10 @@ impl<L: Ledger + Send + Sync> HeldNode for Locked<L> {
 
     fn has(&self, name: NodeName) -> bool {
         Locked::has(self, name)
+    }
+
+    fn must_sync(&self) -> bool {
+        false
     }
 
     fn hold(

@@ -3,13 +3,27 @@
 ghost use Rattle.std.specs.Prelude.{IfSome};
 ghost use Rattle.std.specs.Io.{ReadsAtMost};
 
+use crate::server::millis;
 use std::io::{ErrorKind, Read, Write};
 use std::net::TcpStream;
-use std::time::{Clock, Duration, Instant};
+use std::time::{Clock, Duration};
 use std::{io, thread};
 
 /// How often the thread looks for bytes before it waits for them.
 const MOST_LOOKS: u32 = 16;
+
+/// The methods of a request that a page in a browser can have sent to any port, and a space behind each.
+const HTTP_METHODS: [&[u8]; 5] = [b"GET ", b"HEAD ", b"POST ", b"PUT ", b"OPTIONS "];
+
+/// Whether bytes begin as an HTTP request does, and so as no client's line.
+pub fn is_http(bytes: &[u8]) -> bool {
+    for method in HTTP_METHODS {
+        if bytes.starts_with(method) {
+            return true;
+        }
+    }
+    false
+}
 
 /// A client's stream, from which its lines are read.
 #[derive(Drop)]
@@ -34,20 +48,12 @@ impl<'a> LineReader<'a> {
     {
         let mut stream = self.stream;
         for _ in 0..MOST_LOOKS {
-            let read = stream.read(buf);
-            if !would_wait(&read) {
-                return Some(read);
+            match stream.read(buf) {
+                Err(error) if error.kind() == ErrorKind::WouldBlock => thread::yield_now(),
+                read => return Some(read),
             }
-            thread::yield_now();
         }
         None
-    }
-}
-
-fn would_wait(read: &io::Result<usize>) -> bool {
-    match read {
-        Ok(_) => false,
-        Err(error) => error.kind() == ErrorKind::WouldBlock,
     }
 }
 
@@ -65,41 +71,30 @@ impl Read for LineReader<'_> {
     }
 }
 
-/// A client's stream that is read and written for so long in all, and no longer.
+/// A client's stream that is read and written up to some time, and no longer.
 #[derive(Drop)]
 pub struct Farewell<'a, R> {
     rt: &'a R,
     stream: &'a TcpStream,
-    begin: io::Result<Instant>,
-    time: Duration,
+    end: u64,
 }
 
 impl<'a, R: Clock> Farewell<'a, R> {
     /// So many milliseconds begin.
-    pub fn new(rt: &'a R, stream: &'a TcpStream, millis: u64) -> Farewell<'a, R> {
-        Farewell {
-            rt,
-            stream,
-            begin: Instant::now(rt),
-            time: Duration::from_millis(millis),
-        }
+    pub fn new(rt: &'a R, stream: &'a TcpStream, time: u64) -> Farewell<'a, R> {
+        let end = millis(rt).saturating_add(time);
+        Farewell { rt, stream, end }
     }
 
     /// What is left of the time.
     ///
     /// # Errors
     ///
-    /// `TimedOut` where nothing is left, and where the clock fails.
+    /// `TimedOut` where nothing is left.
     fn left(&self) -> io::Result<Option<Duration>> {
-        let past = match &self.begin {
-            Ok(begin) => begin.elapsed(self.rt).unwrap_or(self.time),
-            Err(_) => self.time,
-        };
-        let left = self.time.saturating_sub(past);
-        if left.is_zero() {
-            Err(io::Error::from(ErrorKind::TimedOut))
-        } else {
-            Ok(Some(left))
+        match self.end.saturating_sub(millis(self.rt)) {
+            0 => Err(io::Error::from(ErrorKind::TimedOut)),
+            left => Ok(Some(Duration::from_millis(left))),
         }
     }
 }

@@ -7,23 +7,21 @@ ghost use Rattle.link_frames.specs.Nexts.{Begins};
 
 use crate::answers::{hold_answer, sent_count};
 use crate::behind::HeldNode;
-use crate::caller::{Caller, MOST_LINES};
-use crate::client_stream::{Farewell, LineReader};
-use crate::fault::ClientFault;
+use crate::client_stream::{Farewell, LineReader, is_http};
 use crate::job_queue::JobQueue;
-use crate::keys::FrameKeys;
 use crate::said::Said;
 use crate::server::Server;
-use crate::slot::{Slot, room_for_lines};
+use crate::slot::Slot;
 use client_lines::{ClientAnswer, LineFault, MOST_LINE_BYTES, Request, RequestReader};
-use link_frames::{Ahead, Held, Kind, Message, Next, Packet, Place, Watched};
-use node_lock::{Call, View};
+use frame_queues::{Caller, FrameKeys, MOST_LINES, NO_LINE};
+use link_frames::{Ahead, AheadFault, Held, Message, Next, Packet, Place, Watched};
+use node_lock::{Call, Job, View};
+use peer_windows::push_again;
 use quorum_sizes::NodeName;
 use role_node::{Event, NodeAgain, Question};
-use std::alloc::{AllocError, Global};
 use std::net::{Shutdown, TcpStream};
 use std::sync::Wait;
-use std::time::{Clock, Duration, Instant};
+use std::time::{Clock, Duration};
 use std::{mem, thread};
 
 /// For how many milliseconds in all a client is listened to that is answered no more.
@@ -34,9 +32,6 @@ const LAST_WRITES: u64 = 1_000;
 
 /// The milliseconds before a job is put again that the inbox did not take.
 const NEXT_PUT: u64 = 1;
-
-/// A line was waited for shortly if it came within so many microseconds.
-const SHORT_WAIT: u64 = 50;
 
 /// What is to be done after a client's line.
 #[derive(Clone, Copy, Debug, PartialEq, Eq)]
@@ -50,95 +45,78 @@ enum AfterLine {
 #[derive(Drop)]
 struct Client<'a, 'b, N: HeldNode, K: FrameKeys, R> {
     server: &'b Server<'a, N, K, R>,
-    place: &'b Slot<'a>,
+    slot: &'b Slot<'a>,
+    /// The number of the slot.
+    number: u32,
     stream: &'b TcpStream,
     queue: JobQueue<'a>,
-    slot: u32,
-    /// How many jobs were put, and how many of them are known to be done.
-    put: u64,
-    done: u64,
-    /// How many lines have jobs whose answers are still to come.
+    /// How many lines were answered or have jobs since this thread last saw whether much is held.
+    lines: u32,
+    /// How many lines, and how many jobs, are in flight.
     in_flight: u32,
-    /// How many questions this thread asked at once since it last saw whether much is held.
-    at_once: u32,
-    /// The last line was such a question.
+    put: u32,
+    /// The last line was a question about an access.
     asked: bool,
-    /// The last wait for a line was short.
-    was_short: bool,
-    said: Vec<Option<Said>>,
     requests: RequestReader,
     held: Held,
     writer: Watched<&'b TcpStream>,
 }
 
-/// Serves a connection of a client at a place, up to its end.
+/// Serves the connection of the client at this place, up to its end.
 pub fn answer_client<N: HeldNode, K: FrameKeys, R: Wait + Clock>(
     server: &Server<'_, N, K, R>,
-    slot: u32,
+    number: u32,
     stream: &TcpStream,
 ) {
-    let Some(place) = server.slots.get(slot as usize) else {
+    let Some(slot) = server.slots.get(number as usize) else {
         return;
     };
-    let Ok(said) = room_for_lines(server.alloc) else {
-        return place.refuse(server.rt);
-    };
-    let Some(queue) = place.begin(server.rt) else {
+    let Some(queue) = slot.begin(server.rt) else {
         return;
     };
     let mut client = Client {
         server,
-        place,
+        slot,
+        number,
         stream,
         queue,
-        slot,
-        put: 0,
-        done: 0,
+        lines: 0,
         in_flight: 0,
-        at_once: 0,
+        put: 0,
         asked: false,
-        was_short: false,
-        said,
         requests: RequestReader::new(server.alloc),
         held: Held::new(server.alloc),
         writer: Watched::new(stream),
     };
-    if client.answer_lines() {
+    if client.serve() {
         server.end();
     }
     server.ring();
-    place.free(server.rt, client.queue, client.put);
+    slot.free(server.rt, client.queue, client.put);
+    server.wake_ports();
 }
 
 impl<N: HeldNode, K: FrameKeys, R: Wait + Clock> Client<'_, '_, N, K, R> {
-    /// Answers the lines of a connection, up to its end. Whether one of them stops the node.
-    fn answer_lines(&mut self) -> bool {
+    /// Answers the lines of the connection, up to its end. Whether one of them stops the node.
+    fn serve(&mut self) -> bool {
         let mut ahead = Ahead::new(self.server.alloc);
-        for _ in self.server.rt.forever() {
-            match self.answer_next(&mut ahead) {
-                Ok(AfterLine::Continue) => {}
-                Ok(AfterLine::StopNode) => {
-                    let mut last = Watched::new(Farewell::new(
-                        self.server.rt,
-                        self.stream,
-                        LAST_WRITES,
-                    ));
-                    let _ = self.held.write_all(&mut last);
-                    return true;
-                }
-                Ok(AfterLine::Close) => {
+        match self.answer_lines(&mut ahead) {
+            Ok(AfterLine::StopNode) => {
+                let last = Farewell::new(self.server.rt, self.stream, LAST_WRITES);
+                let _ = self.held.write_all(&mut Watched::new(last));
+                true
+            }
+            Ok(_) => {
+                self.write_rest();
+                false
+            }
+            Err(fault) => {
+                if fault == AheadFault::Memory {
                     self.write_rest();
-                    return false;
                 }
-                Err(fault) => {
-                    if fault == ClientFault::Memory {
-                        self.write_rest();
-                    }
-                    return self.leaves_a_stop(&mut ahead);
-                }
+                self.leaves_a_stop(&mut ahead)
             }
         }
-        unreachable!()
     }
 
     /// Writes the answers to all lines that were put.
@@ -174,35 +152,41 @@ impl<N: HeldNode, K: FrameKeys, R: Wait + Clock> Client<'_, '_, N, K, R> {
         matches!(self.requests.read(&sizes, line), Ok(Request::Stop))
     }
 
-    /// Whether another line is answered before this thread sees whether much is held.
-    fn may_answer_more(&self) -> bool {
-        self.in_flight.saturating_add(self.at_once) < MOST_LINES
+    /// Answers the lines, up to the last. An HTTP request, of which a page in a browser has chosen what comes behind
+    /// its first line, is answered once.
+    fn answer_lines(&mut self, ahead: &mut Ahead) -> Result<AfterLine, AheadFault> {
+        self.wait_for_next(ahead)?;
+        if is_http(ahead.front()) {
+            self.say(&ClientAnswer::BadLine(LineFault::NotJson))?;
+            return Ok(AfterLine::Close);
+        }
+        for _ in self.server.rt.forever() {
+            let then = self.answer_next(ahead)?;
+            if then != AfterLine::Continue {
+                return Ok(then);
+            }
+        }
+        unreachable!()
     }
 
     /// Waits for what comes next. All that is due is written first. Where the client asks one question after another,
     /// this thread looks for the next one before it sleeps.
-    fn wait_for_next(&mut self, ahead: &mut Ahead) -> Result<Next, ClientFault>
+    fn wait_for_next(&mut self, ahead: &mut Ahead) -> Result<Next, AheadFault>
         ensures { IfOk result (Begins MOST_LINE_BYTES (front_of ahead.new)) }
     {
-        self.at_once = 0;
+        self.lines = 0;
         self.settle()?;
         self.held
             .write_when_due(ahead, MOST_LINE_BYTES, &mut self.writer)?;
-        let begin = Instant::now(self.server.rt);
-        let looks_first = self.asked && self.was_short;
-        let mut reader = Watched::new(LineReader::new(self.stream, looks_first));
+        let mut reader = Watched::new(LineReader::new(self.stream, self.asked));
         let next = self.held.peek(ahead, MOST_LINE_BYTES, &mut reader)?;
-        self.was_short = match begin {
-            Ok(begin) => is_short(self.server.rt, &begin),
-            Err(_) => false,
-        };
         Ok(next)
     }
 
     /// Answers what comes next.
-    fn answer_next(&mut self, ahead: &mut Ahead) -> Result<AfterLine, ClientFault> {
+    fn answer_next(&mut self, ahead: &mut Ahead) -> Result<AfterLine, AheadFault> {
         let next = match ahead.begins(MOST_LINE_BYTES) {
-            Some(Next::Line(count)) if self.may_answer_more() => Next::Line(count),
+            Some(Next::Line(count)) if self.lines < MOST_LINES => Next::Line(count),
             _ => self.wait_for_next(ahead)?,
         };
         match next {
@@ -229,20 +213,37 @@ impl<N: HeldNode, K: FrameKeys, R: Wait + Clock> Client<'_, '_, N, K, R> {
     }
 
     /// Answers a line, or puts a job for it.
-    fn answer_line(&mut self, line: &[u8]) -> Result<AfterLine, ClientFault> {
+    fn answer_line(&mut self, line: &[u8]) -> Result<AfterLine, AheadFault> {
+        self.lines = self.lines.saturating_add(1);
         self.asked = false;
         let sizes = self.server.keys.sizes();
         match self.requests.read(&sizes, line) {
-            Ok(request) => self.answer(request),
-            Err(LineFault::Memory) => Err(ClientFault::Memory),
-            Err(fault) => self.say(&ClientAnswer::BadLine(fault)),
+            Ok(Request::Stop) => Ok(self.stop()),
+            Ok(request) => {
+                self.answer(request)?;
+                Ok(AfterLine::Continue)
+            }
+            Err(LineFault::Memory) => Err(AheadFault::Memory),
+            Err(fault) => {
+                self.say(&ClientAnswer::BadLine(fault))?;
+                Ok(AfterLine::Continue)
+            }
         }
     }
 
-    fn answer(&mut self, request: Request) -> Result<AfterLine, ClientFault> {
+    /// Answers all lines before, and that the node stops.
+    fn stop(&mut self) -> AfterLine {
+        self.server.ring();
+        if self.collect().is_ok() {
+            let _ = hold_answer(self.server.alloc, &mut self.held, &ClientAnswer::Stopped);
+        }
+        AfterLine::StopNode
+    }
+
+    fn answer(&mut self, request: Request) -> Result<(), AheadFault> {
         match request {
-            Request::Issue(command) => self.call(Call::Step(Event::Issue(command))),
-            Request::Client(act) => self.call(Call::Step(Event::Client(act))),
+            Request::Issue(command) => self.call(Event::Issue(command)),
+            Request::Client(act) => self.call(Event::Client(act)),
             Request::Ask(question) => self.ask(question),
             Request::Reach(owner) => {
                 let view = self.view(owner, 0)?;
@@ -250,65 +251,58 @@ impl<N: HeldNode, K: FrameKeys, R: Wait + Clock> Client<'_, '_, N, K, R> {
             }
             Request::Again { owner, place } => {
                 let sent = self.view(owner, place)?.again;
-                self.send_again(owner, place, &sent)?;
+                self.send_again(self.server.keys.me(), owner, place, &sent)?;
                 self.say(&ClientAnswer::Again(sent_count(&sent)))
             }
-            Request::Stop => {
-                self.server.ring();
-                if self.collect().is_ok() {
-                    let _ = hold_answer(self.server.alloc, &mut self.held, &ClientAnswer::Stopped);
-                }
-                Ok(AfterLine::StopNode)
-            }
+            Request::Stop => Ok(()),
         }
     }
 
     /// Holds an answer, behind those of the lines before.
-    fn say(&mut self, answer: &ClientAnswer) -> Result<AfterLine, ClientFault>
+    fn say(&mut self, answer: &ClientAnswer) -> Result<(), AheadFault>
         requires { IsWritten answer.now }
     {
         self.settle()?;
         hold_answer(self.server.alloc, &mut self.held, answer)?;
-        Ok(AfterLine::Continue)
+        Ok(())
     }
 
-    /// Answers a question: at once where nothing comes before it, else by a job.
-    fn ask(&mut self, question: Question) -> Result<AfterLine, ClientFault> {
-        if self.in_flight == 0 && self.server.is_at_rest() {
-            let me = self.server.keys.me();
-            if let Some(answer) = self
-                .server
-                .look(Some(question), me, 0)
-                .and_then(Said::into_answer)
-            {
-                self.at_once = self.at_once.saturating_add(1);
-                self.asked = true;
-                return self.say(&answer);
-            }
+    /// Answers a question in this thread, after the lines before were answered. A listing is written before the next
+    /// line is looked at, so there is one at most.
+    fn ask(&mut self, question: Question) -> Result<(), AheadFault> {
+        self.settle()?;
+        let me = self.server.keys.me();
+        let said = self.server.look(Some(question), me, 0);
+        let answer = said.and_then(Said::into_answer).ok_or(AheadFault::Memory)?;
+        self.asked = matches!(question, Question::Check { .. });
+        if !self.asked {
+            self.lines = MOST_LINES;
         }
-        self.call(Call::Ask(question))
+        self.say(&answer)
     }
 
     /// Puts a job for a line.
-    fn call(&mut self, call: Call) -> Result<AfterLine, ClientFault> {
-        self.put(Some(self.in_flight), &call)?;
+    fn call(&mut self, event: Event) -> Result<(), AheadFault> {
+        let (slot, line) = (self.number, self.in_flight);
+        self.put(&Job {
+            number: Caller::Client { slot, line }.number(),
+            call: Call::Step(event),
+        })?;
         self.in_flight = self.in_flight.saturating_add(1);
-        Ok(AfterLine::Continue)
+        Ok(())
     }
 
-    /// Puts a job for a line, or for none, again until the inbox takes it. No answer is held back meanwhile.
-    fn put(&mut self, line: Option<u32>, call: &Call) -> Result<(), ClientFault> {
-        let slot = self.slot;
+    /// Puts a job, again until the inbox takes it. No answer is held back meanwhile.
+    fn put(&mut self, job: &Job) -> Result<(), AheadFault> {
         for _ in self.server.rt.forever() {
-            let job = Caller::Client { slot, line }.job(*call);
-            if self.queue.put(self.server.rt, job).is_ok() {
+            if self.queue.put(self.server.rt, *job).is_ok() {
                 self.put = self.put.saturating_add(1);
                 return Ok(());
             }
             self.server.ring();
             self.held.write_all(&mut self.writer)?;
             if self.server.has_ended() {
-                return Err(ClientFault::Device);
+                return Err(AheadFault::Device);
             }
             thread::sleep(self.server.rt, Duration::from_millis(NEXT_PUT));
         }
@@ -321,42 +315,39 @@ impl<N: HeldNode, K: FrameKeys, R: Wait + Clock> Client<'_, '_, N, K, R> {
     /// # Errors
     ///
     /// As [`collect`](Client::collect).
-    fn settle(&mut self) -> Result<(), ClientFault> {
-        if self.done == self.put {
+    fn settle(&mut self) -> Result<(), AheadFault> {
+        if self.put == 0 {
             return Ok(());
         }
         self.server.ring();
-        if !self.place.has_done(self.server.rt, self.put) {
+        if !self.slot.has_done(self.server.rt, self.put) {
             self.held.write_all(&mut self.writer)?;
         }
         self.collect()
     }
 
-    /// Waits for the answers to all lines that are in flight, and holds them in the order of the lines.
+    /// Waits until no job is in flight, and holds the answers to the lines that were, in the order of the lines.
     ///
     /// # Errors
     ///
     /// `Memory` where one of them has no answer. Those before it are held.
-    fn collect(&mut self) -> Result<(), ClientFault> {
-        let due = mem::replace(&mut self.in_flight, 0);
-        if !self.place.wait(self.server.rt, self.put, &mut self.said) {
-            return Err(ClientFault::Device);
-        }
-        self.done = self.put;
-        for said in self.said.iter_mut().take(due as usize) {
-            let said = said.take().ok_or(ClientFault::Memory)?;
-            let answer = said.into_answer().ok_or(ClientFault::Memory)?;
-            hold_answer(self.server.alloc, &mut self.held, &answer)?;
-        }
+    fn collect(&mut self) -> Result<(), AheadFault> {
+        let Some(mut place) = self.slot.wait(self.server.rt, self.put) else {
+            return Err(AheadFault::Device);
+        };
+        self.put = 0;
+        let lines = mem::replace(&mut self.in_flight, 0);
+        let told = &mut place.told;
+        told.hold_answers(self.server.alloc, &mut self.held, lines)?;
         Ok(())
     }
 
     /// Looks at a place of the owner's stream, after the lines before were answered.
-    fn view(&mut self, owner: NodeName, place: Place) -> Result<View, ClientFault> {
+    fn view(&mut self, owner: NodeName, place: Place) -> Result<View, AheadFault> {
         self.settle()?;
         match self.server.look(None, owner, place) {
             Some(said) => Ok(said.view),
-            None => Err(ClientFault::Memory),
+            None => Err(AheadFault::Memory),
         }
     }
 
@@ -364,52 +355,30 @@ impl<N: HeldNode, K: FrameKeys, R: Wait + Clock> Client<'_, '_, N, K, R> {
     /// a client that asks again and again has no more in the inbox than by other lines.
     fn send_again(
         &mut self,
+        me: NodeName,
         owner: NodeName,
         place: Place,
         sent: &NodeAgain,
-    ) -> Result<(), ClientFault> {
-        let messages = messages_of(self.server.alloc, owner, place, sent)?;
+    ) -> Result<(), AheadFault>
+    {
+        let mut messages = Vec::new(self.server.alloc);
+        push_again(&mut messages, owner, place, sent)?;
         let mut frames = Vec::with_capacity(self.server.alloc, messages.len())?;
         self.server.send(&messages, None, &mut frames);
-        let me = self.server.keys.me();
-        for message in &messages {
+        self.take_again(me, &messages)
+    }
+
+    /// Has the node take messages that it sends to itself.
+    fn take_again(&mut self, me: NodeName, messages: &[Message]) -> Result<(), AheadFault>
+    {
+        let (slot, line) = (self.number, NO_LINE);
+        let number = Caller::Client { slot, line }.number();
+        for message in messages {
             if let Some(packet) = Packet::new(me, me, *message) {
-                self.put(None, &Call::Step(Event::Take(packet)))?;
+                let call = Call::Step(Event::Take(packet));
+                self.put(&Job { number, call })?;
             }
         }
         Ok(())
-    }
-}
-
-/// What was sent at a place, as messages.
-fn messages_of(
-    alloc: Global,
-    owner: NodeName,
-    place: Place,
-    sent: &NodeAgain,
-) -> Result<Vec<Message>, AllocError> {
-    let mut messages = Vec::new(alloc);
-    for (kind, command) in [
-        (Kind::Send, sent.send),
-        (Kind::Echo, sent.echo),
-        (Kind::Ready, sent.ready),
-    ] {
-        if let Some(command) = command {
-            messages.push(Message {
-                kind,
-                owner,
-                place,
-                command,
-            })?;
-        }
-    }
-    Ok(messages)
-}
-
-/// Whether a wait that began then was short.
-fn is_short<R: Clock>(rt: &R, begin: &Instant) -> bool {
-    match begin.elapsed(rt) {
-        Ok(past) => past < Duration::from_micros(SHORT_WAIT),
-        Err(_) => false,
     }
 }

@@ -1,17 +1,19 @@
 //! How the workers stand. The thread that has put jobs does them with an idle worker.
 
 use crate::behind::HeldNode;
-use crate::clock::millis;
 use crate::front::Front;
-use crate::keys::FrameKeys;
-use crate::server::Server;
-use crate::waiting::Awaited;
+use crate::server::{Server, millis};
 use crate::workers::Worker;
+use frame_queues::{Connected, FrameKeys};
 use peer_windows::NEVER;
 use quorum_sizes::NodeName;
 use std::mem;
 use std::sync::Wait;
 use std::time::Clock;
+
+/// In place of the time at which a frame of a connection counted last: a packet found no memory, so the connection is
+/// to be closed.
+pub const REFUSED: u64 = u64::MAX;
 
 /// The workers that are idle, and what is there for them and for the thread of the ports.
 #[derive(Drop)]
@@ -23,27 +25,21 @@ pub struct Crew<'a, N: HeldNode> {
     pub jobs: bool,
     /// The peers to which there is a new connection since a worker looked.
     pub connected: Vec<NodeName>,
-    /// The places of the connections of peers of which a packet found no memory.
-    pub refused: Vec<u32>,
-    /// When a frame of the connection at each place counted last, in milliseconds; 0 where none has.
+    /// When a frame of the connection of peers at each place counted last, in milliseconds; 0 where none has.
     pub counted: Vec<u64>,
     /// When something is due for which nobody rings, and when the thread of the ports wakes by itself, in milliseconds.
     pub due: u64,
     pub wakes: u64,
     /// A port has failed, or what was recorded is not kept.
     pub failed: bool,
-}
-
-impl<N: HeldNode> Awaited for Crew<'_, N> {
-    fn is_due(&self) -> bool {
-        self.jobs && self.front.is_some() && !self.idle.is_empty()
-    }
+    /// The node has ended.
+    pub ended: bool,
 }
 
 impl<'a, N: HeldNode> Crew<'a, N> {
-    /// Whether no job is left.
-    fn is_at_rest(&self) -> bool {
-        self.front.is_some() && !self.jobs
+    /// Whether an idle worker may take jobs.
+    fn is_due(&self) -> bool {
+        self.jobs && self.front.is_some() && !self.idle.is_empty()
     }
 
     /// An idle worker takes jobs from now on, if none does, with what comes before them.
@@ -68,12 +64,12 @@ impl<'a, N: HeldNode, K: FrameKeys, R: Wait + Clock> Server<'a, N, K, R> {
     /// Where a worker takes jobs now, or all are at work, those look again.
     pub fn ring(&self) {
         let mut crew = self.crew.lock(self.rt);
-        crew.value.jobs = true;
+        crew.jobs = true;
         if N::may_sync_long() {
-            self.crew.wake();
+            self.left.notify_one();
             return;
         }
-        let begun = crew.value.begin();
+        let begun = crew.begin();
         drop(crew);
         if let Some((worker, front)) = begun {
             self.work(worker, front);
@@ -84,10 +80,13 @@ impl<'a, N: HeldNode, K: FrameKeys, R: Wait + Clock> Server<'a, N, K, R> {
     pub fn do_jobs(&self) {
         for _ in self.rt.forever() {
             let crew = self.crew.lock(self.rt);
-            let Some(mut crew) = self.crew.wait(self.rt, crew) else {
+            let mut crew = self
+                .left
+                .wait_while(self.rt, crew, |crew| !crew.ended && !crew.is_due());
+            if crew.ended {
                 return;
-            };
-            let begun = crew.value.begin();
+            }
+            let begun = crew.begin();
             drop(crew);
             if let Some((worker, front)) = begun {
                 self.work(worker, front);
@@ -107,15 +106,15 @@ impl<'a, N: HeldNode, K: FrameKeys, R: Wait + Clock> Server<'a, N, K, R> {
         self.send_and_tell(&mut worker);
         let now = millis(self.rt);
         let mut crew = self.crew.lock(self.rt);
-        for slot in worker.counted.drain(..) {
-            if let Some(time) = crew.value.counted.get_mut(slot as usize) {
-                *time = now;
+        for (slot, has_memory) in worker.heard.drain(..) {
+            if let Some(time) = crew.counted.get_mut(slot as usize) {
+                *time = if has_memory { now } else { REFUSED };
             }
         }
         // there is room for each worker
-        let _ = crew.value.idle.push(worker);
-        if crew.value.is_due() {
-            self.crew.wake();
+        let _ = crew.idle.push(worker);
+        if crew.is_due() {
+            self.left.notify_one();
         }
     }
 
@@ -123,66 +122,64 @@ impl<'a, N: HeldNode, K: FrameKeys, R: Wait + Clock> Server<'a, N, K, R> {
     /// What is left of a full batch is left to others, who look at once.
     fn takes_on(&self, is_left: bool, front: Front) -> Option<Front> {
         let mut crew = self.crew.lock(self.rt);
-        if crew.value.jobs && !is_left && !N::may_sync_long() {
-            crew.value.jobs = false;
+        if crew.jobs && !is_left && !N::may_sync_long() {
+            crew.jobs = false;
             return Some(front);
         }
-        crew.value.jobs |= is_left;
-        crew.value.due = front.pairs.next_due();
-        if crew.value.due < crew.value.wakes {
-            crew.value.wakes = crew.value.due;
+        crew.jobs |= is_left;
+        crew.due = front.pairs.next_due();
+        if crew.due < crew.wakes {
+            crew.wakes = crew.due;
             self.wake_ports();
         }
-        crew.value.front = Some(front);
-        if crew.value.is_due() {
-            self.crew.wake();
+        crew.front = Some(front);
+        if crew.is_due() {
+            self.left.notify_one();
         }
         None
     }
 
-    /// Whether no job is left that would come before a question that is asked now.
-    pub fn is_at_rest(&self) -> bool {
-        self.crew.lock(self.rt).value.is_at_rest()
-    }
-
-    /// When a frame of the connection at this place counted last; 0 where none has.
-    pub fn counted_at(&self, slot: usize) -> u64 {
-        self.crew
-            .lock(self.rt)
-            .value
-            .counted
-            .get(slot)
-            .copied()
-            .unwrap_or(0)
+    /// Notes when a frame of each connection of peers counted last.
+    pub fn note_counted(&self, places: &mut [Option<Connected>]) {
+        let crew = self.crew.lock(self.rt);
+        for (place, time) in places.iter_mut().zip(&crew.counted) {
+            if let Some(connected) = place {
+                connected.counted = *time;
+            }
+        }
     }
 
     /// There is another connection at this place, of which no frame has counted.
     pub fn forget_counted(&self, slot: usize) {
-        if let Some(time) = self.crew.lock(self.rt).value.counted.get_mut(slot) {
+        if let Some(time) = self.crew.lock(self.rt).counted.get_mut(slot) {
             *time = 0;
         }
     }
 
-    /// There is a new connection to the peer.
-    pub fn connect(&self, peer: NodeName) {
-        let _ = self.crew.lock(self.rt).value.connected.push(peer);
+    /// Something may have come of the connection to an outbox's peer. If it is made now, the workers hear of it.
+    pub fn go_on(&self, at: usize, now: u64) {
+        if let Some(outbox) = self.outboxes.get(at) {
+            if outbox.go_on(self.rt, now) {
+                let _ = self.crew.lock(self.rt).connected.push(outbox.to);
+            }
+        }
     }
 
     /// For how many milliseconds the thread of the ports may wait now, until this time at most.
     pub fn wait_until_due(&self, now: u64, most: u64) -> u64 {
         let mut crew = self.crew.lock(self.rt);
-        let wakes = most.min(crew.value.due).max(now);
-        crew.value.wakes = wakes;
+        let wakes = most.min(crew.due).max(now);
+        crew.wakes = wakes;
         wakes - now
     }
 
     /// Whether something is due now for which nobody rings, a new connection among it.
     pub fn is_due(&self, now: u64) -> bool {
         let mut crew = self.crew.lock(self.rt);
-        crew.value.wakes = now;
-        let is_due = crew.value.due <= now || !crew.value.connected.is_empty();
+        crew.wakes = now;
+        let is_due = crew.due <= now || !crew.connected.is_empty();
         if is_due {
-            crew.value.due = NEVER;
+            crew.due = NEVER;
         }
         is_due
     }

@@ -1,6 +1,5 @@
-//! Why a server ends, and why a client's connection does.
+//! Why a server ends.
 
-use link_frames::{AheadFault, DeviceFault};
 use std::alloc::AllocError;
 
 /// Why a server ended before a client stopped it.
@@ -20,35 +19,5 @@ impl From<AllocError> for ServerFault {
 
     fn from(_: AllocError) -> Self {
         ServerFault::Memory
-    }
-}
-
-/// Why a client is served no more.
-#[derive(Clone, Copy, Debug, PartialEq, Eq)]
-pub enum ClientFault {
-    /// The connection has failed, or the node has ended.
-    Device,
-    /// There was no memory for an answer.
-    Memory,
-}
-
-impl From<AllocError> for ClientFault {
-    fn from(_: AllocError) -> Self {
-        ClientFault::Memory
-    }
-}
-
-impl From<DeviceFault> for ClientFault {
-    fn from(_: DeviceFault) -> Self {
-        ClientFault::Device
-    }
-}
-
-impl From<AheadFault> for ClientFault {
-    fn from(fault: AheadFault) -> Self {
-        match fault {
-            AheadFault::Device => ClientFault::Device,
-            AheadFault::Memory => ClientFault::Memory,
-        }
     }
 }

@@ -4,10 +4,9 @@ ghost use Rattle.std.specs.Prelude.{◌≡◌, ◌≤◌, None};
 ghost use Rattle.peer_windows.specs.Pauses.{most_time};
 
 use crate::behind::HeldNode;
-use crate::caller::Caller;
 use crate::job_queue::JobQueue;
 use crate::outbox::Outbox;
-use frame_queues::FirstPackets;
+use frame_queues::{Caller, FirstPackets};
 use link_frames::Packet;
 use node_lock::{Call, Job, Outcome, Seat};
 use owner_streams::WINDOW;
@@ -66,7 +65,11 @@ impl Front {
             packet = self.again.pop_front();
         }
         match packet {
-            Some(packet) => Some(Caller::Nobody.job(Call::Step(Event::Take(packet)))),
+            Some(packet) => {
+                let number = Caller::Nobody.number();
+                let call = Call::Step(Event::Take(packet));
+                Some(Job { number, call })
+            }
             None => queue.take(rt),
         }
     }

@@ -1,7 +1,7 @@
 //! The way of jobs into the inbox and out of it.
 
-ghost use Rattle.std.specs.Prelude.{All};
-ghost use Rattle.node_lock.specs.Inboxes.{IsPassTo, IsNewPassTo};
+ghost use Rattle.std.specs.Prelude.{◌≡◌, All, OnOk, OnErr, MatchOption};
+ghost use Rattle.node_lock.specs.Inboxes.{IsPassTo, IsNewPassTo, after_put, after_take};
 
 use node_lock::{Inbox, InboxPass, Job};
 use std::alloc::{AllocError, Global};
@@ -16,17 +16,22 @@ pub struct JobQueue<'a> {
 }
 
 impl<'a> JobQueue<'a> {
-    /// Puts a job into the inbox. The workers hear of it by [`ring`](crate::shared::Shared::ring).
+    /// Puts a job into the inbox. The workers hear of it by `ring`.
     ///
     /// # Errors
     ///
     /// The inbox is full. The job is handed back.
-    pub fn put<R: Wait>(&mut self, rt: &R, job: Job) -> Result<(), Job> {
+    pub fn put<R: Wait>(&mut self, rt: &R, job: Job) -> Result<(), Job>
+        ensures ok { OnOk result (self.new.pass ≡ after_put self.old.pass job) }
+        ensures full { OnErr result (self.new.pass ≡ self.old.pass) }
+    {
         self.inbox.put(rt, &mut self.pass, job)
     }
 
     /// Takes the next job.
-    pub fn take<R: Wait>(&mut self, rt: &R) -> Option<Job> {
+    pub fn take<R: Wait>(&mut self, rt: &R) -> Option<Job>
+        ensures { MatchOption result (self.new.pass ≡ self.old.pass) (λ job. self.new.pass ≡ after_take self.old.pass job) }
+    {
         self.inbox.take(rt, &mut self.pass)
     }
 }

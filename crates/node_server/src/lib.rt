@@ -7,59 +7,52 @@
 //! threads that wait for it.
 //!
 //! The server does not know what is behind the lock (`HeldNode`), nor by which keys frames open (`FrameKeys`).
-//! `specs/Served.antt` says what a client hears and what the node sends, `specs/Frames.antt` which frame a message
-//! gets, and `frame_queues` which bytes that come are frames, and which bytes go over a connection.
+//! `specs/Served.antt` says what a client hears and what the node sends, `specs/Told.antt` which answers it reads,
+//! `specs/Callers.antt` who waits for a job, and `frame_queues` which frame a message gets, which bytes that come are
+//! frames, which connections have a place, and which bytes go over a connection.
 #![tactic(auto)]
 
 ghost use denote.Param.Send.{IsSend, IsSync};
 
 pub mod answers;
 mod behind;
-mod caller;
 mod client_stream;
 mod clients;
-mod clock;
 mod crew;
-mod dials;
 mod fault;
 mod front;
 mod job_queue;
-mod keys;
 mod outbox;
 mod peers;
-mod port;
 mod ports;
 mod said;
 mod server;
 mod slot;
-mod waiting;
+mod told;
 mod workers;
 
 pub use behind::{HeldNode, NotKept};
-use caller::MOST_CLIENTS;
 use clients::answer_client;
-use clock::millis;
 use crew::Crew;
-use dials::Dials;
 pub use fault::ServerFault;
+use frame_queues::MOST_CLIENTS;
+pub use frame_queues::{ClusterKeys, FrameKeys, PeerName};
 use front::Front;
 use job_queue::{JobQueue, job_queues};
-pub use keys::{ClusterKeys, FrameKeys, PeerName};
 use mio::Waker;
 use node_lock::{Inbox, Seat};
 use outbox::Outbox;
 use peers::{PLACES, Peers};
-use ports::Ports;
+use ports::{Ports, poll_of};
 pub use said::Said;
-use server::Server;
+use server::{Server, millis};
 use slot::Slot;
 use std::alloc::{AllocError, Global};
 use std::net::{Net, SocketAddr, TcpListener, TcpStream};
-use std::sync::{Mutex, Wait};
+use std::sync::{Condvar, Mutex, Wait};
 use std::thread::Threads;
 use std::time::{Clock, Duration};
 use std::{io, thread};
-use waiting::Waiting;
 use workers::Worker;
 
 /// How many workers there are.
@@ -93,10 +86,7 @@ pub fn listen<R: Net<Listener = TcpListener, Stream = TcpStream>>(
     rt: &R,
     address: SocketAddr,
 ) -> Result<TcpListener, ServerFault> {
-    match bound(rt, address) {
-        Ok(listener) => Ok(listener),
-        Err(error) => Err(fault_of(&error)),
-    }
+    bound(rt, address).map_err(fault_of)
 }
 
 fn bound<R: Net<Listener = TcpListener, Stream = TcpStream>>(
@@ -108,7 +98,7 @@ fn bound<R: Net<Listener = TcpListener, Stream = TcpStream>>(
     Ok(listener)
 }
 
-fn fault_of(error: &io::Error) -> ServerFault {
+fn fault_of(error: io::Error) -> ServerFault {
     if error.kind() == io::ErrorKind::OutOfMemory {
         ServerFault::Memory
     } else {
@@ -120,7 +110,7 @@ fn fault_of(error: &io::Error) -> ServerFault {
 ///
 /// # Errors
 ///
-/// `Device` where a listener has failed or what was recorded could not be kept, and `Memory`.
+/// `Device` where the ports can't be waited for or what was recorded could not be kept, and `Memory`.
 pub fn serve<N: HeldNode + Send + Drop, K: FrameKeys + Sync + Drop, R>(
     rt: &R,
     alloc: Global,
@@ -135,20 +125,37 @@ where
     let (inbox, passes) = Inbox::new(alloc, PASSES)?;
     let mut queues = job_queues(alloc, &inbox, passes)?;
     let queue = queues.pop().ok_or(ServerFault::Memory)?;
-    let peers = Peers::new(alloc, queue, millis(rt))?;
-    let dials = Dials::new(alloc, &others(alloc, &keys, &site.addresses)?)?;
+    let outboxes = outboxes(alloc, &keys, &site.addresses)?;
+    let (poll, waker) = poll_of(rt).map_err(fault_of)?;
+    let server = server_of(
+        rt, alloc, node, seats, keys, queues, outboxes, waker, site.idle,
+    )?;
+    let peers = Peers::new(&server, queue)?;
     let listeners = (site.peers, site.clients);
-    let (ports, waker) = match Ports::new(rt, alloc, listeners, peers, dials) {
-        Ok(made) => made,
-        Err(error) => return Err(fault_of(&error)),
-    };
-    let server = server_of(rt, alloc, node, seats, keys, queues, waker, site.idle)?;
-    run(&server, ports)?;
-    if server.crew.lock(rt).value.failed {
+    run(Ports::new(&server, poll, listeners, peers).map_err(fault_of)?)?;
+    if server.crew.lock(rt).failed {
         Err(ServerFault::Device)
     } else {
         Ok(())
     }
+}
+
+/// An empty outbox for each other node, by its address.
+fn outboxes<K: FrameKeys>(
+    alloc: Global,
+    keys: &K,
+    addresses: &[SocketAddr],
+) -> Result<Vec<Outbox>, AllocError> {
+    let sizes = keys.sizes();
+    let mut made = Vec::new(alloc);
+    for (index, address) in (0..sizes.n()).zip(addresses) {
+        if let Some(name) = sizes.name(index) {
+            if name != keys.me() {
+                made.push(Outbox::new(alloc, name, *address))?;
+            }
+        }
+    }
+    Ok(made)
 }
 
 /// What the threads share, before the first of them begins.
@@ -163,70 +170,30 @@ fn server_of<'a, N: HeldNode + Drop, K: FrameKeys + Drop, R: Clock>(
     mut seats: Vec<Seat<N::Ledger>>,
     keys: K,
     mut queues: Vec<JobQueue<'a>>,
+    outboxes: Vec<Outbox>,
     waker: Waker,
     idle: Duration,
 ) -> Result<Server<'a, N, K, R>, AllocError> {
     let view_seat = seats.pop().ok_or(AllocError)?;
-    let slots = slots(alloc, &mut queues)?;
+    let mut slots = Vec::new(alloc);
+    for _ in 0..MOST_CLIENTS {
+        slots.push(Slot::new(alloc, queues.pop().ok_or(AllocError)?)?)?;
+    }
     let front = Front::new(alloc, keys.sizes(), keys.me(), millis(rt))?;
     let crew = crew_of(alloc, seats, queues, front, keys.sizes().n())?;
-    let outboxes = outboxes(alloc, &keys)?;
     Ok(Server {
         rt,
         alloc,
         node: Mutex::new(node),
         view_seat: Mutex::new(view_seat),
         keys,
-        crew: Waiting::new(crew),
+        crew: Mutex::new(crew),
+        left: Condvar::new(),
         outboxes,
         slots,
         waker,
         idle,
     })
-}
-
-/// The addresses of the other nodes.
-fn others<K: FrameKeys>(
-    alloc: Global,
-    keys: &K,
-    addresses: &[SocketAddr],
-) -> Result<Vec<SocketAddr>, AllocError> {
-    let me = usize::from(keys.me().index());
-    let mut made = Vec::new(alloc);
-    for (index, address) in addresses.iter().enumerate() {
-        if index != me {
-            made.push(*address)?;
-        }
-    }
-    Ok(made)
-}
-
-/// An empty outbox for each other node.
-fn outboxes<K: FrameKeys>(alloc: Global, keys: &K) -> Result<Vec<Outbox>, AllocError> {
-    let sizes = keys.sizes();
-    let mut made = Vec::new(alloc);
-    for index in 0..sizes.n() {
-        if let Some(name) = sizes.name(index) {
-            if name != keys.me() {
-                made.push(Outbox::new(alloc, name))?;
-            }
-        }
-    }
-    Ok(made)
-}
-
-/// A free place for each client, with one of these queues.
-///
-/// # Errors
-///
-/// Want of memory, and where there are fewer queues.
-fn slots<'a>(alloc: Global, queues: &mut Vec<JobQueue<'a>>) -> Result<Vec<Slot<'a>>, AllocError> {
-    let mut made = Vec::new(alloc);
-    for _ in 0..MOST_CLIENTS {
-        let queue = queues.pop().ok_or(AllocError)?;
-        made.push(Slot::new(alloc, queue)?)?;
-    }
-    Ok(made)
 }
 
 /// An idle worker for each seat, with a queue of its own, and what comes before these.
@@ -251,11 +218,11 @@ fn crew_of<'a, N: HeldNode>(
         front: Some(front),
         jobs: false,
         connected: Vec::with_capacity(alloc, usize::from(nodes))?,
-        refused: Vec::with_capacity(alloc, usize::from(nodes))?,
         counted: Vec::from_elem(alloc, 0, PLACES)?,
         due: 0,
         wakes: 0,
         failed: false,
+        ended: false,
     })
 }
 
@@ -264,13 +231,13 @@ fn crew_of<'a, N: HeldNode>(
 /// # Errors
 ///
 /// A thread for jobs could not be started.
-fn run<'a, N: HeldNode + Send, K: FrameKeys + Sync, R>(
-    server: &Server<'a, N, K, R>,
-    mut ports: Ports<'a>,
+fn run<N: HeldNode + Send, K: FrameKeys + Sync, R>(
+    mut ports: Ports<'_, '_, N, K, R>,
 ) -> Result<(), AllocError>
 where
     R: Net<Listener = TcpListener, Stream = TcpStream> + Threads + Wait + Clock + Sync,
 {
+    let server = ports.server;
     let started = thread::scope(
         thread::scope_env(),
         server.rt,
@@ -286,13 +253,13 @@ where
                 }
             }
             for _ in server.rt.forever() {
-                if !ports.turn(server) {
+                if !ports.turn() {
                     return true;
                 }
                 for (slot, stream) in ports.newcomers.drain(..) {
                     let begun = scope.spawn(move || answer_client(server, slot, &stream));
                     if begun.is_err() {
-                        server.free(slot);
+                        server.refuse(slot);
                     }
                 }
             }

@@ -1,13 +1,30 @@
 //! Frames that wait for a peer, and the connection over which they go.
 
+ghost use Rattle.std.specs.Prelude.{◌≡◌, ◌≤◌};
+ghost use Rattle.frame_queues.specs.Unsent.{restarted};
+
 use frame_queues::{MOST_FRAMES, UnsentFrames};
 use link_frames::{FRAME_LEN, Frame};
 use mio::net::TcpStream;
+use mio::{Interest, Registry, Token};
 use quorum_sizes::NodeName;
 use std::alloc::Global;
-use std::io;
 use std::io::ErrorKind;
+use std::net::{Net, SocketAddr};
 use std::sync::{Mutex, Wait};
+use std::{io, mem};
+
+/// The milliseconds of the pause before a connection is made again; each further pause is twice as long.
+const FIRST_PAUSE: u64 = 10;
+
+/// The milliseconds of the longest pause.
+const LONGEST_PAUSE: u64 = 1_000;
+
+/// A connection that lived for so many milliseconds was not closed at once.
+const LONG_LIFE: u64 = 1_000;
+
+/// How many milliseconds a connection may take to be made.
+const DIAL_PATIENCE: u64 = 3_000;
 
 /// How many milliseconds a connection may take no bytes before it is given up.
 const PATIENCE: u64 = 5_000;
@@ -15,22 +32,34 @@ const PATIENCE: u64 = 5_000;
 /// So often a connection is written to in a row at most. Each time it takes a byte at least, so all frames go.
 const MOST_WRITES: usize = MOST_FRAMES * FRAME_LEN;
 
-/// The frames, and the connection, which never waits. Who has the lock writes, so one thread does at a time.
+/// How the connection to a peer stands. It never waits.
+#[derive(Drop)]
+enum Link {
+    /// It is made at this time.
+    Later(u64),
+    /// It is being made, up to this time.
+    Begun(TcpStream, u64),
+    /// Frames go over it, since this time.
+    Open(TcpStream, u64),
+}
+
+/// The frames, and the connection. Who has the lock writes, so one thread does at a time.
 #[derive(Drop)]
 struct Line {
     unsent: UnsentFrames,
-    stream: Option<TcpStream>,
-    /// Since when the connection has taken no bytes, while frames wait.
+    link: Link,
+    /// The milliseconds of the next pause.
+    pause: u64,
+    /// Since when the connection has taken no bytes, while frames wait; since ever, where a write has failed.
     full_since: Option<u64>,
-    /// A write has failed. The thread of the ports hears of the end, and closes the connection.
-    failed: bool,
+    ghost short: { pause ≤ 1000 },
 }
 
 impl Line {
     /// Writes until no frame waits, or the connection takes no more or has failed; without one frames wait.
     fn write(&mut self, now: u64) {
         for _ in 0..MOST_WRITES {
-            let Some(stream) = &self.stream else {
+            let Link::Open(stream, _) = &self.link else {
                 return;
             };
             if self.unsent.is_empty() {
@@ -39,40 +68,40 @@ impl Line {
             }
             let mut writer = stream;
             match self.unsent.write(&mut writer) {
-                Ok(0) => {
-                    self.failed = true;
-                    return;
-                }
-                Ok(_) => self.full_since = None,
                 Err(error) if is_later(&error) => {
                     self.full_since = self.full_since.or(Some(now));
                     return;
                 }
-                Err(_) => {
-                    self.failed = true;
+                Ok(0) | Err(_) => {
+                    self.full_since = Some(0);
                     return;
                 }
+                Ok(_) => self.full_since = None,
             }
         }
     }
 
-    /// There is no connection any more. A frame of which a part was written is written again over the next.
-    fn close(&mut self) {
-        self.stream = None;
+    /// There is no connection any more; the next one is made after a pause, twice as long as the one before, unless it
+    /// lived for long. A frame of which a part was written is written again over the next.
+    fn close(&mut self, now: u64)
+        ensures { self.new.unsent ≡ restarted self.old.unsent }
+    {
+        if let Link::Open(_, since) = self.link {
+            if now.saturating_sub(since) >= LONG_LIFE {
+                self.pause = FIRST_PAUSE;
+            }
+        }
+        self.link = Link::Later(now.saturating_add(self.pause));
+        self.pause = self.pause.saturating_mul(2).min(LONGEST_PAUSE);
         self.full_since = None;
-        self.failed = false;
         self.unsent.restart();
     }
 
-    /// Whether the connection has ended, or has taken no bytes for too long.
-    fn has_ended(&self, now: u64) -> bool {
-        let is_stuck = match self.full_since {
+    /// Whether the connection has taken no bytes for too long.
+    fn is_stuck(&self, now: u64) -> bool {
+        match self.full_since {
             Some(since) => now.saturating_sub(since) >= PATIENCE,
             None => false,
-        };
-        match &self.stream {
-            Some(stream) => self.failed || is_stuck || has_closed(stream),
-            None => true,
         }
     }
 }
@@ -80,21 +109,23 @@ impl Line {
 /// The frames to one peer.
 #[derive(Drop)]
 pub struct Outbox {
-    /// The peer.
+    /// The peer, and where it takes frames.
     pub to: NodeName,
+    address: SocketAddr,
     line: Mutex<Line>,
 }
 
 impl Outbox {
-    /// An empty outbox, without a connection.
-    pub fn new(alloc: Global, to: NodeName) -> Outbox {
+    /// An empty outbox, to which a connection is made at once.
+    pub fn new(alloc: Global, to: NodeName, address: SocketAddr) -> Outbox {
         Outbox {
             to,
+            address,
             line: Mutex::new(Line {
                 unsent: UnsentFrames::new(alloc),
-                stream: None,
+                link: Link::Later(0),
+                pause: FIRST_PAUSE,
                 full_since: None,
-                failed: false,
             }),
         }
     }
@@ -102,10 +133,10 @@ impl Outbox {
     /// How many frames more there is room for; `None` while there is no connection.
     pub fn room<R: Wait>(&self, rt: &R) -> Option<u32> {
         let line = self.line.lock(rt);
-        if line.stream.is_none() {
-            return None;
+        match &line.link {
+            Link::Open(_, _) => u32::try_from(line.unsent.room()).ok(),
+            _ => None,
         }
-        u32::try_from(line.unsent.room()).ok()
     }
 
     /// Puts frames behind the others, and writes as far as the connection takes them. What does not fit into 1,024
@@ -113,29 +144,85 @@ impl Outbox {
     pub fn send<R: Wait>(&self, rt: &R, now: u64, frames: &[Frame]) {
         let mut line = self.line.lock(rt);
         let _ = line.unsent.push(frames);
-        if line.full_since.is_none() && !line.failed {
+        if line.full_since.is_none() {
             line.write(now);
         }
     }
 
-    /// There is a connection now, over which all that waits goes.
-    pub fn open<R: Wait>(&self, rt: &R, now: u64, stream: TcpStream) {
+    /// Makes the connection where it is its time, and gives it up where it takes too long to be made. When there is
+    /// something to be done next.
+    pub fn dial<R: Net + Wait>(&self, rt: &R, registry: &Registry, token: Token, now: u64) -> u64 {
         let mut line = self.line.lock(rt);
-        line.close();
-        line.stream = Some(stream);
-        line.write(now);
+        match &line.link {
+            Link::Later(time) if *time <= now => match begin(rt, registry, token, self.address) {
+                Ok(stream) => line.link = Link::Begun(stream, now.saturating_add(DIAL_PATIENCE)),
+                Err(_) => line.close(now),
+            },
+            Link::Begun(_, end) if *end <= now => line.close(now),
+            _ => {}
+        }
+        match &line.link {
+            Link::Later(time) | Link::Begun(_, time) => *time,
+            Link::Open(_, _) => u64::MAX,
+        }
     }
 
-    /// Writes on, where the connection takes bytes again. Whether there still is a connection: one that has ended, or
-    /// has taken no bytes for too long, is closed.
+    /// Something may have come of the connection: it is made now, has ended, or takes bytes again. Whether it is made
+    /// now; then all that waits goes over it.
     pub fn go_on<R: Wait>(&self, rt: &R, now: u64) -> bool {
         let mut line = self.line.lock(rt);
-        if line.has_ended(now) {
-            line.close();
-        } else {
-            line.write(now);
+        match mem::replace(&mut line.link, Link::Later(now)) {
+            Link::Later(time) => line.link = Link::Later(time),
+            Link::Begun(stream, end) => match is_made(&stream) {
+                Ok(true) => {
+                    line.link = Link::Open(stream, now);
+                    line.write(now);
+                    return true;
+                }
+                Ok(false) => line.link = Link::Begun(stream, end),
+                Err(_) => line.close(now),
+            },
+            Link::Open(stream, since) => {
+                let has_ended = line.is_stuck(now) || has_closed(&stream);
+                line.link = Link::Open(stream, since);
+                if has_ended {
+                    line.close(now);
+                } else {
+                    line.write(now);
+                }
+            }
         }
-        line.stream.is_some()
+        false
+    }
+}
+
+/// Begins to make a connection.
+fn begin<R: Net>(
+    rt: &R,
+    registry: &Registry,
+    token: Token,
+    address: SocketAddr,
+) -> io::Result<TcpStream> {
+    let mut stream = TcpStream::connect(rt, address)?;
+    registry.register(&mut stream, token, Interest::READABLE | Interest::WRITABLE)?;
+    Ok(stream)
+}
+
+/// Whether a connection that was begun is made. One with itself, as may come about where nobody listens there, is none.
+fn is_made(stream: &TcpStream) -> io::Result<bool> {
+    if let Some(error) = stream.take_error()? {
+        return Err(error);
+    }
+    match stream.peer_addr() {
+        Ok(peer) => {
+            if stream.local_addr()? == peer {
+                return Err(io::Error::from(ErrorKind::ConnectionRefused));
+            }
+            stream.set_nodelay(true)?;
+            Ok(true)
+        }
+        Err(error) if error.kind() == ErrorKind::NotConnected => Ok(false),
+        Err(error) => Err(error),
     }
 }
 

@@ -1,17 +1,19 @@
 //! The connections of peers: frames in.
 
 use crate::behind::HeldNode;
-use crate::caller::{Caller, MOST_PEERS};
+use crate::crew::REFUSED;
 use crate::job_queue::JobQueue;
-use crate::keys::{FrameKeys, PeerName};
-use crate::server::Server;
-use frame_queues::{BLOCK_FRAMES, Came, FrameBlock, Turn, Turns};
+use crate::server::{Server, millis};
+use frame_queues::{
+    BLOCK_FRAMES, Caller, Came, Connected, FrameBlock, FrameKeys, MOST_PEERS, PeerName, Turn,
+    Turns, place_for, third_of,
+};
 use link_frames::{Frame, Packet};
 use mio::unix::SourceFd;
 use mio::{Interest, Registry, Token};
-use node_lock::Call;
+use node_lock::{Call, Job};
 use role_node::Event;
-use std::alloc::{AllocError, Global};
+use std::alloc::AllocError;
 use std::net::TcpStream;
 use std::os::fd::AsRawFd;
 use std::sync::Wait;
@@ -24,9 +26,6 @@ pub const PLACES: usize = MOST_PEERS as usize;
 /// The milliseconds in which the first frame has to open.
 const FIRST_FRAME: u64 = 2_000;
 
-/// The most connections of one peer.
-const MOST_OF_ONE: u32 = 2;
-
 /// After so many frames the jobs are done before more are put.
 const MOST_PUT: usize = 256;
 
@@ -38,35 +37,23 @@ const LOT_FACTOR: u64 = 6_364_136_223_846_793_005;
 
 /// A connection of a peer, which never waits.
 #[derive(Drop)]
-struct Peer {
+struct Connection {
     stream: TcpStream,
     block: FrameBlock,
-    /// When it came, in milliseconds.
-    begin: u64,
     /// The peer whose frame was the first that opened.
-    from: Option<PeerName>,
-    /// That, where it opened since the connection was last seen to be the peer's.
-    speaker: Option<PeerName>,
+    opened: Option<PeerName>,
     /// What the last read gave.
     came: Came,
-    /// It is noted that there may be bytes.
-    is_ready: bool,
     /// The peer writes no more, so that the end comes behind its bytes.
     has_end: bool,
 }
 
-impl Peer {
-    /// Reads a block at most, or one frame where none has opened yet, and notes whether there may be more. So who can't
-    /// seal frames takes little of each turn.
+impl Connection {
+    /// Reads a block at most, or one frame where none has opened yet: so who can't seal frames takes little of a turn.
     fn read(&mut self) {
-        let most = if self.from.is_some() { BLOCK_FRAMES } else { 1 };
+        let most = if self.opened.is_some() { BLOCK_FRAMES } else { 1 };
         let mut reader = &self.stream;
         self.came = self.block.read(&mut reader, most);
-        self.is_ready = match self.came {
-            Came::Nothing | Came::End => false,
-            Came::Some => self.has_end,
-            Came::More => true,
-        };
     }
 
     /// The whole frames of the last block.
@@ -77,11 +64,11 @@ impl Peer {
 
 /// The connections of peers, each at a place of its own.
 #[derive(Drop)]
-pub struct Peers<'a> {
+pub struct Peers<'a, 'b, N: HeldNode, K: FrameKeys, R> {
+    server: &'b Server<'a, N, K, R>,
     queue: JobQueue<'a>,
-    /// How many jobs were put for which nobody was rung.
-    put: usize,
-    places: Vec<Option<Peer>>,
+    places: Vec<Option<Connected>>,
+    connections: Vec<Option<Connection>>,
     /// The places of the connections that may have bytes.
     ready: Vec<usize>,
     /// The turns in which the frames of their blocks are put.
@@ -90,37 +77,46 @@ pub struct Peers<'a> {
     lot: u64,
 }
 
-impl<'a> Peers<'a> {
-    /// None yet, with room for all. The lots go by the number.
+impl<'a, 'b, N: HeldNode, K: FrameKeys, R: Wait + Clock> Peers<'a, 'b, N, K, R> {
+    /// None yet, with room for all. The lots go by the time.
     ///
     /// # Errors
     ///
     /// Only for want of memory.
-    pub fn new(alloc: Global, queue: JobQueue<'a>, lot: u64) -> Result<Peers<'a>, AllocError> {
-        let mut places = Vec::with_capacity(alloc, PLACES)?;
+    pub fn new(
+        server: &'b Server<'a, N, K, R>,
+        queue: JobQueue<'a>,
+    ) -> Result<Peers<'a, 'b, N, K, R>, AllocError> {
+        let alloc = server.alloc;
+        let mut connections = Vec::with_capacity(alloc, PLACES)?;
         for _ in 0..PLACES {
-            places.push(None)?;
+            connections.push(None)?;
         }
         Ok(Peers {
+            server,
             queue,
-            put: 0,
-            places,
+            places: Vec::from_elem(alloc, None, PLACES)?,
+            connections,
             ready: Vec::with_capacity(alloc, PLACES)?,
             turns: Turns::new(alloc, PLACES)?,
-            lot,
+            lot: millis(server.rt),
         })
     }
 
-    /// Until when to wait at most for what comes next. A connection on which no frame has opened in its time is closed.
+    /// Until when to wait at most for what comes next. A connection on which no frame has opened in its time is closed,
+    /// and so is one of which a packet found no memory.
     pub fn wait_until(&mut self, now: u64) -> u64 {
         let mut wait = if self.ready.is_empty() { u64::MAX } else { now };
-        for place in &mut self.places {
-            let end = match place {
-                Some(peer) if peer.from.is_none() => peer.begin.saturating_add(FIRST_FRAME),
+        for slot in 0..PLACES {
+            let end = match self.places.get(slot) {
+                Some(Some(place)) if place.counted == REFUSED => now,
+                Some(Some(place)) if place.name.is_none() => place
+                    .began
+                    .saturating_add(FIRST_FRAME),
                 _ => continue,
             };
             if end <= now {
-                *place = None;
+                self.close(slot);
             } else {
                 wait = wait.min(end);
             }
@@ -130,142 +126,96 @@ impl<'a> Peers<'a> {
 
     /// Notes that the connection of a place may have bytes, or has its end.
     pub fn note(&mut self, slot: usize, is_closed: bool) {
-        if let Some(Some(peer)) = self.places.get_mut(slot) {
-            peer.has_end |= is_closed;
-            if !peer.is_ready {
-                peer.is_ready = true;
+        if let Some(Some(connection)) = self.connections.get_mut(slot) {
+            connection.has_end |= is_closed;
+            if !self.ready.contains(&slot) {
                 // there is room for each place
                 let _ = self.ready.push(slot);
             }
         }
     }
 
-    /// Gives a place to a connection that has come. The one that has it is closed.
+    /// Gives a place to a connection that has come, and closes the one that has it. Where there is none it is closed.
     ///
     /// # Errors
     ///
     /// As the system answers; `OutOfMemory` for want of memory. The connection is closed.
-    pub fn add(
-        &mut self,
-        alloc: Global,
-        registry: &Registry,
-        now: u64,
-        slot: usize,
-        stream: TcpStream,
-    ) -> io::Result<()> {
+    pub fn add(&mut self, registry: &Registry, now: u64, stream: TcpStream) -> io::Result<()> {
+        self.lot = self.lot.wrapping_mul(LOT_FACTOR).wrapping_add(1);
+        let lot = (self.lot >> 32) as usize % PLACES;
+        let Some(slot) = place_for(&self.places, lot) else {
+            return Ok(());
+        };
         stream.set_nodelay(true)?;
         stream.set_nonblocking(true)?;
-        let Ok(block) = FrameBlock::new(alloc) else {
+        let Ok(block) = FrameBlock::new(self.server.alloc) else {
             return Err(io::Error::from(io::ErrorKind::OutOfMemory));
         };
         self.close(slot);
         let fd = stream.as_raw_fd();
         registry.register(&mut SourceFd(&fd), Token(slot), Interest::READABLE)?;
-        if let Some(place) = self.places.get_mut(slot) {
-            *place = Some(Peer {
-                stream,
-                block,
-                begin: now,
-                from: None,
-                speaker: None,
-                came: Came::Nothing,
-                is_ready: self.ready.contains(&slot),
-                has_end: false,
+        let connection = Connection {
+            stream,
+            block,
+            opened: None,
+            came: Came::Nothing,
+            has_end: false,
+        };
+        if let (Some(place), Some(room)) = (
+            self.places.get_mut(slot),
+            self.connections.get_mut(slot),
+        ) {
+            *place = Some(Connected {
+                name: None,
+                counted: 0,
+                began: now,
             });
+            *room = Some(connection);
         }
+        self.server.forget_counted(slot);
         Ok(())
     }
 
-    /// The place for a connection that comes: the first free one, or that of a connection on which no frame has opened,
-    /// by lot. So who comes again and again keeps nobody out.
-    pub fn vacancy(&mut self) -> Option<usize> {
-        let free = self.places.iter().position(|place| place.is_none());
-        if free.is_some() {
-            return free;
-        }
-        self.lot = self.lot.wrapping_mul(LOT_FACTOR).wrapping_add(1);
-        let first = (self.lot >> 32) as usize % PLACES;
-        (first..PLACES)
-            .chain(0..first)
-            .find(|slot| self.speaker_at(*slot).is_none())
-    }
-
     /// Closes the connection of a place, if there is one.
-    pub fn close(&mut self, slot: usize) {
-        if let Some(place) = self.places.get_mut(slot) {
+    fn close(&mut self, slot: usize) {
+        if let (Some(place), Some(room)) = (
+            self.places.get_mut(slot),
+            self.connections.get_mut(slot),
+        ) {
             *place = None;
+            *room = None;
         }
     }
 
     /// Reads of each connection that may have bytes, one block at most, and puts the frames of these blocks in turns, a
     /// few of each: so no connection's block is behind another's. Those that may have more stay ready.
-    pub fn read_ready<N: HeldNode, K: FrameKeys, R: Wait + Clock>(
-        &mut self,
-        server: &Server<'_, N, K, R>,
-    ) {
+    pub fn read_ready(&mut self) {
         for slot in &self.ready {
-            if let Some(Some(peer)) = self.places.get_mut(*slot) {
-                peer.read();
+            if let Some(Some(connection)) = self.connections.get_mut(*slot) {
+                connection.read();
                 // there is room for each place
-                let _ = self.turns.add(*slot, peer.frames().len());
+                let _ = self.turns.add(*slot, connection.frames().len());
             }
         }
-        // each turn takes some frames of those that were read
-        for _ in server.rt.forever() {
+        let mut put = 0usize;
+        for _ in self.server.rt.forever() {
             let Some(turn) = self.turns.next() else {
                 break;
             };
-            self.put(server, turn);
-            if self.put >= MOST_PUT {
-                self.put = 0;
-                server.ring();
+            put = put.saturating_add(self.put(turn));
+            if put >= MOST_PUT {
+                put = 0;
+                self.server.ring();
             }
         }
-        if self.put > 0 {
-            self.put = 0;
-            server.ring();
+        if put > 0 {
+            self.server.ring();
         }
-        self.keep_ready(server);
-    }
-
-    /// Puts the packets of some frames of a connection's block into the inbox. A frame that does not open is lost, and
-    /// the connection ends where it is the first.
-    fn put<N: HeldNode, K: FrameKeys, R: Wait + Clock>(
-        &mut self,
-        server: &Server<'_, N, K, R>,
-        turn: Turn,
-    ) {
-        let (Ok(slot), Some(Some(peer))) = (
-            u32::try_from(turn.block),
-            self.places.get_mut(turn.block),
-        ) else {
-            return;
-        };
-        let mut speaker = peer.from.or(peer.speaker);
-        for frame in peer.frames().get(turn.from..turn.to).unwrap_or(&[]) {
-            if let Some(packet) = server.keys.open(frame) {
-                speaker = speaker.or(Some(server.keys.peer(&packet)));
-                put_packet(server, &mut self.queue, slot, packet);
-                self.put = self.put.saturating_add(1);
-            } else if speaker.is_none() {
-                peer.came = Came::End;
-                break;
-            }
-        }
-        peer.speaker = speaker;
-    }
-
-    /// Closes the connections that have ended, and those that are too many of one peer. Keeps those that may have more.
-    fn keep_ready<N: HeldNode, K: FrameKeys, R: Wait + Clock>(
-        &mut self,
-        server: &Server<'_, N, K, R>,
-    ) {
+        self.server.note_counted(&mut self.places);
         let mut kept = 0usize;
         for at in 0..self.ready.len() {
-            let Some(slot) = self.ready.get(at).copied() else {
-                break;
-            };
-            if self.goes_on(server, slot) {
+            let slot = self.ready.get(at).copied().unwrap_or(PLACES);
+            if self.goes_on(slot) {
                 if let Some(place) = self.ready.get_mut(kept) {
                     *place = slot;
                 }
@@ -275,59 +225,56 @@ impl<'a> Peers<'a> {
         self.ready.truncate(kept);
     }
 
-    /// Whether a connection may have more. It is closed at its end; where its first frame has opened it is the peer's
-    /// from now on.
-    fn goes_on<N: HeldNode, K: FrameKeys, R: Wait + Clock>(
-        &mut self,
-        server: &Server<'_, N, K, R>,
-        slot: usize,
-    ) -> bool {
-        let Some(Some(peer)) = self.places.get(slot) else {
+    /// Puts the packets of some frames of a connection's block into the inbox. How many. A frame that does not open is
+    /// lost, and the connection ends where it is the first.
+    fn put(&mut self, turn: Turn) -> usize {
+        let server = self.server;
+        let (Ok(slot), Some(Some(connection))) = (
+            u32::try_from(turn.block),
+            self.connections.get_mut(turn.block),
+        ) else {
+            return 0;
+        };
+        let mut opened = connection.opened;
+        let mut count = 0usize;
+        for frame in connection.frames().get(turn.from..turn.to).unwrap_or(&[]) {
+            if let Some(packet) = server.keys.open(frame) {
+                opened = opened.or(Some(server.keys.peer(&packet)));
+                put_packet(server, &mut self.queue, slot, packet);
+                count = count.saturating_add(1);
+            } else if opened.is_none() {
+                connection.came = Came::End;
+                break;
+            }
+        }
+        connection.opened = opened;
+        count
+    }
+
+    /// Whether a connection may have more. It is closed at its end. Where its first frame has opened it is the peer's
+    /// from now on, and the third of that peer is closed: so a peer's connection runs to its end beside the next, and
+    /// who sends a captured frame again and again ends none but his own.
+    fn goes_on(&mut self, slot: usize) -> bool {
+        let (Some(Some(connection)), Some(Some(place))) = (
+            self.connections.get(slot),
+            self.places.get_mut(slot),
+        ) else {
             return false;
         };
-        let is_ready = peer.is_ready;
-        let (came, from, speaker) = (peer.came, peer.from, peer.speaker);
-        if came == Came::End {
+        let goes_on = match connection.came {
+            Came::Nothing | Came::End => false,
+            Came::Some => connection.has_end,
+            Came::More => true,
+        };
+        if connection.came == Came::End {
             self.close(slot);
-        } else if from.is_none() && speaker.is_some() {
-            if let Some(Some(peer)) = self.places.get_mut(slot) {
-                peer.from = speaker;
-            }
-            self.close_third(server, slot);
-        }
-        is_ready
-    }
-
-    /// Of three connections of a peer that one is closed on which a frame counted least recently, and of those on which
-    /// none has the older. So a peer's connection runs to its end beside the next, and who sends a captured frame again
-    /// and again ends none but his own.
-    fn close_third<N: HeldNode, K: FrameKeys, R: Wait + Clock>(
-        &mut self,
-        server: &Server<'_, N, K, R>,
-        slot: usize,
-    ) {
-        let name = self.speaker_at(slot);
-        let mut count = 0u32;
-        let mut least = (u64::MAX, u64::MAX, slot);
-        for at in 0..PLACES {
-            if let Some(Some(peer)) = self.places.get(at) {
-                if peer.from == name {
-                    count = count.saturating_add(1);
-                    least = least.min((server.counted_at(at), peer.begin, at));
-                }
+        } else if let (None, Some(name)) = (place.name, connection.opened) {
+            place.name = Some(name);
+            if let Some(third) = third_of(&self.places, name) {
+                self.close(third);
             }
         }
-        if count > MOST_OF_ONE {
-            self.close(least.2);
-        }
-    }
-
-    /// The peer whose connection is at the place.
-    fn speaker_at(&self, slot: usize) -> Option<PeerName> {
-        match self.places.get(slot) {
-            Some(Some(peer)) => peer.from,
-            _ => None,
-        }
+        goes_on
     }
 }
 
@@ -339,8 +286,9 @@ fn put_packet<N: HeldNode, K: FrameKeys, R: Wait + Clock>(
     packet: Packet,
 ) {
     for _ in server.rt.forever() {
-        let job = Caller::Peer { slot }.job(Call::Step(Event::Take(packet)));
-        if queue.put(server.rt, job).is_ok() || server.has_ended() {
+        let number = Caller::Peer { slot }.number();
+        let call = Call::Step(Event::Take(packet));
+        if queue.put(server.rt, Job { number, call }).is_ok() || server.has_ended() {
             return;
         }
         server.ring();

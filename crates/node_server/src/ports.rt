@@ -1,16 +1,13 @@
 //! The thread of the ports: it waits at once for all that comes and for room to write.
 
 use crate::behind::HeldNode;
-use crate::clock::millis;
-use crate::dials::Dials;
-use crate::keys::FrameKeys;
 use crate::peers::{PLACES, Peers};
-use crate::port::Port;
-use crate::server::Server;
+use crate::server::{Server, millis};
+use frame_queues::FrameKeys;
 use mio::unix::SourceFd;
 use mio::{Events, Interest, Poll, Token, Waker};
-use std::alloc::Global;
 use std::io;
+use std::io::ErrorKind;
 use std::net::{Net, TcpListener, TcpStream};
 use std::os::fd::AsRawFd;
 use std::sync::{Arc, Wait};
@@ -24,7 +21,7 @@ const CLIENT_PORT: usize = PEER_PORT + 1;
 
 const WAKER: usize = CLIENT_PORT + 1;
 
-pub const FIRST_DIAL: usize = WAKER + 1;
+const FIRST_DIAL: usize = WAKER + 1;
 
 /// The most events of one wait.
 const MOST_EVENTS: usize = FIRST_DIAL + PLACES;
@@ -38,70 +35,119 @@ const NEXT_LOOK: u64 = 1_000;
 /// How many connections of each port are taken in a turn.
 const MOST_NEWCOMERS: usize = 32;
 
+/// The milliseconds until a listener is asked again that has failed.
+const NEXT_TRY: u64 = 5;
+
+/// How many milliseconds a client waits for a place. Where none is free then it is closed.
+const PLACE_PATIENCE: u64 = 1_000;
+
 /// How many milliseconds a write to a client may wait until some bytes are taken; then its connection is closed.
 const WRITE_PATIENCE: u64 = 1_000;
 
+/// A listener that never waits.
+#[derive(Drop)]
+struct Port {
+    listener: TcpListener,
+    /// When to accept, in milliseconds; at no time until the poll reports the listener.
+    accept_at: u64,
+}
+
+impl Port {
+    /// The next connection that has come; none where none is left. A listener that fails is asked again a little later.
+    fn accept(&mut self, now: u64) -> Option<TcpStream> {
+        if self.accept_at > now {
+            return None;
+        }
+        match self.listener.accept() {
+            Ok((stream, _)) => Some(stream),
+            Err(error) => {
+                let is_empty = error.kind() == ErrorKind::WouldBlock;
+                self.accept_at = if is_empty {
+                    u64::MAX
+                } else {
+                    now.saturating_add(NEXT_TRY)
+                };
+                None
+            }
+        }
+    }
+}
+
+/// The port of a listener that never waits, for which the poll waits under this number.
+fn port_of(poll: &Poll, listener: TcpListener, number: usize) -> io::Result<Port> {
+    let fd = listener.as_raw_fd();
+    poll.registry()
+        .register(&mut SourceFd(&fd), Token(number), Interest::READABLE)?;
+    let accept_at = u64::MAX;
+    Ok(Port {
+        listener,
+        accept_at,
+    })
+}
+
 /// The two ports, the connections of peers and those to them.
 #[derive(Drop)]
-pub struct Ports<'a> {
+pub struct Ports<'a, 'b, N: HeldNode, K: FrameKeys, R> {
+    pub server: &'b Server<'a, N, K, R>,
     poll: Poll,
     events: Events,
     peer_port: Port,
     client_port: Port,
-    peers: Peers<'a>,
-    dials: Dials,
-    /// When the connections to peers are looked at next.
+    peers: Peers<'a, 'b, N, K, R>,
+    /// When a connection to a peer is made next, and when all of these are looked at.
+    next_dial: u64,
     next_look: u64,
-    /// Room for the places of connections that are to be closed.
-    refused: Vec<u32>,
+    /// Until when a client that has come waits for a place; at no time where none waits.
+    place_until: u64,
     /// The clients that have come, at these places, for which a thread is to be started.
     pub newcomers: Vec<(u32, Arc<TcpStream>)>,
 }
 
-impl<'a> Ports<'a> {
-    /// The ports of these listeners, for peers and for clients, which never wait; and what wakes the thread.
+/// What the thread of the ports waits by, and what wakes it.
+///
+/// # Errors
+///
+/// As the system answers.
+pub fn poll_of(rt: &impl Net) -> io::Result<(Poll, Waker)> {
+    let poll = Poll::new(rt)?;
+    let waker = Waker::new(poll.registry(), Token(WAKER))?;
+    Ok((poll, waker))
+}
+
+impl<'a, 'b, N: HeldNode, K: FrameKeys, R: Net + Wait + Clock> Ports<'a, 'b, N, K, R> {
+    /// The ports of these listeners, for peers and for clients, which never wait.
     ///
     /// # Errors
     ///
     /// As the system answers; `OutOfMemory` for want of memory.
     pub fn new(
-        rt: &impl Net,
-        alloc: Global,
+        server: &'b Server<'a, N, K, R>,
+        poll: Poll,
         listeners: (TcpListener, TcpListener),
-        peers: Peers<'a>,
-        dials: Dials,
-    ) -> io::Result<(Ports<'a>, Waker)> {
-        let (peer_port, client_port) = listeners;
-        let poll = Poll::new(rt)?;
-        for (listener, number) in [(&peer_port, PEER_PORT), (&client_port, CLIENT_PORT)] {
-            let fd = listener.as_raw_fd();
-            let registry = poll.registry();
-            registry.register(&mut SourceFd(&fd), Token(number), Interest::READABLE)?;
-        }
-        let waker = Waker::new(poll.registry(), Token(WAKER))?;
-        let Ok(events) = Events::with_capacity(alloc, MOST_EVENTS) else {
-            return Err(io::Error::from(io::ErrorKind::OutOfMemory));
+        peers: Peers<'a, 'b, N, K, R>,
+    ) -> io::Result<Ports<'a, 'b, N, K, R>> {
+        let Ok(events) = Events::with_capacity(server.alloc, MOST_EVENTS) else {
+            return Err(io::Error::from(ErrorKind::OutOfMemory));
         };
-        let ports = Ports {
+        let (peer_port, client_port) = listeners;
+        Ok(Ports {
+            server,
+            peer_port: port_of(&poll, peer_port, PEER_PORT)?,
+            client_port: port_of(&poll, client_port, CLIENT_PORT)?,
             poll,
             events,
-            peer_port: Port::new(peer_port),
-            client_port: Port::new(client_port),
             peers,
-            dials,
+            next_dial: 0,
             next_look: 0,
-            refused: Vec::new(alloc),
-            newcomers: Vec::new(alloc),
-        };
-        Ok((ports, waker))
+            place_until: u64::MAX,
+            newcomers: Vec::new(server.alloc),
+        })
     }
 
     /// Waits for what comes next, and does it; the clients that have come are then among the newcomers. False at the
-    /// end, to which a wait or a port that fails brings the node.
-    pub fn turn<N: HeldNode, K: FrameKeys, R: Net + Wait + Clock>(
-        &mut self,
-        server: &Server<'_, N, K, R>,
-    ) -> bool {
+    /// end, to which a wait that fails brings the node.
+    pub fn turn(&mut self) -> bool {
+        let server = self.server;
         let now = millis(server.rt);
         let wait = server.wait_until_due(now, self.wait_until(now));
         let time = Duration::from_millis(wait);
@@ -110,23 +156,15 @@ impl<'a> Ports<'a> {
             return false;
         }
         let now = millis(server.rt);
-        self.note_events(server, now);
-        self.peers.read_ready(server);
-        if self.next_look <= now {
-            self.next_look = now.saturating_add(NEXT_LOOK);
-            self.dials.look(server.rt, &server.outboxes, now);
-        }
-        self.dials.make_due(server.rt, self.poll.registry(), now);
+        self.note_events(now);
+        self.peers.read_ready();
+        self.dial(now);
         if server.is_due(now) {
             server.ring();
         }
-        self.close_refused(server);
-        let taken = self.take_peers(server, now);
-        if polled
-            .and(taken)
-            .and(self.take_clients(server, now))
-            .is_err()
-        {
+        self.take_peers(now);
+        self.take_clients(now);
+        if polled.is_err() {
             server.fail();
         }
         true
@@ -134,17 +172,18 @@ impl<'a> Ports<'a> {
 
     /// Until when to wait at most for what comes next.
     fn wait_until(&mut self, now: u64) -> u64 {
-        let accept_at = self.peer_port.accept_at.min(self.client_port.accept_at);
-        let due = self.peers.wait_until(now).min(self.dials.next_time());
-        due.min(accept_at).min(now.saturating_add(LONGEST_WAIT))
+        let client = match self.place_until {
+            u64::MAX => self.client_port.accept_at,
+            until => until,
+        };
+        let due = self.peers.wait_until(now);
+        let due = due.min(self.next_dial).min(self.peer_port.accept_at);
+        due.min(client).min(now.saturating_add(LONGEST_WAIT))
     }
 
     /// Notes what came: connections on the ports, bytes of peers, and what befell the connections to them.
-    fn note_events<N: HeldNode, K: FrameKeys, R: Wait + Clock>(
-        &mut self,
-        server: &Server<'_, N, K, R>,
-        now: u64,
-    ) {
+    fn note_events(&mut self, now: u64) {
+        let server = self.server;
         for event in &self.events {
             let Token(number) = event.token();
             if number == PEER_PORT {
@@ -154,75 +193,79 @@ impl<'a> Ports<'a> {
             } else if number < PLACES {
                 self.peers.note(number, event.is_read_closed());
             } else if number >= FIRST_DIAL {
-                let at = number - FIRST_DIAL;
-                if let Some(peer) = self.dials.note(server.rt, &server.outboxes, at, now) {
-                    server.connect(peer);
-                }
+                server.go_on(number - FIRST_DIAL, now);
+                self.next_dial = now;
             }
         }
     }
 
-    /// Closes the connections of which a packet found no memory.
-    fn close_refused<N: HeldNode, K: FrameKeys, R: Wait + Clock>(
-        &mut self,
-        server: &Server<'_, N, K, R>,
-    ) {
-        server.take_refused(&mut self.refused);
-        for slot in self.refused.drain(..) {
-            self.peers.close(slot as usize);
+    /// Makes the connections to peers whose time it is, and looks at all of them now and then, of which some may have
+    /// taken no bytes for too long.
+    fn dial(&mut self, now: u64) {
+        let server = self.server;
+        if self.next_look <= now {
+            self.next_look = now.saturating_add(NEXT_LOOK);
+            self.next_dial = now;
+            for at in 0..server.outboxes.len() {
+                server.go_on(at, now);
+            }
+        }
+        if self.next_dial <= now {
+            self.next_dial = u64::MAX;
+            for (at, outbox) in server.outboxes.iter().enumerate() {
+                let token = Token(FIRST_DIAL.saturating_add(at));
+                let next = outbox.dial(server.rt, self.poll.registry(), token, now);
+                self.next_dial = self.next_dial.min(next);
+            }
         }
     }
 
     /// Takes the connections of peers that have come. One for which there is no place is closed.
-    ///
-    /// # Errors
-    ///
-    /// The port has failed too often.
-    fn take_peers<N: HeldNode, K: FrameKeys, R: Wait + Clock>(
-        &mut self,
-        server: &Server<'_, N, K, R>,
-        now: u64,
-    ) -> io::Result<()> {
+    fn take_peers(&mut self, now: u64) {
         for _ in 0..MOST_NEWCOMERS {
-            let Some(stream) = self.peer_port.accept(now)? else {
-                break;
+            let Some(stream) = self.peer_port.accept(now) else {
+                return;
             };
-            if let Some(slot) = self.peers.vacancy() {
-                let registry = self.poll.registry();
-                server.forget_counted(slot);
-                let _ = self.peers.add(server.alloc, registry, now, slot, stream);
-            }
+            let _ = self.peers.add(self.poll.registry(), now, stream);
         }
-        Ok(())
     }
 
-    /// Takes the clients that have come. One for which there is no place is closed.
-    ///
-    /// # Errors
-    ///
-    /// The port has failed too often.
-    fn take_clients<N: HeldNode, K: FrameKeys, R: Wait + Clock>(
-        &mut self,
-        server: &Server<'_, N, K, R>,
-        now: u64,
-    ) -> io::Result<()> {
+    /// Takes the clients that have come. Where no place is free they wait for one, and are closed after a while.
+    fn take_clients(&mut self, now: u64) {
+        let server = self.server;
         for _ in 0..MOST_NEWCOMERS {
-            let Some(stream) = self.client_port.accept(now)? else {
-                break;
-            };
-            if prepare(&stream, server.idle).is_err() {
-                continue;
+            if self.client_port.accept_at > now {
+                self.place_until = u64::MAX;
+                return;
             }
-            let Ok(stream) = Arc::new(server.alloc, stream) else {
-                continue;
-            };
-            if let Some(slot) = server.place(&stream) {
-                if self.newcomers.push((slot, stream)).is_err() {
-                    server.free(slot);
-                }
+            let place = server.slots.iter().position(|slot| slot.is_free(server.rt));
+            if place.is_none() && now < self.place_until {
+                self.place_until = self.place_until.min(now.saturating_add(PLACE_PATIENCE));
+                return;
+            }
+            if let (Some(stream), Some(place)) = (self.client_port.accept(now), place) {
+                self.place_until = u64::MAX;
+                self.give(place, stream);
             }
         }
-        Ok(())
+    }
+
+    /// Gives a place to a client. Where that fails its connection is closed.
+    fn give(&mut self, place: usize, stream: TcpStream) {
+        let server = self.server;
+        if prepare(&stream, server.idle).is_err() {
+            return;
+        }
+        let (Ok(number), Some(slot), Ok(stream)) = (
+            u32::try_from(place),
+            server.slots.get(place),
+            Arc::new(server.alloc, stream),
+        ) else {
+            return;
+        };
+        if slot.give(server.rt, &stream) && self.newcomers.push((number, stream)).is_err() {
+            slot.refuse(server.rt);
+        }
     }
 }
 

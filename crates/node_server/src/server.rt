@@ -1,23 +1,22 @@
 //! What the threads of a serving node share.
 
+ghost use Rattle.std.specs.Prelude.{◌≤◌};
+ghost use Rattle.peer_windows.specs.Pauses.{most_time};
+
 use crate::behind::HeldNode;
-use crate::clock::millis;
 use crate::crew::Crew;
-use crate::keys::FrameKeys;
 use crate::outbox::Outbox;
 use crate::said::Said;
 use crate::slot::Slot;
-use crate::waiting::Waiting;
+use frame_queues::FrameKeys;
 use link_frames::{Frame, Message, Place};
 use mio::Waker;
 use node_lock::{Call, Seat};
-use peer_windows::Owed;
+use peer_windows::{MOST_TIME, Owed};
 use quorum_sizes::NodeName;
 use role_node::Question;
 use std::alloc::Global;
-use std::mem;
-use std::net::TcpStream;
-use std::sync::{Arc, Mutex, Wait};
+use std::sync::{Condvar, Mutex, Wait};
 use std::time::{Clock, Duration};
 
 /// What the threads of a serving node share.
@@ -29,7 +28,9 @@ pub struct Server<'a, N: HeldNode, K: FrameKeys, R> {
     /// The seat of those who only look.
     pub view_seat: Mutex<Seat<N::Ledger>>,
     pub keys: K,
-    pub crew: Waiting<Crew<'a, N>>,
+    pub crew: Mutex<Crew<'a, N>>,
+    /// Threads wait here for jobs that are left to them.
+    pub left: Condvar,
     /// An outbox for each other node.
     pub outboxes: Vec<Outbox>,
     /// A place for each client.
@@ -43,7 +44,8 @@ pub struct Server<'a, N: HeldNode, K: FrameKeys, R> {
 impl<N: HeldNode, K: FrameKeys, R: Wait + Clock> Server<'_, N, K, R> {
     /// Ends every thread.
     pub fn end(&self) {
-        self.crew.end(self.rt);
+        self.crew.lock(self.rt).ended = true;
+        self.left.notify_all();
         for slot in &self.slots {
             slot.end(self.rt);
         }
@@ -52,7 +54,7 @@ impl<N: HeldNode, K: FrameKeys, R: Wait + Clock> Server<'_, N, K, R> {
 
     /// A port has failed, or what was recorded is not kept, which ends the node.
     pub fn fail(&self) {
-        self.crew.lock(self.rt).value.failed = true;
+        self.crew.lock(self.rt).failed = true;
         self.end();
     }
 
@@ -61,31 +63,17 @@ impl<N: HeldNode, K: FrameKeys, R: Wait + Clock> Server<'_, N, K, R> {
         self.crew.lock(self.rt).ended
     }
 
-    /// Exchanges the places of the connections of which a packet found no memory for other room.
-    pub fn take_refused(&self, room: &mut Vec<u32>) {
-        mem::swap(&mut self.crew.lock(self.rt).value.refused, room);
-    }
-
-    /// Gives a client's connection to the first free place. The number of the place.
-    pub fn place(&self, stream: &Arc<TcpStream>) -> Option<u32> {
-        let at = self
-            .slots
-            .iter()
-            .position(|slot| slot.give(self.rt, stream))?;
-        u32::try_from(at).ok()
-    }
-
-    /// The place is free again, for want of a thread.
-    pub fn free(&self, slot: u32) {
-        if let Some(slot) = self.slots.get(slot as usize) {
-            slot.refuse(self.rt);
-        }
-    }
-
     /// Wakes the thread of the ports.
     pub fn wake_ports(&self) {
         // where that fails it wakes a little later
         let _ = self.waker.wake();
+    }
+
+    /// A client's place is free again, for want of a thread.
+    pub fn refuse(&self, slot: u32) {
+        if let Some(slot) = self.slots.get(slot as usize) {
+            slot.refuse(self.rt);
+        }
     }
 
     /// Makes a hold of the seat of those who look: asks a question, if there is one, and looks at a place of the
@@ -94,7 +82,7 @@ impl<N: HeldNode, K: FrameKeys, R: Wait + Clock> Server<'_, N, K, R> {
         let call = question.map(|question| Call::Ask(question));
         let mut seat = self.view_seat.lock(self.rt);
         let mut node = self.node.lock(self.rt);
-        if !node.has(owner) {
+        if !node.has(owner) || node.must_sync() {
             return None;
         }
         let untold = node.hold(&mut seat, call, owner, place).ok()?;
@@ -108,19 +96,14 @@ impl<N: HeldNode, K: FrameKeys, R: Wait + Clock> Server<'_, N, K, R> {
         for outbox in &self.outboxes {
             frames.clear();
             self.seal(outbox.to, messages, frames);
-            if let Some(owed) = owed {
-                let mut from = 0usize;
-                for share in owed.shares() {
-                    let end = from.saturating_add(share.count);
-                    if share.peer == outbox.to {
-                        self.seal(
-                            outbox.to,
-                            owed.messages().get(from..end).unwrap_or(&[]),
-                            frames,
-                        );
-                    }
-                    from = end;
+            let mut from = 0usize;
+            for share in owed.map(|owed| owed.shares()).unwrap_or(&[]) {
+                let end = from.saturating_add(share.count);
+                if share.peer == outbox.to {
+                    let own = owed.and_then(|owed| owed.messages().get(from..end));
+                    self.seal(outbox.to, own.unwrap_or(&[]), frames);
                 }
+                from = end;
             }
             if !frames.is_empty() {
                 outbox.send(self.rt, millis(self.rt), frames);
@@ -135,5 +118,20 @@ impl<N: HeldNode, K: FrameKeys, R: Wait + Clock> Server<'_, N, K, R> {
                 let _ = frames.push(frame);
             }
         }
+    }
+}
+
+/// The time, in milliseconds from some start on, and one, so that it is past. It stands still while the clock fails.
+pub fn millis<R: Clock>(rt: &R) -> u64
+    ensures { result ≤ most_time }
+{
+    match rt.monotonic() {
+        Ok(time) => {
+            let millis = time.as_secs().saturating_mul(1_000);
+            millis
+                .saturating_add(u64::from(time.subsec_millis()) + 1)
+                .min(MOST_TIME)
+        }
+        Err(_) => 0,
     }
 }

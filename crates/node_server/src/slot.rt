@@ -1,37 +1,32 @@
 //! Places for the clients' connections that are open at once.
 
-use crate::caller::MOST_LINES;
 use crate::job_queue::JobQueue;
 use crate::said::Said;
-use crate::waiting::{Awaited, Waiting};
+use crate::told::Told;
 use std::alloc::{AllocError, Global};
-use std::mem;
 use std::net::{Shutdown, TcpStream};
-use std::sync::{Arc, Wait};
+use std::sync::{Arc, Condvar, Mutex, MutexGuard, Wait};
 
 /// What a connection has, and what was done for it.
 #[derive(Drop)]
-struct Place<'a> {
+pub struct Place<'a> {
     stream: Option<Arc<TcpStream>>,
     /// Absent while a thread serves the connection.
     queue: Option<JobQueue<'a>>,
     /// How many of its jobs are done, and how many its thread waits for.
-    done: u64,
-    wanted: u64,
-    /// What was said to the lines that are in flight, by their numbers.
-    said: Vec<Option<Said>>,
-}
-
-impl Awaited for Place<'_> {
-    fn is_due(&self) -> bool {
-        self.done >= self.wanted
-    }
+    done: u32,
+    wanted: u32,
+    pub told: Told,
+    /// The node has ended.
+    ended: bool,
 }
 
 /// A place for one client's connection at a time.
 #[derive(Drop)]
 pub struct Slot<'a> {
-    place: Waiting<Place<'a>>,
+    place: Mutex<Place<'a>>,
+    /// The thread of the connection waits here.
+    done: Condvar,
 }
 
 impl<'a> Slot<'a> {
@@ -42,104 +37,95 @@ impl<'a> Slot<'a> {
     /// Only for want of memory.
     pub fn new(alloc: Global, queue: JobQueue<'a>) -> Result<Slot<'a>, AllocError> {
         Ok(Slot {
-            place: Waiting::new(Place {
+            place: Mutex::new(Place {
                 stream: None,
                 queue: Some(queue),
                 done: 0,
-                wanted: 0,
-                said: room_for_lines(alloc)?,
+                wanted: u32::MAX,
+                told: Told::new(alloc)?,
+                ended: false,
             }),
+            done: Condvar::new(),
         })
     }
 
-    /// Gives a connection to the place. False where it has one, or the node has ended.
+    /// Whether there is no connection.
+    pub fn is_free<R: Wait>(&self, rt: &R) -> bool {
+        let place = self.place.lock(rt);
+        place.stream.is_none() && place.queue.is_some()
+    }
+
+    /// Gives a connection to the place, which is free. False at the node's end, and for want of memory.
     pub fn give<R: Wait>(&self, rt: &R, stream: &Arc<TcpStream>) -> bool {
         let Ok(other) = Arc::try_clone(stream) else {
             return false;
         };
         let mut place = self.place.lock(rt);
-        if place.ended || place.value.stream.is_some() || place.value.queue.is_none() {
+        if place.ended {
             return false;
         }
-        place.value.stream = Some(other);
+        place.stream = Some(other);
         true
     }
 
     /// The way into the inbox, for the thread that serves the connection.
     pub fn begin<R: Wait>(&self, rt: &R) -> Option<JobQueue<'a>> {
-        self.place.lock(rt).value.queue.take()
+        self.place.lock(rt).queue.take()
     }
 
     /// The place is free again, for want of a thread.
     pub fn refuse<R: Wait>(&self, rt: &R) {
-        self.place.lock(rt).value.stream = None;
+        self.place.lock(rt).stream = None;
     }
 
     /// The place is free again once all jobs that were put are done, so that none of them meets the next connection.
-    pub fn free<R: Wait>(&self, rt: &R, queue: JobQueue<'a>, put: u64) {
-        let mut place = self.place.lock(rt);
-        place.value.stream = None;
-        place.value.wanted = put;
-        if let Some(mut place) = self.place.wait(rt, place) {
-            place.value.done = 0;
-            place.value.wanted = 0;
-            for said in &mut place.value.said {
-                *said = None;
-            }
-            place.value.queue = Some(queue);
+    pub fn free<R: Wait>(&self, rt: &R, queue: JobQueue<'a>, put: u32) {
+        self.place.lock(rt).stream = None;
+        if let Some(mut place) = self.wait(rt, put) {
+            place.queue = Some(queue);
         }
     }
 
     /// Whether so many jobs are done.
-    pub fn has_done<R: Wait>(&self, rt: &R, wanted: u64) -> bool {
-        self.place.lock(rt).value.done >= wanted
+    pub fn has_done<R: Wait>(&self, rt: &R, put: u32) -> bool {
+        self.place.lock(rt).done >= put
     }
 
-    /// Waits until so many jobs are done, and exchanges what was said for other room. False at the end.
-    pub fn wait<R: Wait>(&self, rt: &R, wanted: u64, said: &mut Vec<Option<Said>>) -> bool {
+    /// Waits until all jobs that were put are done, so many. The place then, where none is done of those that are put
+    /// next; `None` at the end.
+    pub fn wait<R: Wait>(&self, rt: &R, put: u32) -> Option<MutexGuard<'_, Place<'a>>> {
         let mut place = self.place.lock(rt);
-        place.value.wanted = wanted;
-        match self.place.wait(rt, place) {
-            Some(mut place) => {
-                mem::swap(&mut place.value.said, said);
-                true
-            }
-            None => false,
+        place.wanted = put;
+        let mut place = self.done.wait_while(
+            rt,
+            place,
+            |place| !place.ended && place.done < place.wanted,
+        );
+        if place.ended {
+            return None;
         }
+        place.wanted = u32::MAX;
+        place.done = 0;
+        Some(place)
     }
 
-    /// A job is done, and this was said to the line of this number, if it was put for one.
-    pub fn tell<R: Wait>(&self, rt: &R, line: Option<u32>, said: Option<Said>) {
+    /// A job is done, and this was said to the line of this number.
+    pub fn tell<R: Wait>(&self, rt: &R, line: u32, said: Option<Said>) {
         let mut place = self.place.lock(rt);
-        if let Some(line) = line {
-            if let Some(at) = place.value.said.get_mut(line as usize) {
-                *at = said;
-            }
-        }
-        place.value.done = place.value.done.saturating_add(1);
-        if place.value.is_due() {
-            self.place.wake();
+        place.told.tell(line, said);
+        place.done = place.done.saturating_add(1);
+        if place.done >= place.wanted {
+            self.done.notify_one();
         }
     }
 
     /// Shuts the connection down, and takes no other.
     pub fn end<R: Wait>(&self, rt: &R) {
-        self.place.end(rt);
-        if let Some(stream) = &self.place.lock(rt).value.stream {
+        let mut place = self.place.lock(rt);
+        place.ended = true;
+        self.done.notify_all();
+        if let Some(stream) = &place.stream {
             let _ = stream.shutdown(Shutdown::Both);
         }
     }
-}
-
-/// Room for what is said to the lines of a client.
-///
-/// # Errors
-///
-/// Only for want of memory.
-pub fn room_for_lines(alloc: Global) -> Result<Vec<Option<Said>>, AllocError> {
-    let mut room = Vec::with_capacity(alloc, MOST_LINES as usize)?;
-    for _ in 0..MOST_LINES {
-        room.push(None)?;
-    }
-    Ok(room)
 }

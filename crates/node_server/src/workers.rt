@@ -6,13 +6,11 @@ ghost use Rattle.node_lock.specs.Views.{view_of, held_after_hold};
 ghost use Rattle.peer_windows.specs.Pauses.{most_time};
 
 use crate::behind::{HeldNode, NotKept};
-use crate::caller::Caller;
-use crate::clock::millis;
 use crate::front::Front;
 use crate::job_queue::JobQueue;
-use crate::keys::FrameKeys;
 use crate::said::Said;
-use crate::server::Server;
+use crate::server::{Server, millis};
+use frame_queues::{Caller, FrameKeys};
 use link_frames::{Frame, Message, Packet};
 use node_lock::{Call, Seat};
 use peer_windows::Owed;
@@ -46,8 +44,8 @@ pub struct Worker<'a, N: HeldNode> {
     /// What goes to single peers.
     owed: Owed,
     frames: Vec<Frame>,
-    /// The places of the connections of which a frame has counted.
-    pub counted: Vec<u32>,
+    /// The places of the connections of peers of which a packet has counted, and of those of which one found no memory.
+    pub heard: Vec<(u32, bool)>,
 }
 
 impl<'a, N: HeldNode> Worker<'a, N> {
@@ -70,7 +68,7 @@ impl<'a, N: HeldNode> Worker<'a, N> {
             messages: Vec::with_capacity(alloc, MOST_BATCH)?,
             owed: Owed::new(alloc, nodes)?,
             frames: Vec::with_capacity(alloc, MOST_BATCH)?,
-            counted: Vec::with_capacity(alloc, MOST_BATCH)?,
+            heard: Vec::with_capacity(alloc, MOST_BATCH)?,
         })
     }
 
@@ -148,14 +146,9 @@ impl<'a, N: HeldNode> Worker<'a, N> {
             };
             if let Some(said) = &said {
                 if let Some(outcome) = &said.outcome {
+                    let (seat, pairs) = (&mut self.seat, &mut front.pairs);
+                    node.note(seat, now, pairs, packet.as_ref(), outcome);
                     front.note(packet.as_ref(), outcome);
-                    node.note(
-                        &mut self.seat,
-                        now,
-                        &mut front.pairs,
-                        packet.as_ref(),
-                        outcome,
-                    );
                 }
                 if let Some(message) = said.message() {
                     let _ = self.messages.push(message);
@@ -191,8 +184,7 @@ impl<'a, N: HeldNode, K: FrameKeys, R: Wait + Clock> Server<'a, N, K, R> {
         }
     }
 
-    /// Sends what a worker's calls have the node send, and tells the clients what was said to their lines. Where a
-    /// packet of a peer found no memory its connection is to be closed.
+    /// Sends what a worker's calls have the node send, and tells the clients what was said to their lines.
     pub fn send_and_tell(&self, worker: &mut Worker<'a, N>) {
         self.send(&worker.messages, Some(&worker.owed), &mut worker.frames);
         worker.messages.clear();
@@ -200,17 +192,14 @@ impl<'a, N: HeldNode, K: FrameKeys, R: Wait + Clock> Server<'a, N, K, R> {
         for done in worker.told.drain(..) {
             match done.caller {
                 Caller::Client { slot, line } => {
-                    if let Some(place) = self.slots.get(slot as usize) {
-                        place.tell(self.rt, line, done.said);
+                    if let Some(slot) = self.slots.get(slot as usize) {
+                        slot.tell(self.rt, line, done.said);
                     }
                 }
                 Caller::Peer { slot } => match done.said {
-                    Some(said) if said.has_counted() => {
-                        let _ = worker.counted.push(slot);
-                    }
-                    Some(_) => {}
-                    None => {
-                        let _ = self.crew.lock(self.rt).value.refused.push(slot);
+                    Some(said) if !said.has_counted() => {}
+                    said => {
+                        let _ = worker.heard.push((slot, said.is_some()));
                     }
                 },
                 Caller::Nobody => {}
@@ -239,7 +228,7 @@ fn call<N: HeldNode>(
     ensures view { IfSome result (λ u. (N.said u).view ≡ view_of (N.held node.new) me 0) }
     ensures held { IfSome result (λ u. N.held node.new ≡ held_after_hold (N.held node.old) seat.old (Some call)) }
 {
-    if node.has(me) {
+    if node.has(me) && !node.must_sync() {
         node.hold(seat, Some(call), me, 0).ok()
     } else {
         None

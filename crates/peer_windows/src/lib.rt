@@ -27,6 +27,6 @@ pub use pairs::Pairs;
 pub use pause::{FIRST_PAUSE, MOST_TIME, NEVER};
 pub use peer_sent::{level_of, push_rest, push_step, push_window, seen_of, window_at};
 pub use seen::{Level, Seen, Step};
-pub use sent::{look_at, push_probe, push_sent, push_tail};
+pub use sent::{look_at, push_again, push_probe, push_sent, push_tail};
 pub use stream_look::StreamLook;
 pub use window::{PeerWindow, vote_end};

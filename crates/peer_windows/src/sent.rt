@@ -72,7 +72,11 @@ fn push_places<L: Ledger>(
 }
 
 /// Puts what was sent at a place behind the messages.
-fn push_again(
+///
+/// # Errors
+///
+/// Only for want of memory. Some of it may be there.
+pub fn push_again(
     messages: &mut Vec<Message>,
     owner: NodeName,
     place: Place,

@@ -31,6 +31,7 @@ enum Trial {
     ManyClients,
     DeafClient,
     SilentPeer,
+    ThirdConnection,
     LateFrames,
     PeerThatCloses,
     CutFrame,
@@ -179,6 +180,32 @@ where
     Ok(is_closed(&silent) && is_closed(&wrong) && opens(rt, alloc, place.client)?)
 }
 
+/// Whether of three connections of a peer that is closed which has brought nothing new, the older of two of these.
+fn third_connection<R>(rt: &R, alloc: Global, place: &Place) -> Result<bool, Fail>
+where
+    R: Net<Listener = TcpListener, Stream = TcpStream> + Clock,
+{
+    let client = connected(rt, place.client)?;
+    let mut first = connected(rt, place.peers)?;
+    first.write_all(&FRAME)?;
+    for _ in 0..MOST_LOOKS {
+        if ask(alloc, &client, AGAIN)?.as_str() == "{\"again\":1}\n" {
+            break;
+        }
+        thread::sleep(rt, Duration::from_millis(1));
+    }
+    let mut second = connected(rt, place.peers)?;
+    second.write_all(&FRAME)?;
+    thread::sleep(rt, Duration::from_millis(20));
+    let mut third = connected(rt, place.peers)?;
+    third.write_all(&FRAME)?;
+    let closed = is_closed(&second);
+    for kept in [&first, &third] {
+        kept.set_read_timeout(Some(Duration::from_millis(1)))?;
+    }
+    Ok(closed && !is_closed(&first) && !is_closed(&third))
+}
+
 /// Whether frames do no harm whose connections are closed before they are taken.
 fn late_frames<R>(rt: &R, alloc: Global, place: &Place) -> Result<bool, Fail>
 where
@@ -291,6 +318,7 @@ where
         Trial::ManyClients => many_clients(rt, alloc, place),
         Trial::DeafClient => deaf_client(rt, alloc, place),
         Trial::SilentPeer => silent_peer(rt, alloc, place),
+        Trial::ThirdConnection => third_connection(rt, alloc, place),
         Trial::LateFrames => late_frames(rt, alloc, place),
         Trial::PeerThatCloses => peer_that_closes(rt, alloc, place),
         Trial::CutFrame => are_lost(rt, alloc, place, &FRAME[..FRAME_LEN - 1]),
@@ -381,6 +409,12 @@ fn a_client_that_does_not_read_holds_up_nobody(rt: HostRuntime) -> Result<(), Fa
 #[test]
 fn a_connection_without_frames_is_closed(rt: HostRuntime) -> Result<(), Fail> {
     assert!(rt; is_fit(&rt, rt.alloc(), Trial::SilentPeer)?);
+    Ok(())
+}
+
+#[test]
+fn a_peers_third_connection_is_closed(rt: HostRuntime) -> Result<(), Fail> {
+    assert!(rt; is_fit(&rt, rt.alloc(), Trial::ThirdConnection)?);
     Ok(())
 }
 

@@ -33,8 +33,34 @@ below_both k m n g =
     (cases_lt k n)
 
 -- all below either of two numbers are all below the greater
-pub below_max : (given : ℕ → Bool) (m n : ℕ) → with_all_below given (max m n) ≡ with_all_below (with_all_below given m) n
+pub below_max : (given : ℕ → Bool) (m n : ℕ) →
+    with_all_below given (max m n) ≡ with_all_below (with_all_below given m) n
 below_max given m n = λ i k. below_both k m n (given k) i
+
+one_more : (k n : ℕ) (g : Bool) → ((k == n) || (nat_lt k n || g)) ≡ (nat_lt k (n + 1) || g)
+one_more k n g =
+    ⊎_elim
+    (λ (before : k < n).
+    let other : (k == n) ≡ false = grind (arith, nat_tests) in
+    let was : nat_lt k n ≡ true = grind (arith, nat_tests) in
+    let now : nat_lt k (n + 1) ≡ true = grind (arith, nat_tests) in
+    (λ i. other i || (was i || g)) ∙ sym (ap (λ b. b || g) now))
+    (λ (past : n ≤ k).
+    ⊎_elim
+    (λ (last : k < n + 1).
+    let same : (k == n) ≡ true = grind (arith, nat_tests) in
+    let now : nat_lt k (n + 1) ≡ true = grind (arith, nat_tests) in
+    ap (λ b. b || (nat_lt k n || g)) same ∙ sym (ap (λ b. b || g) now))
+    (λ (later : n + 1 ≤ k).
+    let other : (k == n) ≡ false = grind (arith, nat_tests) in
+    let was : nat_lt k n ≡ false = grind (arith, nat_tests) in
+    let now : nat_lt k (n + 1) ≡ false = grind (arith, nat_tests) in
+    (λ i. other i || (was i || g)) ∙ sym (ap (λ b. b || g) now))
+    (cases_lt k (n + 1)))
+    (cases_lt k n)
+
+pub below_more : (given : ℕ → Bool) (n : ℕ) → with_number (with_all_below given n) n ≡ with_all_below given (n + 1)
+below_more given n = λ i k. one_more k n (given k) i
 
 -- what the code keeps is the cluster after it has settled
 pub settled_lab : (first last : Lab) (end : ℕ) → last.world ≡ settled first.world → end ≡ pool_length last.world →

@@ -151,7 +151,7 @@ impl Lab {
         Ok(count)
     }
 
-    /// Gives the packets of the pool until none counts any more. How many events were recorded.
+    /// Gives the packets of the pool until a pass records nothing. How many events were recorded.
     fn settle(&mut self) -> Result<u64, AllocError>
         ensures count { IfOk result (λ count. count ≡ settling_adds (lab_in self.old)) }
         ensures after { OnOk result (lab_in self.new ≡ after_settling (lab_in self.old)) }

@@ -35,7 +35,7 @@ pub enum Order {
     Do(Step),
     /// That all packets that wait are given.
     Flush,
-    /// That packets are given until none counts any more.
+    /// That packets are given, pass after pass, until a pass records nothing.
     Settle,
     /// Whether the cluster is at rest.
     Rest,

@@ -66,25 +66,11 @@ enum Kept {
     /// The SEND of a command that the node published.
     Issued(Message),
     /// A session that opened, with its id.
-    Opened {
-        user: u32,
-        session: u64,
-    },
+    Opened { user: u32, session: u64 },
     /// What else a client did.
-    Activated {
-        role: u16,
-        user: u32,
-        session: u64,
-    },
-    Dropped {
-        role: u16,
-        user: u32,
-        session: u64,
-    },
-    Closed {
-        user: u32,
-        session: u64,
-    },
+    Activated { role: u16, user: u32, session: u64 },
+    Dropped { role: u16, user: u32, session: u64 },
+    Closed { user: u32, session: u64 },
 }
 
 /// An event that a node recorded, and its reply.

@@ -78,7 +78,7 @@ impl Answers {
     }
 }
 
-/// The place of an operation and an object. Objects that follow one another have different places.
+/// The place of an operation and an object. The objects of an aligned block of 16 have different places.
 fn place_of(operation: u16, object: u32) -> usize
     ensures { result < PLACES }
 {

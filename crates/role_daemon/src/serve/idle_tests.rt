@@ -20,6 +20,11 @@ const SHORT: u64 = 50;
 
 const LONG: u64 = 600_000;
 
+/// How often the node is looked for after a stop, and the milliseconds between two looks.
+const STOP_LOOKS: u32 = 1_000;
+
+const NEXT_STOP_LOOK: u64 = 40;
+
 /// The most connections of peers at once.
 const MOST_PEERS: u32 = 128;
 
@@ -58,16 +63,17 @@ where
     Ok(stream)
 }
 
-/// Whether nobody listens at the port any more, at the last of some looks.
+/// Whether nobody listens at the port any more, at the last of some looks. Each look is a client that comes and goes, so
+/// there are few of them.
 fn has_stopped<R>(rt: &R, port: u16) -> bool
 where
     R: Net<Listener = TcpListener, Stream = TcpStream> + Clock,
 {
-    for _ in 0..MOST_LOOKS {
+    for _ in 0..STOP_LOOKS {
         if TcpStream::connect(rt, local(port)).is_err() {
             return true;
         }
-        thread::sleep(rt, Duration::from_millis(1));
+        thread::sleep(rt, Duration::from_millis(NEXT_STOP_LOOK));
     }
     false
 }
@@ -124,7 +130,7 @@ where
     R: Net<Listener = TcpListener, Stream = TcpStream> + Clock,
 {
     let stream = connected_at_once(rt, ports.client)?;
-    say_stop_unheard(&stream, 600);
+    say_stop_unheard(&stream, 200);
     Ok(has_stopped(rt, ports.client))
 }
 
@@ -134,7 +140,7 @@ where
     R: Net<Listener = TcpListener, Stream = TcpStream> + Clock,
 {
     let stream = connected_at_once(rt, ports.client)?;
-    say_stop_unheard(&stream, 100);
+    say_stop_unheard(&stream, 50);
     stream.peek(&mut [0u8; 1])?;
     drop(stream);
     Ok(has_stopped(rt, ports.client))

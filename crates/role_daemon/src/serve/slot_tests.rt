@@ -1,8 +1,8 @@
-//! Clients that come one after another at the same place, and one that asks again after a while.
+//! Clients that come one after another at the same place, one that asks again after a while, and a page in a browser.
 
-use crate::serve_help::{STOP, ask, connected, free_ports, serve_text, text_of};
+use crate::serve_help::{ask, connected, free_ports, serve_text, stop, text_of};
 use std::alloc::Global;
-use std::io::Write;
+use std::io::{Read, Write};
 use std::net::{Net, TcpListener, TcpStream};
 use std::sync::Wait;
 use std::test::Fail;
@@ -61,7 +61,44 @@ where
     Ok(right)
 }
 
-/// Whether a node alone answers both.
+/// Whether the next client is served at once where one of sixteen has gone.
+fn next_client<R>(rt: &R, alloc: Global, client: u16) -> Result<bool, Fail>
+where
+    R: Net<Listener = TcpListener, Stream = TcpStream> + Clock,
+{
+    let mut held = Vec::new(alloc);
+    for _ in 0..16 {
+        let stream = connected(rt, client)?;
+        ask(alloc, &stream, OPEN)?;
+        held.push(stream)?;
+    }
+    for _ in 0..100u32 {
+        drop(held.pop());
+        let stream = connected(rt, client)?;
+        if !ask(alloc, &stream, OPEN)?
+            .as_str()
+            .starts_with("{\"session\":")
+        {
+            return Ok(false);
+        }
+        held.push(stream)?;
+    }
+    Ok(true)
+}
+
+/// Whether an HTTP request is answered once, and a stop behind its first line is none.
+fn web_page<R>(rt: &R, alloc: Global, client: u16) -> Result<bool, Fail>
+where
+    R: Net<Listener = TcpListener, Stream = TcpStream> + Clock,
+{
+    let mut stream = connected(rt, client)?;
+    stream.write_all(b"POST / HTTP/1.1\r\nContent-Length: 14\r\n\r\n{\"op\":\"stop\"}\n")?;
+    let mut answers = String::new(alloc);
+    stream.read_to_string(&mut answers)?;
+    Ok(answers.as_str() == "{\"error\":\"J1 NotJson\"}\n")
+}
+
+/// Whether a node alone does as it should.
 fn is_right<R>(rt: &R, alloc: Global) -> Result<bool, Fail>
 where
     R: Net<Listener = TcpListener, Stream = TcpStream> + Threads + Wait + Clock + Sync,
@@ -77,8 +114,10 @@ where
         let server = scope.spawn(move || serve_text(rt, alloc, shown))?;
         let asked = asks_after_a_while(rt, alloc, client)?;
         let heard = hears_its_own(rt, alloc, client)?;
-        ask(alloc, &connected(rt, client)?, STOP)?;
-        Ok(asked && heard && server.join(rt) == 0)
+        let page = web_page(rt, alloc, client)?;
+        let next = next_client(rt, alloc, client)?;
+        stop(rt, alloc, client);
+        Ok(asked && heard && page && next && server.join(rt) == 0)
     })
 }
 

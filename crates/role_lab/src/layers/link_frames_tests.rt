@@ -345,6 +345,43 @@ fn frames_are_read(rt: HostRuntime) {
     }
 }
 
+#[test]
+fn the_reads_of_a_frame_are_counted(rt: HostRuntime) {
+    let frame = tagged(0, 1, &FIELDS);
+    // from which read on how many are interrupted, how many of the others give one byte, and what is due after how many
+    for (first, interruptions, short, due, reads) in [
+        (0, 0, 0, Ok(Some(frame)), 1),
+        (0, 0, u64::MAX, Ok(Some(frame)), 54),
+        (0, 1023, 0, Ok(Some(frame)), 1024),
+        (0, 970, u64::MAX, Ok(Some(frame)), 1024),
+        (1, 970, u64::MAX, Ok(Some(frame)), 1024),
+        (1, 972, 1, Ok(Some(frame)), 974),
+        (1, 1000, u64::MAX, Err(ReadFault::TooManyTurns), 1024),
+        (0, 971, u64::MAX, Err(ReadFault::TooManyTurns), 1024),
+        (0, 1024, 0, Err(ReadFault::TooManyTurns), 1024),
+    ] {
+        let slow = Faulty::new(frame.as_slice(), Mishap::Short, 0, short);
+        let mut reader = Watched::new(Faulty::new(slow, Mishap::Interrupt, first, interruptions));
+        let (came, count) = (read_frame(&mut reader), reader.reads());
+        assert!(rt;
+            came == due && count == reads,
+            "{interruptions} from {first} on: {came:?} after {count}"
+        );
+    }
+}
+
+#[test]
+fn bytes_are_cut_into_frames(rt: HostRuntime) -> Result<(), Fail> {
+    let frame = tagged(0, 1, &FIELDS);
+    let mut bytes: Vec<u8> = Vec::new(rt.alloc());
+    bytes.extend_from_slice(&frame)?;
+    bytes.extend_from_slice(&frame)?;
+    bytes.extend_from_slice(&[2, 0, 0])?;
+    let (frames, rest) = frames_of(&bytes);
+    assert!(rt; frames == [frame, frame].as_slice() && rest == [2, 0, 0].as_slice());
+    Ok(())
+}
+
 /// Reads a frame of these bytes, one byte a call.
 fn read_bytewise(bytes: &[u8]) -> Result<Option<Frame>, ReadFault> {
     read_frame(&mut Watched::new(Faulty::new(bytes, Mishap::Short, 0, u64::MAX)))

@@ -232,11 +232,18 @@ fn parts<T: Copy + Drop>(
     Ok(blocks)
 }
 
-/// The relation of these parts of pairs whose numbers ascend on either side, each part in a block.
+/// Parts of pairs, each in a block: of the list by users or permissions, and of that by roles.
+#[derive(Clone, Copy)]
+struct Left<'a> {
+    by_first: &'a [(usize, usize)],
+    by_second: &'a [(usize, usize)],
+}
+
+/// The relation of these parts of pairs whose numbers ascend on either side.
 fn left_of<A: Copy + Drop, B: Copy + Drop>(
     alloc: Global,
     pairs: &[(A, B)],
-    left: &[(usize, usize)],
+    left: Left<'_>,
     room: usize,
 ) -> Result<Relation<A, B>, Fail> {
     let turned = pairs
@@ -244,18 +251,18 @@ fn left_of<A: Copy + Drop, B: Copy + Drop>(
         .map(|pair| (pair.1, pair.0))
         .collect::<Vec<(B, A)>>(alloc)?;
     Ok(Relation {
-        by_first: parts(alloc, pairs, left)?,
-        by_second: parts(alloc, &turned, left)?,
+        by_first: parts(alloc, pairs, left.by_first)?,
+        by_second: parts(alloc, &turned, left.by_second)?,
         room,
     })
 }
 
-/// The policy of five blocks after these commands must be written with these parts of its pairs, each in a block.
+/// The policy of five blocks after these commands must be written with these parts of its pairs.
 fn check_left(
     rt: &impl Abort,
     alloc: Global,
     commands: &[Command],
-    left: &[(usize, usize)],
+    left: Left<'_>,
 ) -> Result<(), Fail> {
     let pairs = five_blocks(alloc)?;
     let mut came = policy_after(alloc, &pairs)?;
@@ -288,11 +295,19 @@ fn pairs_that_went_are_not_written(rt: HostRuntime) -> Result<(), Fail> {
         })?;
     }
     let left = [(0, 0), (195, 390), (585, 780), (780, 1000)];
-    check_left(&rt, rt.alloc(), &commands, &left)
+    let left = Left {
+        by_first: &left,
+        by_second: &left,
+    };
+    check_left(&rt, rt.alloc(), &commands, left)
 }
 
+/// A pass over a list drops its first block too, where another has pairs.
 #[test]
 fn a_cleared_role_is_not_written(rt: HostRuntime) -> Result<(), Fail> {
-    let left = [(0, 0), (390, 585), (585, 780), (780, 1000)];
-    check_left(&rt, rt.alloc(), &[Command::Clear { role: 2 }], &left)
+    let left = Left {
+        by_first: &[(390, 585), (585, 780), (780, 1000)],
+        by_second: &[(0, 0), (390, 585), (585, 780), (780, 1000)],
+    };
+    check_left(&rt, rt.alloc(), &[Command::Clear { role: 2 }], left)
 }

@@ -32,6 +32,8 @@ enum Step {
     Close(u64, u32, Result<(), EndFault>),
     /// In a session, by a user, operation 5 on object 9.
     Check(u64, u32, Verdict),
+    /// A session is to be listed that is not open.
+    Unlisted(u64),
     /// Role 2, which may do operation 5 on object 9, is all that user 7's session 1 has active.
     Listed,
     /// Each user below 4096 opens a session.
@@ -123,6 +125,10 @@ impl Bench {
                     due,
                 )
             }
+            Step::Unlisted(session) => {
+                let came = self.sessions.session_roles(&self.policy, *session).err();
+                check_row(rt, row, &came, &Some(SessionFault::NoSession))
+            }
             Step::Listed => check_row(rt, row, &(self.is_listed()? && self.may()), &true),
             Step::ManySessions => check_row(rt, row, &self.opens_many(), &true),
             Step::ManyRoles => check_row(rt, row, &self.activates_many()?, &true),
@@ -181,7 +187,7 @@ fn play(rt: &impl Abort, alloc: Global, roles: u16, steps: &[Step]) -> Result<()
     Bench::new(alloc, roles)?.run(rt, steps)
 }
 
-static LIFE: [Step; 14] = [
+static LIFE: [Step; 17] = [
     Step::Apply(ASSIGN),
     Step::Apply(GRANT),
     Step::Open(7, Ok(1)),
@@ -192,10 +198,13 @@ static LIFE: [Step; 14] = [
     Step::Close(1, 8, Err(EndFault::NotYours)),
     Step::Close(1, 7, Ok(())),
     Step::Open(7, Ok(2)),
+    Step::Unlisted(1),
     Step::Activate(1, 7, 2, Err(SessionFault::NoSession)),
     Step::Activate(2, 8, 2, Err(SessionFault::NotYours)),
     Step::Activate(2, 7, 9, Err(SessionFault::NoSuchRole)),
     Step::Activate(2, 7, 3, Err(SessionFault::NotAssigned)),
+    Step::Open(8, Ok(3)),
+    Step::Activate(3, 8, 2, Err(SessionFault::NotAssigned)),
 ];
 
 #[test]

@@ -107,7 +107,8 @@ own_reply k = reply.Done
 
 -- the event of what is kept
 abbrev pub kept_event : Kept → Event
-kept_event k = option_map_or (λ (p : Head × ℕ × ℕ × Command). Take (packet_with p.0 p.1 p.3)) (packet_in k) (own_event k)
+kept_event k =
+    option_map_or (λ (p : Head × ℕ × ℕ × Command). Take (packet_with p.0 p.1 p.3)) (packet_in k) (own_event k)
 
 -- its reply
 abbrev pub kept_reply : Kept → Reply

@@ -76,7 +76,7 @@ open_value generation entries =
 abbrev pub as_sessions : OpenValue → SessionsValue
 as_sessions v = record { state = record { opened = 0; open_sessions = v.sessions }; kept = v.kept }
 
--- what holds of the code's table: each id stands in it once, and every answer is of a generation from 1 up to this one
+-- what holds of the code's table: each id stands in it once, its generation is at least 1, and no answer is later
 pub record IsTable (generation : ℕ) (entries : Entries) : Type 0 where
   pub long : finite.len (finite.from_entries {R = nat_cmp} (sessions_in entries)) ≡ length (sessions_in entries)
   pub started : 1 ≤ generation

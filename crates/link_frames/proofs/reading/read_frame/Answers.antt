@@ -36,10 +36,12 @@ loop-preserved g c =
           omega (arith, room, given.bound.0, so_far.part, w.if-have-eq-FRAME_LEN.false) in
           let len = same_len_mid _ _ _ _ c.read.auto.buf in
           let front = front_read _ _ _ _ _ within given.bound.0 in
-          rw w.have-is (gave_more _ n _ _ _ so_far given.bytes.0 given.faults given.reads given.breaks some part len front)
+          rw w.have-is
+          (gave_more _ n _ _ _ so_far given.bytes.0 given.faults given.reads given.breaks some part len front)
       | in-Err w ↦
           let again = rw (sym w.if-is_interruption.ensures) at w.in-Err.ensures.breaks in
           let len = same_len_mid _ _ _ _ c.read.auto.buf in
           let front = take-put_mid_below _ _ _ _ _ (le_refl _) within in
-          rw w.have-is (interrupted _ _ _ so_far w.in-Err.ensures.bytes w.in-Err.ensures.faults w.in-Err.ensures.reads again len front)
+          let given = w.in-Err.ensures in
+          rw w.have-is (interrupted _ _ _ so_far given.bytes given.faults given.reads again len front)
     ]

@@ -16,8 +16,8 @@ right false b e = e
 pub loop-pair-preserved : goal.loop-pair-preserved
 loop-pair-preserved g c e =
     let item = c.pair-item.result in
-    let same = c.is_eq-found.ensures ∙ ap is_eq (c.cmp.ensures ∙ ap (λ n. nat_cmp n c.args.second) c.second.ensures.value)
-    in
+    let order = c.cmp.ensures ∙ ap (λ n. nat_cmp n c.args.second) c.second.ensures.value in
+    let same = c.is_eq-found.ensures ∙ ap is_eq order in
     let other : not (eq_by_cmp nat_cmp item.1 c.args.second) ≡ true =
     ap not (sym same ∙ right c.loop-pair.found c.is_eq-found.result e) in
     All-more (λ p. not (eq_by_cmp nat_cmp p.1 c.args.second) ≡ true) c.args.pairs.now c.loop-pair.pair-index item

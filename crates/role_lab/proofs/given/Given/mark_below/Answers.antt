@@ -7,4 +7,4 @@ use Rattle.role_lab.proofs.given.Given.mark_below.Goals as goal
 pub returns : goal.returns
 returns c =
     let given = flagged c.args.self.now.flags.items in
-    ap (with_all_below given) c.max.ensures ∙ below_max given c.args.self.now.least c.args.end
+    ap (with_all_below given) c.max-self.ensures ∙ below_max given c.args.self.now.least c.args.end

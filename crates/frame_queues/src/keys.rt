@@ -5,7 +5,7 @@ ghost use Rattle.std.specs.Result.{result_ok};
 ghost use Rattle.link_frames.specs.Opening.{open_due};
 ghost use Rattle.link_frames.specs.Packets.{PacketValue};
 ghost use Rattle.link_frames.specs.declared.packet.Message.{Message};
-ghost use Rattle.node_server.specs.Frames.{frame_due};
+ghost use Rattle.frame_queues.specs.Sealed.{frame_due};
 
 use link_frames::{Frame, Message, Packet, PairKeys, open_frame, seal};
 use quorum_sizes::{NodeName, Sizes};
@@ -76,7 +76,7 @@ impl ClusterKeys {
 impl FrameKeys for ClusterKeys {
     ghost use Rattle.std.specs.Result.{result_ok};
     ghost use Rattle.link_frames.specs.Opening.{open_due};
-    ghost use Rattle.node_server.specs.Frames.{frame_due};
+    ghost use Rattle.frame_queues.specs.Sealed.{frame_due};
 
     ghost opened = { λ k f. result_ok (open_due k.keys k.cluster f) };
 

@@ -1,0 +1,43 @@
+-- Who waits for a job, by its number.
+use Rattle.std.specs.Prelude.{⊤, ℕ, ◌+◌, ◌-◌, ◌*◌, ◌/◌, ◌%◌, ◌<◌, ◌≤◌, min, nat_lt, if◌then◌else◌}
+use Rattle.frame_queues.specs.declared.caller.Caller.{Caller}
+use Rattle.frame_queues.specs.declared.caller.Caller.TheVariants.{Client, Peer, Nobody}
+
+-- how many clients and connections of frames there are, and how many numbers a client's jobs have: those of its lines,
+-- and one more
+abbrev pub most_clients : ℕ
+most_clients = 16
+
+abbrev pub most_peers : ℕ
+most_peers = 128
+
+abbrev pub most_lines : ℕ
+most_lines = 32
+
+abbrev pub client_numbers : ℕ
+client_numbers = 33
+
+-- the numbers below this are clients'
+abbrev pub first_peer : ℕ
+first_peer = 528
+
+abbrev pub caller_of : ℕ → Caller
+caller_of number =
+    if nat_lt number first_peer then Client (number / client_numbers) (number % client_numbers)
+    else if nat_lt (number - first_peer) most_peers then Peer (number - first_peer)
+    else Nobody
+
+-- a caller for whom there is a place
+abbrev pub IsCaller : Caller → Type 0
+IsCaller (Client slot line) = (slot < most_clients) × (line ≤ most_lines)
+IsCaller (Peer slot) = slot < most_peers
+IsCaller Nobody = ⊤
+
+-- the number of a caller's jobs, up to the greatest
+abbrev pub most_number : ℕ
+most_number = 4294967295
+
+abbrev pub number_of : Caller → ℕ
+number_of (Client slot line) = min most_number (min most_number (slot * client_numbers) + line)
+number_of (Peer slot) = min most_number (slot + first_peer)
+number_of Nobody = most_number

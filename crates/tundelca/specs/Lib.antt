@@ -1,0 +1,4 @@
+pub mod Givens
+pub mod Fingerprints
+pub mod Keeping
+pub mod Statuses

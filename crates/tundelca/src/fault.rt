@@ -1,0 +1,249 @@
+//! Why the program ends with another status than 0.
+
+ghost use Rattle.std.specs.Prelude.{◌≡◌};
+ghost use Rattle.tundelca.specs.Statuses.{words_status, given_status, kept_status, serve_status, status};
+
+use crate::reserved::Reserved;
+use batch_journal::JournalFault;
+use cluster_text::fault::ClusterFault;
+use link_frames::DeviceFault;
+use node_server::ServerFault;
+use std::alloc::AllocError;
+use thiserror::Error;
+
+/// Why the words are not taken.
+#[derive(Debug, Drop, Error)]
+pub enum WordsFault {
+    /// The program has no such words; with what is wrong with them.
+    #[error("words\n{0}")]
+    Refused(String),
+    /// There was no memory.
+    #[error("out of memory")]
+    Memory,
+}
+
+impl WordsFault {
+    /// The exit status of the program: 2 at words that are refused, 5 for want of memory.
+    pub fn status(&self) -> u8
+        ensures { result ≡ words_status self.now }
+    {
+        match self {
+            WordsFault::Refused(_) => 2,
+            WordsFault::Memory => 5,
+        }
+    }
+}
+
+impl From<AllocError> for WordsFault {
+    fn from(_e: AllocError) -> Self {
+        WordsFault::Memory
+    }
+}
+
+/// Why a cluster file sets up no node. Written as its code and its name, and the member that it is about.
+#[derive(Debug, Drop, Error)]
+pub enum GivenFault {
+    /// The file could not be read.
+    #[error("cluster file")]
+    Unread,
+    /// It says something that is kept for later.
+    #[error("U5 Reserved {0}")]
+    Reserved(Reserved),
+    /// Its text sets up no node; never for want of memory.
+    #[error(transparent)]
+    Cluster(ClusterFault),
+    /// There was no memory.
+    #[error("out of memory")]
+    Memory,
+}
+
+impl GivenFault {
+    /// The exit status of the program: 3 at a file that is not read or refused, 5 for want of memory.
+    pub fn status(&self) -> u8
+        ensures { result ≡ given_status self.now }
+    {
+        match self {
+            GivenFault::Unread | GivenFault::Reserved(_) => 3,
+            GivenFault::Cluster(fault) => fault.status(),
+            GivenFault::Memory => 5,
+        }
+    }
+}
+
+impl From<AllocError> for GivenFault {
+    ghost use Rattle.tundelca.specs.declared.fault.GivenFault.TheVariants.{Memory};
+
+    ghost from_gives = { λ _ e. e ≡ Memory };
+
+    fn from(_e: AllocError) -> Self {
+        GivenFault::Memory
+    }
+}
+
+impl From<DeviceFault> for GivenFault {
+    ghost use Rattle.tundelca.specs.declared.fault.GivenFault.TheVariants.{Unread};
+
+    ghost from_gives = { λ _ e. e ≡ Unread };
+
+    fn from(_e: DeviceFault) -> Self {
+        GivenFault::Unread
+    }
+}
+
+/// Why a node's journal is not begun, opened or looked at. Written as its code and its name.
+#[derive(Debug, Drop, Error)]
+pub enum KeptFault {
+    /// There is no such file.
+    #[error("D1 Absent")]
+    Absent,
+    /// Another process has it.
+    #[error("D2 InUse")]
+    InUse,
+    /// It has an event that is none, or that the node does not record.
+    #[error("D12 Illegal")]
+    Illegal,
+    /// The file can't be opened.
+    #[error("D13 Unopened")]
+    Unopened,
+    /// What is wrong with it; want of memory too.
+    #[error(transparent)]
+    Journal(JournalFault),
+}
+
+impl KeptFault {
+    /// The exit status of the program: 6 at a journal that is refused, 4 where another process has it or a call of the
+    /// disk has failed, 5 for want of memory.
+    pub fn status(&self) -> u8
+        ensures { result ≡ kept_status self.now }
+    {
+        match self {
+            KeptFault::InUse | KeptFault::Journal(JournalFault::Device) => 4,
+            KeptFault::Journal(JournalFault::Memory) => 5,
+            KeptFault::Absent | KeptFault::Illegal | KeptFault::Unopened | KeptFault::Journal(_) =>
+                6,
+        }
+    }
+}
+
+impl From<JournalFault> for KeptFault {
+    fn from(fault: JournalFault) -> Self {
+        KeptFault::Journal(fault)
+    }
+}
+
+impl From<AllocError> for KeptFault {
+    fn from(_e: AllocError) -> Self {
+        KeptFault::Journal(JournalFault::Memory)
+    }
+}
+
+/// Why a node does not serve, or serves no longer.
+#[derive(Debug, Drop, Error)]
+pub enum ServeFault {
+    /// A listener could not be made, or has failed.
+    #[error("device")]
+    Device,
+    /// There was no memory.
+    #[error("out of memory")]
+    Memory,
+}
+
+impl ServeFault {
+    /// The exit status of the program: 4 at a failed listener, 5 for want of memory.
+    pub fn status(&self) -> u8
+        ensures { result ≡ serve_status self.now }
+    {
+        match self {
+            ServeFault::Device => 4,
+            ServeFault::Memory => 5,
+        }
+    }
+}
+
+impl From<AllocError> for ServeFault {
+    ghost use Rattle.tundelca.specs.declared.fault.ServeFault.TheVariants.{Memory};
+
+    ghost from_gives = { λ _ e. e ≡ Memory };
+
+    fn from(_e: AllocError) -> Self {
+        ServeFault::Memory
+    }
+}
+
+impl From<ServerFault> for ServeFault {
+    fn from(fault: ServerFault) -> Self {
+        match fault {
+            ServerFault::Device => ServeFault::Device,
+            ServerFault::Memory => ServeFault::Memory,
+        }
+    }
+}
+
+/// Why the program ends with another status than 0.
+#[derive(Debug, Drop, Error)]
+pub enum Fault {
+    /// The words are not taken.
+    #[error(transparent)]
+    Words(WordsFault),
+    /// The cluster file sets up no node.
+    #[error(transparent)]
+    Given(GivenFault),
+    /// The journal is not begun, opened or looked at.
+    #[error(transparent)]
+    Kept(KeptFault),
+    /// The node does not serve, or serves no longer.
+    #[error(transparent)]
+    Serve(ServeFault),
+    /// What is to be said can't be written.
+    #[error("device")]
+    Unsaid,
+    /// There was no memory for it.
+    #[error("out of memory")]
+    Memory,
+}
+
+impl Fault {
+    /// The exit status of the program.
+    pub fn status(&self) -> u8
+        ensures { result ≡ status self.now }
+    {
+        match self {
+            Fault::Words(fault) => fault.status(),
+            Fault::Given(fault) => fault.status(),
+            Fault::Kept(fault) => fault.status(),
+            Fault::Serve(fault) => fault.status(),
+            Fault::Unsaid => 4,
+            Fault::Memory => 5,
+        }
+    }
+}
+
+impl From<AllocError> for Fault {
+    fn from(_e: AllocError) -> Self {
+        Fault::Memory
+    }
+}
+
+impl From<WordsFault> for Fault {
+    fn from(fault: WordsFault) -> Self {
+        Fault::Words(fault)
+    }
+}
+
+impl From<GivenFault> for Fault {
+    fn from(fault: GivenFault) -> Self {
+        Fault::Given(fault)
+    }
+}
+
+impl From<KeptFault> for Fault {
+    fn from(fault: KeptFault) -> Self {
+        Fault::Kept(fault)
+    }
+}
+
+impl From<ServeFault> for Fault {
+    fn from(fault: ServeFault) -> Self {
+        Fault::Serve(fault)
+    }
+}

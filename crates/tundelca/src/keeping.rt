@@ -1,0 +1,205 @@
+//! The journal of a node: begun, opened, and looked at. Nothing here knows where the files are.
+
+ghost use Rattle.std.specs.Prelude.{◌≡◌, ◌<◌, ◌≤◌, ℕ, List, [], IsTrue, IfOk};
+ghost use Rattle.batch_journal.specs.Faults.{IsBlank};
+ghost use Rattle.node_lock.specs.Holds.{end_of, Fits};
+ghost use Rattle.kept_node.specs.Keeping.{StandsFor, Survives};
+ghost use Rattle.kept_node.specs.NodeHeads.{IsHeadOf};
+ghost use Rattle.cluster_text.specs.Linked.{own_key};
+ghost use Rattle.cluster_text.specs.Setups.{IsNodeSetup, IsServerSetup};
+
+use crate::fault::KeptFault;
+use crate::held::Journaled;
+use batch_journal::{Journal, JournalFault, read};
+use cluster_text::cluster::Setup;
+use kept_node::{Kept, NotNew, ReplayFault, Unrestored, head_of, new_locked, replay_events};
+use node_lock::{Locked, Seat, SharedNode};
+use node_server::SEATS;
+use quorum_sizes::NodeName;
+use role_node::{Config, Node};
+use sqlite_disk::{Disk, Files};
+use std::alloc::{AllocError, Global};
+use std::marker::Brand;
+use std::sync::ledger::{Blank, Ledger};
+
+/// Begins the journal of a setup's node.
+///
+/// # Errors
+///
+/// As [`Journal::begin`].
+pub fn begin<D: Disk + Drop>(
+    alloc: Global,
+    setup: &Setup,
+    files: Files<D>,
+) -> Result<Journal<D>, KeptFault>
+    requires me { IsNodeSetup setup.now }
+    requires peers { IsServerSetup setup.now }
+    requires beside { IsTrue (D.Disk.is_usable files.log) }
+    requires usable { IsTrue (D.Disk.is_usable files.db) }
+    ensures key { IfOk result (λ j. j.key ≡ own_key setup.now) }
+    ensures head { IfOk result (λ j. IsHeadOf setup.now.config setup.now.me j.head) }
+    ensures empty { IfOk result (λ j. IsTrue (D.Disk.is_clean j.disk) → j.batches ≡ []) }
+    ensures blank { IfOk result (λ j. IsTrue (D.Disk.is_clean j.disk) → IsBlank (D.Disk.seen files.db)) }
+{
+    let head = head_of(alloc, &setup.config, setup.me)?;
+    match Journal::begin(alloc, files, &setup.own_key(), head) {
+        Ok(journal) => Ok(journal),
+        Err((fault, _files)) => Err(KeptFault::Journal(fault)),
+    }
+}
+
+/// A node that has recorded what its journal stands for, and its seats.
+///
+/// # Errors
+///
+/// As [`Kept::restore`]; `Memory`.
+pub fn restored<L: Ledger, D: Disk + Drop>(
+    alloc: Global,
+    blank: Blank,
+    config: Config,
+    me: NodeName,
+    key: &[u8; 32],
+    files: Files<D>,
+) -> Result<(Journaled<L, D>, Vec<Seat<L>>), KeptFault>
+    requires name { blank.name ≡ L.name }
+    requires parts { (blank.parts ≡ L.parts) × (SEATS ≡ L.parts) }
+    requires me { me < config.roles.sizes.nodes }
+    requires beside { IsTrue (D.Disk.is_usable files.log) }
+    requires usable { IsTrue (D.Disk.is_usable files.db) }
+    ensures stands { IfOk result (λ r. IsTrue (D.Disk.is_clean r.0.kept.disk) → StandsFor key.now
+        r.0.kept.held.node.config r.0.kept.held.node.me (D.Disk.seen files.db) r.0.kept.held.node.history) }
+    ensures synced { IfOk result (λ r. r.0.kept.synced ≡ end_of r.0.kept.held) }
+    ensures key { IfOk result (λ r. r.0.kept.key ≡ key.now) }
+    ensures crash { IfOk result (λ r. Survives D.Disk.may_leave D.Disk.is_clean r.0.kept) }
+{
+    let (locked, mut seat, mut seats) = fresh(alloc, blank, config, me)?;
+    match Kept::restore(alloc, locked, &mut seat, key, files) {
+        Ok(kept) => {
+            if seats.push(seat).is_err() {
+                return Err(KeptFault::Journal(JournalFault::Memory));
+            }
+            Ok((Journaled { kept }, seats))
+        }
+        Err(Unrestored::Unopened { fault, .. }) => Err(KeptFault::Journal(fault)),
+        Err(Unrestored::Illegal { .. }) => Err(KeptFault::Illegal),
+        Err(Unrestored::Memory { .. }) => Err(KeptFault::Journal(JournalFault::Memory)),
+    }
+}
+
+/// A node that has recorded nothing, one of its seats, and the others.
+///
+/// # Errors
+///
+/// Only for want of memory.
+fn fresh<L: Ledger>(
+    alloc: Global,
+    blank: Blank,
+    config: Config,
+    me: NodeName,
+) -> Result<(Locked<L>, Seat<L>, Vec<Seat<L>>), AllocError>
+    requires name { blank.name ≡ L.name }
+    requires parts { (blank.parts ≡ L.parts) × (SEATS ≡ L.parts) }
+    requires me { me < config.roles.sizes.nodes }
+    ensures new { IfOk result (λ r. r.0.node.history ≡ []) }
+    ensures fits { IfOk result (λ r. Fits r.0 r.1) }
+{
+    let node = Node::new(alloc, config, me)?;
+    let (shared, mut seats) = SharedNode::<L>::new(alloc, blank, node, SEATS)?;
+    let mut seat = seats.pop().ok_or(AllocError)?;
+    match new_locked(shared, &mut seat) {
+        Ok(locked) => Ok((locked, seat, seats)),
+        Err(NotNew) => Err(AllocError),
+    }
+}
+
+/// What a journal is.
+#[derive(Clone, Copy, Debug, PartialEq, Eq)]
+pub struct Sight {
+    /// How many events it has, and in how many batches.
+    pub events: u64,
+    pub batches: u64,
+    /// How many bytes of the file are its head and its batches, and how many it has.
+    pub used: u64,
+    pub size: u64,
+    /// Behind the last batch stands what is none, which a crash may leave.
+    pub is_torn: bool,
+}
+
+/// Looks at the journal of a node, and changes nothing.
+///
+/// # Errors
+///
+/// As [`restored`].
+pub fn look<D: Disk + Drop>(
+    alloc: Global,
+    config: Config,
+    me: NodeName,
+    key: &[u8; 32],
+    files: &mut Files<D>,
+) -> Result<Sight, KeptFault>
+    requires me { me < config.roles.sizes.nodes }
+    requires beside { IsTrue (D.Disk.is_usable files.old.log) }
+    requires usable { IsTrue (D.Disk.is_usable files.old.db) }
+    ensures seen { D.Disk.seen files.new.db ≡ D.Disk.seen files.old.db }
+    ensures crash { (c : List ℕ) → D.Disk.may_leave files.new.db c → D.Disk.may_leave files.old.db c }
+{
+    look_at::<Brand, D>(alloc, Blank::new(u64::from(SEATS)), config, me, key, files)
+}
+
+/// The same at a ledger with one part for each seat.
+fn look_at<L: Ledger, D: Disk + Drop>(
+    alloc: Global,
+    blank: Blank,
+    config: Config,
+    me: NodeName,
+    key: &[u8; 32],
+    files: &mut Files<D>,
+) -> Result<Sight, KeptFault>
+    requires name { blank.name ≡ L.name }
+    requires parts { (blank.parts ≡ L.parts) × (SEATS ≡ L.parts) }
+    requires me { me < config.roles.sizes.nodes }
+    requires beside { IsTrue (D.Disk.is_usable files.old.log) }
+    requires usable { IsTrue (D.Disk.is_usable files.old.db) }
+    ensures seen { D.Disk.seen files.new.db ≡ D.Disk.seen files.old.db }
+    ensures crash { (c : List ℕ) → D.Disk.may_leave files.new.db c → D.Disk.may_leave files.old.db c }
+{
+    let head = head_of(alloc, &config, me)?;
+    let found = read(alloc, files, key, &head)?;
+    let is_torn = has_bytes(
+        alloc,
+        &mut files.db,
+        found.end as usize,
+        found.size as usize,
+    )?;
+    let (mut locked, mut seat, _seats) = fresh::<L>(alloc, blank, config, me)?;
+    match replay_events(&mut locked, &mut seat, &found.digits) {
+        Ok(events) => Ok(Sight {
+            events,
+            batches: found.count,
+            used: found.end,
+            size: found.size,
+            is_torn,
+        }),
+        Err(ReplayFault::Illegal { .. }) => Err(KeptFault::Illegal),
+        Err(ReplayFault::Memory) => Err(KeptFault::Journal(JournalFault::Memory)),
+    }
+}
+
+/// Whether a file has a byte from one place up to another that is not 0.
+fn has_bytes<D: Disk>(
+    alloc: Global,
+    file: &mut D,
+    from: usize,
+    to: usize,
+) -> Result<bool, JournalFault>
+    requires usable { IsTrue (D.Disk.is_usable file.old) }
+    requires order { from ≤ to }
+    ensures seen { D.Disk.seen file.new ≡ D.Disk.seen file.old }
+    ensures crash { (c : List ℕ) → D.Disk.may_leave file.new c → D.Disk.may_leave file.old c }
+{
+    let mut bytes = Vec::from_elem(alloc, 0u8, to - from)?;
+    match file.read_at(from, bytes.as_mut_slice()) {
+        Ok(()) => Ok(bytes.iter().any(|byte| *byte != 0)),
+        Err(_) => Err(JournalFault::Device),
+    }
+}

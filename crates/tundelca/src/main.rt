@@ -1,0 +1,132 @@
+//! A node of the registry that keeps its state.
+//!
+//! `specs/Givens.antt` says what it takes of a cluster text, `specs/Fingerprints.antt` by what two owners compare
+//! theirs, `specs/Keeping.antt` what of a node with a journal may leave, and `specs/Statuses.antt` with which status it
+//! ends.
+#![tactic(auto)]
+
+ghost use Rattle.std.specs.Prelude.{IfOk};
+ghost use Rattle.cluster_text.specs.Setups.{IsNodeSetup, IsServerSetup};
+
+mod fault;
+mod fingerprint;
+mod given;
+mod held;
+mod journal_file;
+mod keeping;
+mod report;
+mod reserved;
+mod serve;
+mod version;
+mod words;
+
+use cluster_text::cluster::Setup;
+use fault::{Fault, GivenFault, WordsFault};
+use given::read_given;
+use journal_file::{make_journal, open_journal, open_to_look, remove_beside};
+use keeping::{begin, look};
+use link_frames::Watched;
+use report::{report_of, sight_text};
+use serve::{serve_in_memory, serve_kept};
+use sqlite_std_file::Unknown;
+use std::env;
+use std::fs::File;
+use std::io::ErrorKind;
+use std::process::ExitCode;
+use words::{Keeping, Words, read_words};
+
+fn main(rt: HostRuntime) -> ExitCode {
+    let outcome = match words_given(&rt) {
+        Ok(Words::Serve { cluster, keeping }) => match (setup_of(&rt, &cluster), keeping) {
+            (Ok(setup), Keeping::InMemory) => {
+                serve_in_memory(&rt, rt.alloc(), setup).map_err(Fault::Serve)
+            }
+            (Ok(setup), Keeping::Journal(path)) => match open_journal(&rt, &path, Unknown) {
+                Ok(files) => serve_kept(&rt, rt.alloc(), setup, files),
+                Err(fault) => Err(Fault::Kept(fault)),
+            },
+            (Err(fault), _) => Err(Fault::Given(fault)),
+        },
+        Ok(words) => answer(&rt, words),
+        Err(fault) => Err(Fault::Words(fault)),
+    };
+    match outcome {
+        Ok(()) => ExitCode::SUCCESS,
+        Err(fault) => {
+            let _ = eprintln!(rt; "tundelca: {fault}");
+            ExitCode::from(fault.status())
+        }
+    }
+}
+
+/// Does what the words ask for, where they ask for no node to be served.
+fn answer(rt: &HostRuntime, words: Words) -> Result<(), Fault> {
+    match words {
+        Words::Say(text) => say(rt, &text),
+        Words::Serve { .. } => Ok(()),
+        Words::Journal { cluster, journal } => {
+            let setup = setup_of(rt, &cluster)?;
+            let _journal = begin(rt.alloc(), &setup, make_journal(rt, &journal, Unknown)?)?;
+            Ok(())
+        }
+        Words::Check { cluster, journal } => {
+            let setup = setup_of(rt, &cluster)?;
+            say(rt, &report_of(rt.alloc(), &setup)?)?;
+            match journal {
+                Some(path) => check(rt, setup, &path),
+                None => Ok(()),
+            }
+        }
+    }
+}
+
+/// Says what the journal of a setup's node is. The file beside it goes again where it was made for that.
+fn check(rt: &HostRuntime, setup: Setup, path: &str) -> Result<(), Fault>
+    requires me { IsNodeSetup setup }
+    requires peers { IsServerSetup setup }
+{
+    let key = setup.own_key();
+    let (mut files, is_made) = open_to_look(rt, path, Unknown)?;
+    let sight = look(rt.alloc(), setup.config, setup.me, &key, &mut files);
+    if is_made {
+        remove_beside(rt, path);
+    }
+    drop(files);
+    say(rt, &sight_text(rt.alloc(), &sight?)?)
+}
+
+/// Writes a text to standard output.
+fn say(rt: &HostRuntime, text: &str) -> Result<(), Fault> {
+    print!(rt; "{text}").map_err(|_| Fault::Unsaid)
+}
+
+/// What the words after the program's name ask for.
+fn words_given(rt: &HostRuntime) -> Result<Words, WordsFault> {
+    match env::args(rt) {
+        Ok(words) => read_words(rt.alloc(), words.skip(1).collect(rt.alloc())?),
+        Err(error) => {
+            if error.kind() == ErrorKind::OutOfMemory {
+                Err(WordsFault::Memory)
+            } else {
+                Err(WordsFault::Refused(String::new(rt.alloc())))
+            }
+        }
+    }
+}
+
+/// The setup of a cluster file.
+fn setup_of(rt: &HostRuntime, file: &str) -> Result<Setup, GivenFault>
+    ensures node { IfOk result IsNodeSetup }
+    ensures server { IfOk result IsServerSetup }
+{
+    match File::open(rt, file) {
+        Ok(file) => read_given(rt.alloc(), &mut Watched::new(file)),
+        Err(error) => {
+            if error.kind() == ErrorKind::OutOfMemory {
+                Err(GivenFault::Memory)
+            } else {
+                Err(GivenFault::Unread)
+            }
+        }
+    }
+}

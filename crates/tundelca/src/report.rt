@@ -1,0 +1,76 @@
+//! What is said of a cluster file.
+
+use crate::fingerprint::{of_common, of_key};
+use crate::keeping::Sight;
+use cluster_text::cluster::Setup;
+use role_commands::RoleTable;
+use std::alloc::{AllocError, Global};
+use std::fmt::Write;
+
+/// What a setup is, in lines: the cluster and the node, the roles with their owners, and the fingerprints of what the
+/// texts of all nodes have in common and of each key. Nothing in it is secret.
+///
+/// # Errors
+///
+/// Only for want of memory.
+pub fn report_of(alloc: Global, setup: &Setup) -> Result<String, AllocError> {
+    let mut text = String::new(alloc);
+    let sizes = setup.config.roles().sizes();
+    let (cluster, me) = (setup.config.cluster(), setup.me.index());
+    writeln!(text, "cluster {cluster}")?;
+    writeln!(text, "nodes {}, of which {} may lie", sizes.n(), sizes.f())?;
+    writeln!(
+        text,
+        "this node {me}, frames at port {}, clients at port {}",
+        frame_port(setup),
+        setup.client
+    )?;
+    push_roles(&mut text, setup.config.roles())?;
+    let common = of_common(alloc, &setup.config)?;
+    writeln!(text, "fingerprint of cluster, nodes and roles: {common}")?;
+    for (other, key) in setup.keys.as_slice().iter().enumerate() {
+        writeln!(
+            text,
+            "fingerprint of the key with node {other}: {}",
+            of_key(key)
+        )?;
+    }
+    Ok(text)
+}
+
+/// The port at which the node takes frames.
+fn frame_port(setup: &Setup) -> u16 {
+    match setup.nodes.as_slice().get(usize::from(setup.me.index())) {
+        Some(port) => *port,
+        None => 0,
+    }
+}
+
+/// The roles with their owners, the lowest role first.
+fn push_roles(text: &mut String, roles: &RoleTable) -> Result<(), AllocError> {
+    for role in 0..65_536u32 {
+        if let Some(owner) = roles.owner(role as u16) {
+            writeln!(text, "role {role} of node {}", owner.index())?;
+        }
+    }
+    Ok(())
+}
+
+/// What a journal is, in a line.
+///
+/// # Errors
+///
+/// Only for want of memory.
+pub fn sight_text(alloc: Global, sight: &Sight) -> Result<String, AllocError> {
+    let Sight {
+        events,
+        batches,
+        used,
+        size,
+        is_torn,
+    } = *sight;
+    let end = if is_torn { "torn" } else { "whole" };
+    format!(in alloc;
+        "journal of {events} events in {batches} batches, {used} of {size} bytes, its end {end}\n"
+    )
+}

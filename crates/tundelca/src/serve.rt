@@ -1,0 +1,160 @@
+//! The node over TCP: frames of its peers, and lines of its clients, on this machine's own address.
+
+ghost use Rattle.std.specs.Prelude.{◌≡◌, IsTrue, IfOk};
+ghost use Rattle.cluster_text.specs.Linked.{ring_of};
+ghost use Rattle.cluster_text.specs.Setups.{IsNodeSetup, IsServerSetup};
+
+use crate::fault::{Fault, ServeFault};
+use crate::keeping::restored;
+use cluster_text::cluster::Setup;
+use node_lock::SharedNode;
+use node_server::{ClusterKeys, SEATS, Site, listen};
+use role_node::Node;
+use sqlite_disk::{Disk, Files};
+use std::alloc::{AllocError, Global};
+use std::marker::Brand;
+use std::net::{Ipv4Addr, Net, SocketAddr, SocketAddrV4, TcpListener, TcpStream};
+use std::sync::Wait;
+use std::sync::ledger::{Blank, Ledger};
+use std::thread::Threads;
+use std::time::{Clock, Duration};
+
+/// The milliseconds after which a client that sends nothing is closed.
+const IDLE: u64 = 600_000;
+
+/// Serves the node of a setup, which keeps all in memory, until a client stops it.
+///
+/// # Errors
+///
+/// `Device` where a listener could not be made or has failed, and `Memory`.
+pub fn serve_in_memory<R>(rt: &R, alloc: Global, setup: Setup) -> Result<(), ServeFault>
+where
+    R: Net<Listener = TcpListener, Stream = TcpStream> + Threads + Wait + Clock + Sync,
+    requires me { IsNodeSetup setup }
+    requires peers { IsServerSetup setup }
+{
+    serve_at::<Brand, R>(rt, alloc, Blank::new(u64::from(SEATS)), setup)
+}
+
+/// The same at a ledger with one part for each seat.
+fn serve_at<L: Ledger + Send + Sync, R>(
+    rt: &R,
+    alloc: Global,
+    blank: Blank,
+    setup: Setup,
+) -> Result<(), ServeFault>
+where
+    R: Net<Listener = TcpListener, Stream = TcpStream> + Threads + Wait + Clock + Sync,
+    requires name { blank.name ≡ L.name }
+    requires parts { (blank.parts ≡ L.parts) × (SEATS ≡ L.parts) }
+    requires me { IsNodeSetup setup }
+    requires peers { IsServerSetup setup }
+{
+    let site = site_of(rt, alloc, &setup)?;
+    let keys = keys_of(alloc, &setup)?;
+    let node = Node::new(alloc, setup.config, setup.me)?;
+    let (shared, seats) = SharedNode::<L>::new(alloc, blank, node, SEATS)?;
+    let SharedNode { node } = shared;
+    node_server::serve(rt, alloc, node.into_inner(), seats, keys, site)?;
+    Ok(())
+}
+
+/// Serves the node of a setup, which keeps all in its journal, until a client stops it. Nobody is answered before the
+/// journal is opened.
+///
+/// # Errors
+///
+/// Why the journal is not opened; `Device` where a listener could not be made or has failed or a call of the disk has
+/// failed, and `Memory`.
+pub fn serve_kept<D: Disk + Drop + Send, R>(
+    rt: &R,
+    alloc: Global,
+    setup: Setup,
+    files: Files<D>,
+) -> Result<(), Fault>
+where
+    R: Net<Listener = TcpListener, Stream = TcpStream> + Threads + Wait + Clock + Sync,
+    requires me { IsNodeSetup setup }
+    requires peers { IsServerSetup setup }
+    requires beside { IsTrue (D.Disk.is_usable files.log) }
+    requires usable { IsTrue (D.Disk.is_usable files.db) }
+{
+    serve_kept_at::<Brand, D, R>(rt, alloc, Blank::new(u64::from(SEATS)), setup, files)
+}
+
+/// The same at a ledger with one part for each seat.
+fn serve_kept_at<L: Ledger + Send + Sync, D: Disk + Drop + Send, R>(
+    rt: &R,
+    alloc: Global,
+    blank: Blank,
+    setup: Setup,
+    files: Files<D>,
+) -> Result<(), Fault>
+where
+    R: Net<Listener = TcpListener, Stream = TcpStream> + Threads + Wait + Clock + Sync,
+    requires name { blank.name ≡ L.name }
+    requires parts { (blank.parts ≡ L.parts) × (SEATS ≡ L.parts) }
+    requires me { IsNodeSetup setup }
+    requires peers { IsServerSetup setup }
+    requires beside { IsTrue (D.Disk.is_usable files.log) }
+    requires usable { IsTrue (D.Disk.is_usable files.db) }
+{
+    let site = site_of(rt, alloc, &setup)?;
+    let keys = keys_of(alloc, &setup)?;
+    let own = setup.own_key();
+    let (node, seats) = restored::<L, D>(alloc, blank, setup.config, setup.me, &own, files)?;
+    node_server::serve(rt, alloc, node, seats, keys, site).map_err(ServeFault::from)?;
+    Ok(())
+}
+
+/// Where the node of a setup is served.
+///
+/// # Errors
+///
+/// `Device` where a listener could not be made, and `Memory`.
+pub fn site_of<R>(rt: &R, alloc: Global, setup: &Setup) -> Result<Site, ServeFault>
+where
+    R: Net<Listener = TcpListener, Stream = TcpStream>,
+    requires me { IsNodeSetup setup.now }
+    requires peers { IsServerSetup setup.now }
+{
+    let ports = setup.nodes.as_slice();
+    let peers = listen(rt, local(ports[usize::from(setup.me.index())]))?;
+    let clients = listen(rt, local(setup.client))?;
+    Ok(Site {
+        peers,
+        clients,
+        addresses: addresses(alloc, ports)?,
+        idle: Duration::from_millis(IDLE),
+    })
+}
+
+/// The addresses of ports on this machine.
+fn addresses(alloc: Global, ports: &[u16]) -> Result<Vec<SocketAddr>, AllocError> {
+    let mut made = Vec::with_capacity(alloc, ports.len())?;
+    for port in ports {
+        made.push(local(*port))?;
+    }
+    Ok(made)
+}
+
+/// The address of a port on this machine.
+fn local(port: u16) -> SocketAddr {
+    SocketAddr::V4(SocketAddrV4::new(Ipv4Addr::LOCALHOST, port))
+}
+
+/// The keys of the node of a setup, in its cluster.
+///
+/// # Errors
+///
+/// Only for want of memory.
+pub fn keys_of(alloc: Global, setup: &Setup) -> Result<ClusterKeys, AllocError>
+    requires me { IsNodeSetup setup.now }
+    requires peers { IsServerSetup setup.now }
+    ensures keys { IfOk result (λ made. made.keys ≡ ring_of setup.now) }
+    ensures cluster { IfOk result (λ made. made.cluster ≡ setup.now.config.cluster) }
+{
+    let keys = setup.pair_keys(alloc)?;
+    let sizes = setup.config.roles().sizes();
+    Ok(ClusterKeys::new(keys, sizes, setup.config.cluster(), setup.me))
+}
