@@ -1,9 +1,8 @@
 -- What the calls of a kept node make of its fields.
-use Rattle.std.proofs.Common.{◌≡◌, ℕ, ◌+◌, ◌-◌, ◌<◌, ◌≤◌, Bool, true, false, Option, Some, None, List, [], ◌∷◌, ◌++◌}
-use Rattle.std.proofs.Common.{length, take, refl, ap, sym, ◌∙◌, subst, arith, append-nil, ◌⊎◌, inl, inr, ⊎_elim}
+use Rattle.std.proofs.Common.{◌≡◌, ℕ, ◌+◌, ◌-◌, ◌<◌, ◌≤◌, Bool, true, false, Option, Some, List, [], ◌∷◌, ◌++◌}
+use Rattle.std.proofs.Common.{length, take, ap, sym, ◌∙◌, subst, arith, append-nil, inl, inr, ⊎_elim}
 use Rattle.std.proofs.Common.{Result, Ok, Err, length-append}
 use Rattle.std.specs.Prelude.{IsTrue, IfSome, IfErr, OnOk, OnErr, is_err, nat_le}
-use Rattle.std.specs.List.{concat}
 use Rattle.std.proofs.Math.Seq.{take-append_seam}
 use Rattle.std.proofs.lemmas.Bool.{cases_lt}
 use Rattle.std.proofs.lemmas.Bool.Decides.{nat_tests}
@@ -24,7 +23,6 @@ use Rattle.node_lock.specs.declared.receipt.Call.{Call}
 use Rattle.kept_node.specs.Events.{IsEvent, event_digits}
 use Rattle.kept_node.specs.NodeHeads.{IsHeadOf}
 use Rattle.kept_node.specs.Restoring.{IsUnrestored, LeavesAsBefore}
-use Rattle.kept_node.specs.declared.fault.Unrestored.{Unrestored}
 use Rattle.kept_node.specs.declared.fault.Unrestored.TheVariants.{Unopened}
 use Rattle.kept_node.specs.inside.Fields.{IsKept, event_in}
 use Rattle.kept_node.proofs.HeldLemmas.{held_put, held_same, recorded_is_of}
@@ -89,6 +87,7 @@ module _ {D : Type 0} where
     where
       grown : (history : List Event) (e : Event) → length (history ++ e ∷ []) ≡ length history + 1
       grown history e = length-append history (e ∷ [])
+
       stayed : new ≡ h → at ≡ recorded → now ≡ waiting → IsKept may_leave is_clean new j now wide at synced
       stayed stays count was =
           subst (λ (x : Held). IsKept may_leave is_clean x j now wide at synced) (sym stays)

@@ -2,8 +2,7 @@
 use Rattle.std.proofs.Common.{◌≡◌, ℕ, zero, suc, ◌+◌, ◌-◌, ◌*◌, ◌/◌, ◌%◌, ◌<◌, ◌≤◌, Bool, true, false, cond}
 use Rattle.std.proofs.Common.{Option, Some, None, List, [], ◌∷◌, ◌++◌, length, take, drop, refl, ap, sym, ◌∙◌, subst}
 use Rattle.std.proofs.Common.{arith, length-append, ◌⊎◌, inl, inr}
-use Rattle.std.specs.Prelude.{IsTrue, ◌&&◌, nat_le, option_and_then, option_map}
-use Rattle.std.specs.List.{list_all}
+use Rattle.std.specs.Prelude.{◌&&◌, nat_le, option_and_then, option_map}
 use Rattle.std.proofs.Math.Seq.{take-append_seam, drop-append_seam}
 use Rattle.std.proofs.lemmas.List.{take-append-drop}
 use Rattle.std.proofs.lemmas.Bool.Decides.{nat_tests}
@@ -103,7 +102,7 @@ number_found (digit ∷ digits) n e = go (number_found digits) (is_digit digit) 
     go : ((m : ℕ) → number_of digits ≡ Some m → digits_of (length digits) m ≡ digits) → (b : Bool) →
         is_digit digit ≡ b →
         cond b (option_and_then (λ high. up_to 18446744073709551615 (high * 120 + (digit - 129))) (number_of digits))
-            None ≡ Some n →
+        None ≡ Some n →
         (129 + n % 120) ∷ digits_of (length digits) (n / 120) ≡ digit ∷ digits
     go before true t e =
         let high = then_some (λ high. up_to 18446744073709551615 (high * 120 + (digit - 129))) (number_of digits) n e in
@@ -129,8 +128,8 @@ read_found width most n digits rest e = go (nat_le width (length digits)) refl e
   where
     go : (b : Bool) → nat_le width (length digits) ≡ b →
         cond b (option_and_then {U = ℕ × List ℕ}
-            (λ number. option_and_then {U = ℕ × List ℕ} (λ (m : ℕ). Some (m, drop width digits)) (up_to most number))
-            (number_of (take width digits))) None ≡ Some (n, rest) →
+        (λ number. option_and_then {U = ℕ × List ℕ} (λ (m : ℕ). Some (m, drop width digits)) (up_to most number))
+        (number_of (take width digits))) None ≡ Some (n, rest) →
         (digits ≡ digits_of width n ++ rest) × (n ≤ most)
     go true t e =
         let there : width ≤ length digits = grind (arith, nat_tests) in

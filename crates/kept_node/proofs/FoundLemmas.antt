@@ -1,9 +1,9 @@
 -- What is read as an event are its digits.
-use Rattle.std.proofs.Common.{◌≡◌, ℕ, ◌+◌, ◌-◌, ◌<◌, ◌≤◌, ◌^◌, Bool, true, false, cond, Option, Some, None}
-use Rattle.std.proofs.Common.{List, [], ◌∷◌, ◌++◌, length, refl, ap, sym, ◌∙◌, subst, arith, append_assoc, ⊎_elim}
-use Rattle.std.specs.Prelude.{IsTrue, ◌&&◌, ◌==◌, nat_le, nat_lt, option_map, option_and_then, if◌then◌else◌}
+use Rattle.std.proofs.Common.{◌≡◌, ℕ, ◌+◌, ◌-◌, ◌<◌, ◌≤◌, ◌^◌, Bool, true, false, cond, Some, None}
+use Rattle.std.proofs.Common.{List, ◌++◌, refl, ap, sym, ◌∙◌, subst, arith, append_assoc, ⊎_elim}
+use Rattle.std.specs.Prelude.{IsTrue, ◌==◌, nat_lt, option_map, option_and_then}
 use Rattle.std.proofs.lemmas.Bool.Decides.{nat_tests}
-use Rattle.quorum_sizes.specs.Sizes.{Counts, AreSizes, name_due}
+use Rattle.quorum_sizes.specs.Sizes.{Counts, name_due}
 use Rattle.role_commands.specs.Words.{IsCommand}
 use Rattle.role_commands.specs.declared.command.Command.{Command}
 use Rattle.role_commands.specs.declared.command.Command.TheVariants.{Assign, Deassign, Grant, Revoke, Clear}
@@ -11,7 +11,6 @@ use Rattle.link_frames.proofs.Exported.{due_takes}
 use Rattle.link_frames.specs.Packets.{PacketValue, IsPacket, IsSound, packet_due, packet_of}
 use Rattle.link_frames.specs.declared.kind.Kind.{Kind}
 use Rattle.link_frames.specs.declared.kind.Kind.TheVariants.{Send, Echo, Ready}
-use Rattle.link_frames.specs.declared.packet.Message.{Message}
 use Rattle.batch_journal.specs.Digits.{digits_of}
 use Rattle.role_sessions.specs.declared.event.ClientEvent.{ClientEvent}
 use Rattle.role_sessions.specs.declared.event.ClientEvent.TheVariants.{Open, Activate, DropRole, Close}
@@ -158,6 +157,7 @@ command_found number digits r e =
   where
     P : Command × List ℕ → Type 0
     P x = CommandRead number digits x
+
     assign : ((number == 0) ≡ true) × (option_map {U = Command × List ℕ} (λ (x : (ℕ × ℕ) × List ℕ).
         (Assign x.0.1 x.0.0, x.1)) (role_and_user_at digits) ≡ Some r) → CommandRead number digits r
     assign h =
@@ -166,6 +166,7 @@ command_found number digits r e =
         let found = role_and_user_found digits m.0 m.1 in
         let is : number ≡ 0 = grind (arith, nat_tests, h.0) in
         subst (CommandRead number digits) m.2 (is, found.0, (found.2, found.1))
+
     deassign : ((number == 1) ≡ true) × (option_map {U = Command × List ℕ} (λ (x : (ℕ × ℕ) × List ℕ).
         (Deassign x.0.1 x.0.0, x.1)) (role_and_user_at digits) ≡ Some r) → CommandRead number digits r
     deassign h =
@@ -174,6 +175,7 @@ command_found number digits r e =
         let found = role_and_user_found digits m.0 m.1 in
         let is : number ≡ 1 = grind (arith, nat_tests, h.0) in
         subst (CommandRead number digits) m.2 (is, found.0, (found.2, found.1))
+
     grant : ((number == 2) ≡ true) × (option_map {U = Command × List ℕ} (λ (x : (ℕ × ℕ × ℕ) × List ℕ).
         (Grant x.0.0 x.0.1 x.0.2, x.1)) (permission_at digits) ≡ Some r) → CommandRead number digits r
     grant h =
@@ -182,6 +184,7 @@ command_found number digits r e =
         let found = permission_found digits m.0 m.1 in
         let is : number ≡ 2 = grind (arith, nat_tests, h.0) in
         subst (CommandRead number digits) m.2 (is, found.0, (found.1, found.2, found.3))
+
     revoke : ((number == 3) ≡ true) × (option_map {U = Command × List ℕ} (λ (x : (ℕ × ℕ × ℕ) × List ℕ).
         (Revoke x.0.0 x.0.1 x.0.2, x.1)) (permission_at digits) ≡ Some r) → CommandRead number digits r
     revoke h =
@@ -190,6 +193,7 @@ command_found number digits r e =
         let found = permission_found digits m.0 m.1 in
         let is : number ≡ 3 = grind (arith, nat_tests, h.0) in
         subst (CommandRead number digits) m.2 (is, found.0, (found.1, found.2, found.3))
+
     clear : ((number == 4) ≡ true) × (option_map {U = Command × List ℕ} (λ (x : ℕ × List ℕ). (Clear x.0, x.1))
         (number_at 3 65535 digits) ≡ Some r) → CommandRead number digits r
     clear h =
@@ -197,6 +201,7 @@ command_found number digits r e =
         let found = number_found 3 65535 digits m.0 m.1 in
         let is : number ≡ 4 = grind (arith, nat_tests, h.0) in
         subst (CommandRead number digits) m.2 (is, found.0, omega (arith, found.1))
+
     none : ((number == 4) ≡ false) × (None ≡ Some r) → CommandRead number digits r
     none h = let e = h.1 in absurd cc
 
@@ -219,6 +224,7 @@ act_found number digits r e =
         let found = number_found 5 4294967295 digits m.0 m.1 in
         let is : number ≡ 20 = grind (arith, nat_tests, h.0) in
         subst (ActRead number digits) m.2 (is, found.0, omega (arith, found.1))
+
     activates : ((number == 21) ≡ true) × (option_map {U = ClientEvent × List ℕ} (λ (x : (ℕ × ℕ × ℕ) × List ℕ).
         (Activate x.0.0 x.0.1 x.0.2, x.1)) (session_and_role_at digits) ≡ Some r) → ActRead number digits r
     activates h =
@@ -227,6 +233,7 @@ act_found number digits r e =
         let found = session_and_role_found digits m.0 m.1 in
         let is : number ≡ 21 = grind (arith, nat_tests, h.0) in
         subst (ActRead number digits) m.2 (is, found.0, (found.1, found.2, found.3))
+
     drops : ((number == 22) ≡ true) × (option_map {U = ClientEvent × List ℕ} (λ (x : (ℕ × ℕ × ℕ) × List ℕ).
         (DropRole x.0.0 x.0.1 x.0.2, x.1)) (session_and_role_at digits) ≡ Some r) → ActRead number digits r
     drops h =
@@ -235,9 +242,10 @@ act_found number digits r e =
         let found = session_and_role_found digits m.0 m.1 in
         let is : number ≡ 22 = grind (arith, nat_tests, h.0) in
         subst (ActRead number digits) m.2 (is, found.0, (found.1, found.2, found.3))
+
     closes : ((number == 23) ≡ true) × (option_and_then {U = ClientEvent × List ℕ} (λ (session : ℕ × List ℕ).
         option_and_then {U = ClientEvent × List ℕ} (λ (user : ℕ × List ℕ). Some (Close session.0 user.0, user.1))
-            (number_at 5 4294967295 session.1))
+        (number_at 5 4294967295 session.1))
         (number_at 10 18446744073709551615 digits) ≡ Some r) → ActRead number digits r
     closes h =
         let session = then_some {A = ℕ × List ℕ} {B = ClientEvent × List ℕ} (λ session.
@@ -254,6 +262,7 @@ act_found number digits r e =
               ∙ sym (append_assoc (digits_of 10 session.0.0) (digits_of 5 user.0.0) user.0.1),
           (omega (arith, a.1), omega (arith, b.1)),
         )
+
     none : ((number == 23) ≡ false) × (None ≡ Some r) → ActRead number digits r
     none h = let e = h.1 in absurd cc
 
@@ -320,11 +329,11 @@ packet_found s me kind number digits r e =
           digits_are = f.0 ∙ ap (λ (l : List ℕ). digits_of 2 from.0 ++ l) (o.0 ∙ ap (λ (l : List ℕ).
               digits_of 2 owner.0 ++ l) (p.0 ∙ ap (λ (l : List ℕ). digits_of 3 place.0 ++ l) c.1))
               ∙ sym (append_assoc (digits_of 2 from.0) (digits_of 2 owner.0)
-                (digits_of 3 place.0 ++ (command_digits command.0 ++ command.1)))
+              (digits_of 3 place.0 ++ (command_digits command.0 ++ command.1)))
               ∙ sym (append_assoc (digits_of 2 from.0 ++ digits_of 2 owner.0) (digits_of 3 place.0)
-                (command_digits command.0 ++ command.1))
+              (command_digits command.0 ++ command.1))
               ∙ sym (append_assoc ((digits_of 2 from.0 ++ digits_of 2 owner.0) ++ digits_of 3 place.0)
-                (command_digits command.0) command.1);
+              (command_digits command.0) command.1);
           fits = (sound.0, sound.1, c.2);
           there = routed_to s me (packet_of from.0 me
               (record { kind = kind; owner = owner.0; place = place.0; command = command.0 })) refl f.1 o.1;
@@ -338,7 +347,7 @@ EventRead s me number digits r =
 taken : (s : Counts) (me : ℕ) (kind : Kind) (number less : ℕ) (digits : List ℕ) (r : Event × List ℕ) →
     kind_number kind ≡ less → less ≤ number →
     option_map {U = Event × List ℕ} (λ (x : PacketValue × List ℕ). (Take x.0, x.1))
-        (packet_at s me kind (number - less) digits) ≡ Some r →
+    (packet_at s me kind (number - less) digits) ≡ Some r →
     EventRead s me number digits r
 taken s me kind number less digits r k h e =
     let m = mapped {A = PacketValue × List ℕ} {B = Event × List ℕ} (λ x. (Take x.0, x.1))
@@ -360,12 +369,14 @@ numbered_found s me number digits r e =
   where
     above : (least : ℕ) → nat_lt number least ≡ false → least ≤ number
     above least h = grind (arith, nat_tests)
+
     issues : (nat_lt number 5 ≡ true) × (option_map {U = Event × List ℕ} (λ (x : Command × List ℕ). (Issue x.0, x.1))
         (command_at number digits) ≡ Some r) → EventRead s me number digits r
     issues h =
         let m = mapped {A = Command × List ℕ} {B = Event × List ℕ} (λ x. (Issue x.0, x.1)) (command_at number digits) r
         h.1 in
         subst (EventRead s me number digits) m.2 (command_found number digits m.0 m.1)
+
     acts : (nat_lt number 20 ≡ false) × (option_map {U = Event × List ℕ} (λ (x : ClientEvent × List ℕ).
         (Client x.0, x.1)) (act_at number digits) ≡ Some r) → EventRead s me number digits r
     acts h =
@@ -380,8 +391,7 @@ event_found s me digits r e =
     let number = then_some {A = ℕ × List ℕ} {B = Event × List ℕ} (λ number. numbered_event s me number.0 number.1)
     (number_at 1 119 digits) r e in
     let a = number_found 1 119 digits number.0 number.1 in
-    let b = numbered_found s me number.0.0 number.0.1 r number.2 in
-    (
+    let b = numbered_found s me number.0.0 number.0.1 r number.2 in (
       a.0 ∙ (λ i. digits_of 1 (b.0 i) ++ b.1 i)
           ∙ sym (append_assoc (digits_of 1 (event_number r.0)) (behind_number r.0) r.1),
       b.2,

@@ -1,16 +1,15 @@
 -- The roles of a head are digits, and not too many.
-use Rattle.std.proofs.Common.{◌≡◌, ℕ, zero, suc, ◌+◌, ◌-◌, ◌*◌, ◌/◌, ◌%◌, ◌<◌, ◌≤◌, Bool, true, false, cond}
-use Rattle.std.proofs.Common.{Option, Some, None, List, [], ◌∷◌, ◌++◌, length, refl, ap, sym, ◌∙◌, subst, arith}
+use Rattle.std.proofs.Common.{◌≡◌, ℕ, zero, suc, ◌+◌, ◌-◌, ◌*◌, ◌<◌, ◌≤◌, false, cond}
+use Rattle.std.proofs.Common.{Option, Some, None, [], ◌++◌, length, refl, ap, ◌∙◌, arith}
 use Rattle.std.proofs.Common.{add-one, append-nil, length-append}
-use Rattle.std.specs.Prelude.{IsTrue, is_some, ◌&&◌, ◌==◌, nat_le}
-use Rattle.std.specs.List.{list_all}
+use Rattle.std.specs.Prelude.{is_some, ◌==◌}
 use Rattle.std.specs.Cmp.{nat_cmp_total, unsigned_tied}
 use Rattle.std.specs.FinMap as map
 use Rattle.std.specs.FinMap.{FinMap, get-remove, len-remove, get-empty, empty_of_len}
-use Rattle.std.specs.Ordering.{nat_cmp, eq_by_cmp}
+use Rattle.std.specs.Ordering.{nat_cmp}
 use Rattle.std.proofs.lemmas.Bool.Decides.{nat_tests}
 use Rattle.role_commands.specs.Tables.{Table, IsTable}
-use Rattle.batch_journal.specs.Digits.{digits_of, is_digit, AreDigits}
+use Rattle.batch_journal.specs.Digits.{digits_of, AreDigits}
 use Rattle.kept_node.specs.NodeHeads.{roles_below, role_digits}
 use Rattle.kept_node.proofs.DigitLemmas.{length-digits_of, digits-digits_of, digits-append}
 
@@ -65,6 +64,7 @@ one_more t role owner some = go (map.len t.owners) refl
     less : map.len (map.remove t.owners role) ≡ map.len t.owners - 1
     less = len-remove nat_cmp_total t.owners role
         ∙ ap (λ (o : Option ℕ). cond (is_some o) (map.len t.owners - 1) (map.len t.owners)) some
+
     go : (n : ℕ) → map.len t.owners ≡ n → map.len (map.remove t.owners role) + 1 ≡ map.len t.owners
     go zero none =
         let absent : map.get t.owners role ≡ None =
@@ -82,8 +82,14 @@ below_length (suc n) t = go (below_length n) (map.get t.owners n) refl
     go before None none = rw append-nil (before t)
     go before (Some owner) some =
         let same = ap length (below_without t n n (omega arith)) in
-        omega (arith, before (without t n), same, one_more t n owner some, role_length n owner,
-            length-append (roles_below t n) (role_digits n (Some owner)))
+        omega (
+          arith,
+          before (without t n),
+          same,
+          one_more t n owner some,
+          role_length n owner,
+          length-append (roles_below t n) (role_digits n (Some owner)),
+        )
 
 pub below_few : (t : Table) (n : ℕ) → IsTable t → length (roles_below t n) ≤ 100000
 below_few t n h = omega (arith, h.1, below_length n t)

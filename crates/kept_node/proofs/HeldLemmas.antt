@@ -1,7 +1,7 @@
 -- What an event does to a seat and to what is behind the lock.
 use Rattle.std.proofs.Common.{◌≡◌, ℕ, ◌+◌, ◌<◌, ◌≤◌, Bool, true, false, cond, Option, Some, None, Result, Ok, Err}
-use Rattle.std.proofs.Common.{List, [], ◌∷◌, ◌++◌, length, refl, ap, sym, ◌∙◌, subst, arith, length-append, ◌⊎◌, inl, inr}
-use Rattle.std.specs.Prelude.{IsTrue, ◌==◌, ◌&&◌, count_by, slice_get, nat_le}
+use Rattle.std.proofs.Common.{List, [], ◌∷◌, ◌++◌, length, refl, ap, ◌∙◌, arith, length-append}
+use Rattle.std.specs.Prelude.{IsTrue, ◌==◌, count_by, nat_le}
 use Rattle.std.proofs.lemmas.Bool.Decides.{nat_tests}
 use Rattle.std.proofs.lemmas.List.Sums.{sum_by-append}
 use Rattle.link_frames.specs.Packets.{PacketValue}
@@ -11,14 +11,13 @@ use Rattle.role_node.specs.Answers.{answer_due, is_recorded, is_routed, IsLegal,
 use Rattle.role_node.specs.Answers.{reply_to}
 use Rattle.role_node.specs.Histories.{packets}
 use Rattle.role_node.specs.Configs.{ConfigValue}
-use Rattle.role_node.specs.Nodes.{NodeValue, due_at, with_event}
+use Rattle.role_node.specs.Nodes.{due_at, with_event}
 use Rattle.role_node.specs.declared.event.Event.{Event}
 use Rattle.role_node.specs.declared.event.Event.TheVariants.{Issue, Take, Client}
 use Rattle.role_node.specs.declared.event.Reply.{Reply}
-use Rattle.role_node.specs.declared.event.Reply.TheVariants as reply
 use Rattle.role_node.specs.declared.faults.NodeFault.{NodeFault}
 use Rattle.role_node.specs.declared.faults.NodeFault.TheVariants.{Misrouted}
-use Rattle.node_lock.specs.Holds.{Held, Fits, end_of, held_after, seat_after, count_of}
+use Rattle.node_lock.specs.Holds.{Held, Fits, end_of, held_after, seat_after}
 use Rattle.node_lock.specs.Receipts.{outcome_from, is_recorded_outcome}
 use Rattle.node_lock.specs.Seats.{Sitting}
 use Rattle.node_lock.specs.Views.{held_after_hold}
@@ -47,7 +46,7 @@ fits_after h s e fits = go (is_recorded (due_at h.node e))
     go : (b : Bool) → Fits
         (cond b (record { node = with_event h.node e; seats = h.seats ++ s.number ∷ [] }) h)
         (cond b (record { number = s.number; count = s.count + 1; seen = end_of h + 1 })
-            (record { number = s.number; count = s.count; seen = end_of h }))
+        (record { number = s.number; count = s.count; seen = end_of h }))
     go true = record {
       seen = omega (arith, length-append h.node.history (e ∷ []));
       count = counted_more s.number h.seats ∙ ap (λ n. n + 1) fits.count;
@@ -84,9 +83,13 @@ held_put h s (Some (Step e)) less = go (is_recorded (due_at h.node e)) refl less
         length h.node.history < length (cond b (record { node = with_event h.node e; seats = h.seats ++ s.number ∷ [] }) h).node.history →
         (x : Event) × (Some e ≡ Some x) × IsTrue (is_recorded (due_at h.node x))
         × (cond (is_recorded (due_at h.node e)) (record { node = with_event h.node e; seats = h.seats ++ s.number ∷ [] }) h
-            ≡ record { node = with_event h.node x; seats = h.seats ++ s.number ∷ [] })
-    go true t l = (e, refl, t,
-        ap (λ (b : Bool). cond b (record { node = with_event h.node e; seats = h.seats ++ s.number ∷ [] }) h) t)
+        ≡ record { node = with_event h.node x; seats = h.seats ++ s.number ∷ [] })
+    go true t l = (
+      e,
+      refl,
+      t,
+      ap (λ (b : Bool). cond b (record { node = with_event h.node e; seats = h.seats ++ s.number ∷ [] }) h) t,
+    )
     go false t l = absurd (omega arith)
 
 pub held_same : (h : Held) (s : Sitting) (call : Option Call) → end_of (held_after_hold h s call) ≤ end_of h →
@@ -97,7 +100,7 @@ held_same h s (Some (Step e)) few = go (is_recorded (due_at h.node e)) few
   where
     go : (b : Bool) →
         length (cond b (record { node = with_event h.node e; seats = h.seats ++ s.number ∷ [] }) h).node.history
-            ≤ length h.node.history →
+        ≤ length h.node.history →
         cond b (record { node = with_event h.node e; seats = h.seats ++ s.number ∷ [] }) h ≡ h
     go true l = absurd (omega (arith, length-append h.node.history (e ∷ [])))
     go false l = refl

@@ -1,12 +1,11 @@
 -- Histories and their digits.
-use Rattle.std.proofs.Common.{◌≡◌, ◌≢◌, ℕ, zero, suc, ◌+◌, ◌-◌, ◌<◌, ◌≤◌, Bool, true, false, cond, Option, Some, None}
-use Rattle.std.proofs.Common.{List, [], ◌∷◌, ◌++◌, length, take, drop, refl, ap, sym, ◌∙◌, subst, arith, append_assoc}
+use Rattle.std.proofs.Common.{◌≡◌, ℕ, zero, suc, ◌+◌, Bool, true, false, cond}
+use Rattle.std.proofs.Common.{List, [], ◌∷◌, ◌++◌, length, take, drop, refl, ap, sym, ◌∙◌, arith}
 use Rattle.std.proofs.Common.{append-nil, length-append, Result, Ok, Err}
-use Rattle.std.specs.Prelude.{IsTrue, All, ◌==◌, slice_index}
-use Rattle.std.specs.List.{concat, flat_map}
+use Rattle.std.specs.Prelude.{All, ◌==◌, slice_index}
+use Rattle.std.specs.List.{concat}
 use Rattle.std.proofs.lemmas.List.Concat.{flat_map-append}
 use Rattle.std.proofs.lemmas.List.Elements.{All-nil}
-use Rattle.std.proofs.Math.Seq.{take-append_seam}
 use Rattle.quorum_sizes.specs.Sizes.{Counts, AreSizes}
 use Rattle.link_frames.specs.Hmac.{hmac}
 use Rattle.batch_journal.specs.Batches.{sealed}
@@ -20,8 +19,7 @@ use Rattle.role_node.specs.Configs.{ConfigValue}
 use Rattle.role_node.specs.declared.event.Event.{Event}
 use Rattle.kept_node.specs.Events.{IsEventOf, event_digits, digits_of_events}
 use Rattle.kept_node.specs.NodeHeads.{IsHeadOf}
-use Rattle.kept_node.specs.Keeping.{StandsFor, IsFront}
-use Rattle.kept_node.specs.Laws.{IsFrontOf}
+use Rattle.kept_node.specs.Keeping.{StandsFor}
 use Rattle.kept_node.specs.inside.EventReading.{event_at}
 use Rattle.kept_node.proofs.DigitLemmas.{some_pair}
 use Rattle.kept_node.proofs.ReadingLemmas.{event_again, event_some}
@@ -71,8 +69,8 @@ same_opened config me a b ha hb =
     let roles = ha.roles ∙ sym hb.roles in
     let limit = ha.limit ∙ sym hb.limit in
     λ i. 249 ∷ digits_of 1 1 ++ digits_of 1 1 ++ digits_of 2 0 ++ digits_of 5 (cluster i) ++ digits_of 2 (node i)
-        ++ digits_of 2 (nodes i) ++ digits_of 2 (liars i) ++ digits_of 3 (length (roles i)) ++ roles i
-        ++ digits_of 5 (limit i) ++ digits_of 3 (60 + length (roles i))
+    ++ digits_of 2 (nodes i) ++ digits_of 2 (liars i) ++ digits_of 3 (length (roles i)) ++ roles i
+    ++ digits_of 5 (limit i) ++ digits_of 3 (60 + length (roles i))
 
 same_head : (key : List ℕ) (config : ConfigValue) (me : ℕ) (a b : Head) → IsHeadOf config me a → IsHeadOf config me b →
     head_of key a ≡ head_of key b
@@ -93,7 +91,7 @@ read_ok key head bytes batches e =
   where
     go : (b : Bool) (x : Result (List (List ℕ)) JournalFault) →
         cond b x (cond (slice_index bytes (agreeing (head_of key head) bytes) == 0) (Err NotAJournal)
-            (Err (other_head head (agreeing (head_of key head) bytes)))) ≡ Ok batches → x ≡ Ok batches
+        (Err (other_head head (agreeing (head_of key head) bytes)))) ≡ Ok batches → x ≡ Ok batches
     go true x e = e
     go false x e = absurd (not_ok (slice_index bytes (agreeing (head_of key head) bytes) == 0) NotAJournal
         (other_head head (agreeing (head_of key head) bytes)) batches e)

@@ -1,9 +1,9 @@
 -- What holds of a kept node's fields, from one call to the next.
-use Rattle.std.proofs.Common.{◌≡◌, ℕ, zero, suc, ◌+◌, ◌-◌, ◌*◌, ◌<◌, ◌≤◌, Bool, true, false, List, [], ◌∷◌, ◌++◌}
-use Rattle.std.proofs.Common.{length, take, drop, refl, ap, sym, ◌∙◌, subst, arith, append_assoc, append-nil}
-use Rattle.std.proofs.Common.{length-append, ◌⊎◌, inl, inr, ⊎_elim, Result, Ok, Err}
+use Rattle.std.proofs.Common.{◌≡◌, ℕ, ◌+◌, ◌<◌, ◌≤◌, Bool, true, false, List, [], ◌∷◌, ◌++◌}
+use Rattle.std.proofs.Common.{length, take, refl, ap, sym, ◌∙◌, subst, arith, append_assoc, append-nil}
+use Rattle.std.proofs.Common.{length-append, ◌⊎◌, inl, inr, ⊎_elim, Ok}
 use Rattle.std.specs.Prelude.{IsTrue, All}
-use Rattle.std.specs.List.{concat, flat_map}
+use Rattle.std.specs.List.{concat}
 use Rattle.std.proofs.Math.Seq.{take-append_seam}
 use Rattle.std.proofs.lemmas.Bool.{cases_lt}
 use Rattle.std.proofs.lemmas.List.Concat.{flat_map-append}
@@ -27,7 +27,7 @@ use Rattle.node_lock.specs.Holds.{Held, end_of}
 use Rattle.kept_node.specs.Events.{IsEventOf, event_digits, digits_of_events, command_digits, act_digits, behind_number}
 use Rattle.kept_node.specs.Events.{event_number}
 use Rattle.kept_node.specs.NodeHeads.{IsHeadOf}
-use Rattle.kept_node.specs.Keeping.{StandsFor, IsFront, Survives}
+use Rattle.kept_node.specs.Keeping.{IsFront, Survives}
 use Rattle.kept_node.specs.inside.Fields.{IsWritten, IsKept, IsCommitted}
 use Rattle.kept_node.proofs.DigitLemmas.{digits-digits_of, digits-append}
 use Rattle.kept_node.proofs.HistoryLemmas.{All-take, All-cons, digits_more}
@@ -115,6 +115,7 @@ module _ {D : Type 0} where
       settled : take f.count j.batches ≡ w.settled → IsFront synced j.key node c
       settled is = front_made j node c synced f.count w.settled w.first (w.second ++ w.third) head each
           (f.is ∙ ap Ok is) w.first_digits w.history_is (omega (arith, w.synced_is))
+
       whole : take f.count j.batches ≡ w.settled ++ w.last → IsFront synced j.key node c
       whole is =
           let digits : concat (w.settled ++ w.last) ≡ digits_of_events (w.first ++ w.second) =
@@ -123,14 +124,18 @@ module _ {D : Type 0} where
           front_made j node c synced f.count (w.settled ++ w.last) (w.first ++ w.second) w.third head each
           (f.is ∙ ap Ok is) digits (w.history_is ∙ sym (append_assoc w.first w.second w.third))
           (omega (arith, w.synced_is, length-append w.first w.second))
+
       front : f.count ≡ length w.settled → take f.count j.batches ≡ w.settled
       front e = (λ i. take (e i) (w.batches i)) ∙ take-append_seam w.settled w.last
+
       all : f.count ≡ length (w.settled ++ w.last) → take f.count j.batches ≡ w.settled ++ w.last
       all e = (λ i. take (e i) (w.batches i))
           ∙ ap (take (length (w.settled ++ w.last))) (sym (append-nil (w.settled ++ w.last)))
           ∙ take-append_seam (w.settled ++ w.last) []
+
       long : length j.batches ≡ length w.settled + length w.last
       long = ap length w.batches ∙ length-append w.settled w.last
+
       go : (last : List (List ℕ)) → w.last ≡ last → length w.last ≤ 1 → IsFront synced j.key node c
       go last e few =
           elim (cases_lt f.count (length w.settled + 1)) [
@@ -142,7 +147,7 @@ module _ {D : Type 0} where
       (waiting : List ℕ) (capacity recorded synced : ℕ) →
       IsKept may_leave is_clean held j waiting capacity recorded synced →
       Survives may_leave is_clean
-          (record { held = held; disk = j.disk; key = j.key; synced = synced; broken = j.broken })
+      (record { held = held; disk = j.disk; key = j.key; synced = synced; broken = j.broken })
   kept_survives may_leave is_clean held j waiting capacity recorded synced k clean c may =
       front_of j held.node waiting synced c k.head k.each (k.written clean) (k.survives clean c may)
 
@@ -386,6 +391,7 @@ module _ {D : Type 0} where
           IsKept may_leave is_clean held new now wide recorded synced
       stays e l = subst (λ (x : JournalValue D). IsKept may_leave is_clean held x now wide recorded synced) (sym e)
           (kept_roomy may_leave is_clean held j new.room waiting capacity recorded synced now wide k l room is)
+
       at : (b : Bool) → j.broken ≡ b → fault ≡ Device → IsKept may_leave is_clean held new now wide recorded synced
       at true t d =
           let e = broken t in

@@ -1,14 +1,14 @@
 -- What is read as an event are its digits, and an event's digits are read as the event.
-use Rattle.std.proofs.Common.{◌≡◌, ℕ, ◌+◌, ◌-◌, ◌<◌, ◌≤◌, ◌^◌, Bool, true, false, cond, Option, Some, None}
-use Rattle.std.proofs.Common.{List, [], ◌∷◌, ◌++◌, length, refl, ap, sym, ◌∙◌, subst, arith, append_assoc}
-use Rattle.std.specs.Prelude.{IsTrue, ◌&&◌, ◌==◌, nat_le, nat_lt, option_map, option_and_then}
+use Rattle.std.proofs.Common.{◌≡◌, ℕ, ◌+◌, ◌<◌, ◌^◌, true, Some}
+use Rattle.std.proofs.Common.{List, ◌++◌, length, refl, ap, ◌∙◌, subst, arith, append_assoc}
+use Rattle.std.specs.Prelude.{IsTrue, nat_lt, option_map}
 use Rattle.std.proofs.lemmas.Bool.Decides.{nat_tests}
-use Rattle.quorum_sizes.specs.Sizes.{Counts, AreSizes, name_due}
+use Rattle.quorum_sizes.specs.Sizes.{Counts, AreSizes}
 use Rattle.role_commands.specs.Words.{IsCommand}
 use Rattle.role_commands.specs.declared.command.Command.{Command}
 use Rattle.role_commands.specs.declared.command.Command.TheVariants.{Assign, Deassign, Grant, Revoke, Clear}
 use Rattle.link_frames.proofs.Exported.{due_again}
-use Rattle.link_frames.specs.Packets.{PacketValue, IsPacket, packet_due, packet_of}
+use Rattle.link_frames.specs.Packets.{PacketValue, IsPacket, packet_due}
 use Rattle.link_frames.specs.declared.kind.Kind.{Kind}
 use Rattle.link_frames.specs.declared.kind.Kind.TheVariants.{Send, Echo, Ready}
 use Rattle.batch_journal.specs.Digits.{digits_of}

@@ -1,5 +1,5 @@
 -- What a journal that was opened makes of the node that is restored from it.
-use Rattle.std.proofs.Common.{◌≡◌, ℕ, ◌+◌, ◌≤◌, Bool, false, List, [], length, refl, ap, sym, ◌∙◌, subst, arith, Ok}
+use Rattle.std.proofs.Common.{◌≡◌, ℕ, ◌≤◌, Bool, List, [], length, ap, sym, ◌∙◌, subst, Ok}
 use Rattle.std.specs.Prelude.{IsTrue, All}
 use Rattle.std.specs.List.{concat}
 use Rattle.quorum_sizes.specs.Sizes.{AreSizes}
@@ -9,7 +9,6 @@ use Rattle.batch_journal.specs.Readings.{reading}
 use Rattle.batch_journal.specs.declared.head.Head.{Head}
 use Rattle.role_node.specs.Configs.{ConfigValue}
 use Rattle.role_node.specs.Nodes.{NodeValue}
-use Rattle.role_node.specs.declared.event.Event.{Event}
 use Rattle.node_lock.specs.Holds.{Held, end_of}
 use Rattle.kept_node.specs.Events.{IsEventOf, digits_of_events}
 use Rattle.kept_node.specs.NodeHeads.{IsHeadOf}

@@ -1,5 +1,5 @@
 -- What a hold of a kept node said, and who may read it.
-use Rattle.std.specs.Prelude.{ℕ, Option, Some, None, option_and_then}
+use Rattle.std.specs.Prelude.{ℕ, Option, None, option_and_then}
 use Rattle.link_frames.specs.Packets.{PacketValue, packet_due}
 use Rattle.link_frames.specs.declared.packet.Message.{Message}
 use Rattle.role_node.specs.Answers.{sent_by}

@@ -14,9 +14,14 @@ pub enum Unrestored<D: Disk> {
         files: Files<D>,
     },
     /// The digits behind so many events are no event, or the node does not record it.
-    Illegal { place: u64, journal: Journal<D> },
+    Illegal {
+        place: u64,
+        journal: Journal<D>,
+    },
     /// Memory is wanting for the node's events.
-    Memory { journal: Journal<D> },
+    Memory {
+        journal: Journal<D>,
+    },
 }
 
 impl<D: Disk> fmt::Display for Unrestored<D> {

@@ -235,7 +235,7 @@ impl<L: Ledger, D: Disk> Kept<L, D> {
             × Failed 0 (D.Disk.faults self.new.disk) (D.Disk.is_mixing self.new.disk) }
         ensures full { result ≡ Err journal_fault.Full → (self.new ≡ self.old)
             × (IsTrue (D.Disk.is_clean self.old.disk) →
-                536870912 < length (D.Disk.seen self.old.disk) + room_behind) }
+            536870912 < length (D.Disk.seen self.old.disk) + room_behind) }
         ensures crash { Survives D.Disk.may_leave D.Disk.is_clean self.new }
     {
         if self.synced == self.recorded {
@@ -352,7 +352,7 @@ fn commit<D: Disk>(journal: &mut Journal<D>, waiting: &mut Vec<u8>) -> Result<()
     ensures full { result ≡ Err journal_fault.Full → (journal.new ≡ record journal.old { room = journal.new.room })
         × (waiting.new.items ≡ waiting.old.items)
         × (IsTrue (D.Disk.is_clean journal.old.disk) →
-            536870912 < length (D.Disk.seen journal.old.disk) + room_behind) }
+        536870912 < length (D.Disk.seen journal.old.disk) + room_behind) }
     ensures which { IfErr result (λ e. (e ≡ journal_fault.Device) ⊎ (e ≡ journal_fault.Full)) }
     ensures room { journal.old.room ≤ journal.new.room }
     ensures capacity { vec_capacity waiting.new ≡ vec_capacity waiting.old }

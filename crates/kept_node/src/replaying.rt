@@ -33,10 +33,7 @@ pub enum ReplayFault {
 /// # Errors
 ///
 /// It has recorded events, or the seat has.
-pub fn new_locked<L: Ledger>(
-    shared: SharedNode<L>,
-    seat: &mut Seat<L>,
-) -> Result<Locked<L>, NotNew>
+pub fn new_locked<L: Ledger>(shared: SharedNode<L>, seat: &mut Seat<L>) -> Result<Locked<L>, NotNew>
     ensures new { IfOk result (λ locked. locked.node.history ≡ []) }
     ensures fits { IfOk result (λ locked. Fits locked seat.new) }
 {

@@ -52,14 +52,17 @@ impl<L: Ledger> Untold<L> {
     pub fn release(self, synced: &Synced<L>) -> Result<Told, Untold<L>>
         ensures { MatchResult result
             (λ told. (told ≡ record { receipt = self.receipt; view = self.view; at = self.at })
-                × (self.at ≤ synced.now))
+            × (self.at ≤ synced.now))
             (λ untold. (untold ≡ self) × (synced.now < self.at)) }
     {
         if self.at > synced.upto {
             return Err(self);
         }
         let Untold {
-            receipt, view, at, ..
+            receipt,
+            view,
+            at,
+            ..
         } = self;
         Ok(Told { receipt, view, at })
     }

@@ -1,5 +1,5 @@
 -- How digits are read as an event. Serves the code, and no public contract.
-use Rattle.std.specs.Prelude.{ℕ, ◌+◌, ◌-◌, ◌*◌, ◌==◌, ◌^◌, nat_lt, nat_le, if◌then◌else◌}
+use Rattle.std.specs.Prelude.{ℕ, ◌+◌, ◌-◌, ◌*◌, ◌==◌, nat_lt, nat_le, if◌then◌else◌}
 use Rattle.std.specs.Prelude.{List, [], ◌∷◌, length, take, drop, Option, Some, None, option_map}
 use Rattle.quorum_sizes.specs.Sizes.{Counts, name_due}
 use Rattle.role_commands.specs.Numbers.{◌>>=◌}

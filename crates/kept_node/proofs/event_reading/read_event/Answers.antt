@@ -1,4 +1,4 @@
-use Rattle.std.proofs.Common.{◌≡◌, ◌≤◌, ◌<◌, ◌-◌, ◌++◌, ◌∙◌, sym, ap, Some, Option, List, ℕ, length, arith, subst, drop}
+use Rattle.std.proofs.Common.{◌≡◌, ◌++◌, ◌∙◌, sym, ap, Some, List, ℕ, arith}
 use Rattle.std.specs.Prelude.{option_map}
 use Rattle.role_node.specs.declared.event.Event.{Event}
 use Rattle.kept_node.specs.Events.{event_digits}
@@ -30,8 +30,7 @@ overflow_sub-result c = let r = (is_read c).less in omega arith
 
 pub returns-clause-found : goal.returns-clause-found
 returns-clause-found c =
-    let r = is_read c in
-    (
+    let r = is_read c in (
       r.here,
       r.found ∙ ap (λ (l : List ℕ). event_digits c.in_ok-event.event ++ l) (sym r.behind),
     )

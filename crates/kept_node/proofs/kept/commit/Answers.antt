@@ -13,8 +13,7 @@ returns-in-Ok-clause-device g c was device =
     × IsTrue c.sync.new.self.broken × (c.sync.new.self.synced ≡ c.write.new.self.synced)) device c.sync.ensures.err in
     let failed = on_err c.sync.result journal_fault.Device
     (Failed (g.D.Disk.faults c.write.new.self.disk) (g.D.Disk.faults c.sync.new.self.disk)
-    (g.D.Disk.is_mixing c.sync.new.self.disk)) device (c.sync.ensures.failed c.in-Ok.ensures.whole) in
-    (
+    (g.D.Disk.is_mixing c.sync.new.self.disk)) device (c.sync.ensures.failed c.in-Ok.ensures.whole) in (
       e.1,
       record {
         batches = λ h. c.sync.ensures.batches (c.write.ensures.same.clean ∙ h) ∙ c.in-Ok.ensures.ok.batches h

@@ -1,6 +1,5 @@
 use Rattle.std.proofs.Common.{◌≡◌, ◌≤◌, ◌-◌, ◌++◌, drop, length}
 use Rattle.std.specs.Prelude.{All}
-use Rattle.quorum_sizes.specs.Sizes.{AreSizes}
 use Rattle.role_node.specs.Nodes.{IsLegalNode}
 use Rattle.node_lock.specs.Holds.{Fits, end_of}
 use Rattle.kept_node.specs.Events.{IsEventOf, digits_of_events}

@@ -1,4 +1,4 @@
-use Rattle.std.proofs.Common.{◌≡◌, ◌∙◌, ◌++◌, ◌+◌, ◌≤◌, ap, sym, subst, arith, false, ℕ, length}
+use Rattle.std.proofs.Common.{◌≡◌, ◌∙◌, ◌+◌, ◌≤◌, ap, sym, subst, arith, false, length}
 use Rattle.std.specs.Vec.{vec_capacity}
 use Rattle.node_lock.specs.Holds.{Held, end_of}
 use Rattle.node_lock.specs.declared.view.View.{View}

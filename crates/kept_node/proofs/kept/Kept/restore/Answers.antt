@@ -1,4 +1,4 @@
-use Rattle.std.proofs.Common.{◌∙◌, ◌≤◌, ℕ, subst}
+use Rattle.std.proofs.Common.{◌∙◌, ◌≤◌, ℕ, sym, subst}
 use Rattle.std.specs.Vec.{vec_capacity}
 use Rattle.kept_node.specs.Restoring.{IsReplayFault, IsIllegalFile}
 use Rattle.kept_node.proofs.CallLemmas.{unopened_is, unopened_leaves, head_names, not_err}
@@ -95,7 +95,7 @@ returns-in-Ok-replay_events-clause-crash g c =
 pub returns-in-Err-Illegal-clause-why : goal.returns-in-Err-Illegal-clause-why
 returns-in-Err-Illegal-clause-why g c clean =
     subst (λ (n : ℕ). IsIllegalFile c.args.key.now c.args.locked.node.config c.args.locked.node.me n
-    (g.D.Disk.seen c.args.files.db)) c.in-Err-Illegal.place-is
+    (g.D.Disk.seen c.args.files.db)) (sym c.in-Err-Illegal.place-is)
     (opened_illegal g.D.Disk.may_leave g.D.Disk.is_clean c.in-Ok-open.opened.0 c.make_room.new.self c.args.key.now
     c.in-Ok.head (g.D.Disk.seen c.args.files.db) c.args.locked.node.config c.args.locked.node.me c.in-Err-Illegal.place
     c.deref.result.now (record {

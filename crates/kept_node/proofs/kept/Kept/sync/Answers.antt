@@ -1,4 +1,4 @@
-use Rattle.std.proofs.Common.{◌≡◌, ◌∙◌, ◌++◌, ap, sym, subst, arith, false, Err}
+use Rattle.std.proofs.Common.{◌∙◌, ap, subst, Err}
 use Rattle.std.specs.Vec.{vec_capacity}
 use Rattle.kept_node.specs.Keeping.{KeptValue, Survives}
 use Rattle.kept_node.proofs.KeptLemmas.{kept_survives, kept_uncommitted, kept_committed}
