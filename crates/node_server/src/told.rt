@@ -1,6 +1,6 @@
 //! The answers to the lines of a client.
 
-ghost use Rattle.std.specs.Prelude.{◌≡◌, ◌++◌, None, replicate, take, slice_set, option_and_then, All, IsSome, IfOk};
+ghost use Rattle.std.specs.Prelude.{◌≡◌, ◌++◌, None, replicate, take, slice_set, option_and_then, All, IfOk};
 ghost use Rattle.std.specs.Prelude.{OnOk};
 ghost use Rattle.frame_queues.specs.Callers.{client_numbers};
 ghost use Rattle.node_server.specs.Served.{served_said};
@@ -62,7 +62,6 @@ impl Told {
     /// One of them has no answer, or finds no room. Those before it are held.
     pub fn hold_answers(&self, alloc: Global, held: &mut Held, lines: u32) -> Result<(), AllocError>
         ensures held { OnOk result (held.new ≡ held.old ++ lines_due (take lines self.now)) }
-        ensures all { OnOk result (All IsSome (take lines self.now)) }
     {
         let Some(answers) = self.answers.get(..lines as usize) else {
             return Err(AllocError);

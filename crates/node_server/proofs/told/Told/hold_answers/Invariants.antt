@@ -1,8 +1,6 @@
-use Rattle.std.specs.Prelude.{◌≡◌, ◌++◌, take, All, IsSome}
+use Rattle.std.specs.Prelude.{◌≡◌, ◌++◌, take}
 use Rattle.node_server.specs.Told.{lines_due}
 use Rattle.node_server.proofs.told.Told.hold_answers.Given as goal
 
 abbrev pub invariant-loop-answer : goal.invariant-loop-answer
-invariant-loop-answer l =
-    (l.held ≡ l.initial.held ++ lines_due (take l.answer-index l.answers))
-    × All IsSome (take l.answer-index l.answers)
+invariant-loop-answer l = l.held ≡ l.initial.held ++ lines_due (take l.answer-index l.answers)
