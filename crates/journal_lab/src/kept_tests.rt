@@ -190,7 +190,7 @@ fn said<L: Ledger, D: Disk>(
     Ok(text)
 }
 
-/// Has a restored node record all events, synced one by one from some on: how many are synced, and what it then says.
+/// Has a restored node record all events, and sync three at a time, up to the first sync that fails: how many are synced.
 fn recorded<L: Ledger, D: Disk + Drop>(
     alloc: Global,
     kept: &mut Kept<L, D>,
@@ -206,7 +206,7 @@ fn recorded<L: Ledger, D: Disk + Drop>(
                 return Err("it is told before the sync".into());
             };
             let Ok(now) = kept.sync() else {
-                return Err("not synced".into());
+                return Ok(());
             };
             *synced = now.upto();
             if untold.release(&now).is_err() {
@@ -228,7 +228,9 @@ fn first_life<L: Ledger>(rt: &HostRuntime, blank: Blank, path: &str) -> Result<S
     };
     let mut synced = 0;
     recorded(rt.alloc(), &mut kept, &mut seat, &mut synced)?;
-    assert!(rt; synced == 21, "all are synced: {synced}");
+    if synced != 21 {
+        return Err("not all are synced".into());
+    }
     said(rt.alloc(), &mut kept, &mut seat)
 }
 
@@ -283,7 +285,7 @@ fn failing_life<L: Ledger>(
         return Ok(0);
     };
     let mut synced = 0;
-    let _ = recorded(rt.alloc(), &mut kept, &mut seat, &mut synced);
+    recorded(rt.alloc(), &mut kept, &mut seat, &mut synced)?;
     Ok(synced)
 }
 
