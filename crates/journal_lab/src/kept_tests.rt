@@ -300,7 +300,10 @@ fn each_call_of_the_disk_fails_from_some_on(rt: HostRuntime) -> Result<(), Fail>
             return Err("what a failed call leaves is refused".into());
         };
         assert!(rt; synced <= count, "{synced} are synced, {count} restored");
-        assert!(rt; count <= synced + 3, "one batch more at most: {synced}, {count}");
+        assert!(rt;
+            count <= synced + 3,
+            "one batch more at most: {synced}, {count}"
+        );
         whole = synced == 21;
     }
     assert!(rt; whole, "the last life has no failure");
@@ -314,8 +317,25 @@ fn digits_that_are_no_event_are_refused(rt: HostRuntime) -> Result<(), Fail> {
         [129u8 + 24, 129, 129, 129].as_slice(),
         [129 + 4, 131, 129].as_slice(),
         [129 + 4, 131, 129, 129, 129 + 4, 132, 129, 129].as_slice(),
-        [129 + 23, 130, 129, 129, 129, 129, 129, 129, 129, 129, 129, 136, 129, 129, 129, 129]
-            .as_slice(),
+        [
+            129 + 23,
+            130,
+            129,
+            129,
+            129,
+            129,
+            129,
+            129,
+            129,
+            129,
+            129,
+            136,
+            129,
+            129,
+            129,
+            129,
+        ]
+        .as_slice(),
     ] {
         begin(&rt, "kept_lab_illegal", path, 4, 100, digits)?;
         let found = later_life::<Brand>(&rt, Blank::new(1), path)?;
@@ -324,7 +344,14 @@ fn digits_that_are_no_event_are_refused(rt: HostRuntime) -> Result<(), Fail> {
         };
         assert!(rt; fault.as_str() == "D12 Illegal", "{fault}");
     }
-    begin(&rt, "kept_lab_illegal", path, 4, 100, &[129 + 4, 131, 129, 129])?;
+    begin(
+        &rt,
+        "kept_lab_illegal",
+        path,
+        4,
+        100,
+        &[129 + 4, 131, 129, 129],
+    )?;
     let Ok((_, count)) = later_life::<Brand>(&rt, Blank::new(1), path)? else {
         return Err("a Clear of role 2 is refused".into());
     };
@@ -333,7 +360,12 @@ fn digits_that_are_no_event_are_refused(rt: HostRuntime) -> Result<(), Fail> {
 }
 
 /// A life that opens so many sessions, and syncs each thousand.
-fn many_sessions<L: Ledger>(rt: &HostRuntime, blank: Blank, path: &str, count: u32) -> Result<(), Fail>
+fn many_sessions<L: Ledger>(
+    rt: &HostRuntime,
+    blank: Blank,
+    path: &str,
+    count: u32,
+) -> Result<(), Fail>
     requires name { blank.name ≡ L.name }
     requires parts { (blank.parts ≡ L.parts) × (1 ≡ L.parts) }
 {
