@@ -11,7 +11,8 @@ extern void *memcpy(void *to, const void *from, size_t n);
 extern void *dlsym(void *handle, const char *name);
 extern long syscall(long number, ...);
 
-enum { SYS_PWRITE = 18, SYS_GETRANDOM = 318 };
+enum { SYS_PWRITE = 18, SYS_NANOSLEEP = 35, SYS_GETRANDOM = 318 };
+enum { LONGEST = 4000000 }; /* nanoseconds of a sync, so that who kills comes between the two often */
 #define NEXT ((void *)-1L)
 
 /* A write of which some bytes are not there yet. */
@@ -65,8 +66,10 @@ ssize_t pwrite(int file, const void *bytes, size_t n, long at) {
     return (ssize_t)n;
 }
 
-/* Writes what is late of every file, in its order. Whether all of it went. */
+/* Waits, and writes what is late of every file, in its order. Whether all of it went. */
 static int settle(void) {
+    long pause[2] = {0, (long)drawn(LONGEST)};
+    syscall(SYS_NANOSLEEP, pause, 0L);
     int all = 1;
     enter();
     while (first) {
