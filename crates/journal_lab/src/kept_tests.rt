@@ -190,23 +190,25 @@ fn said<L: Ledger, D: Disk>(
     Ok(text)
 }
 
-/// Has a restored node record all events, synced one by one from some on: how many are synced, and what it then says.
+/// Has a restored node record all events, and sync so many at a time, up to the first sync that fails: how many are
+/// synced.
 fn recorded<L: Ledger, D: Disk + Drop>(
     alloc: Global,
     kept: &mut Kept<L, D>,
     seat: &mut Seat<L>,
+    many: usize,
     synced: &mut u64,
 ) -> Result<(), Fail> {
     let sizes = Sizes::new(4, 1)?;
     let events = events(alloc, kept.me(), sizes)?;
     for (at, event) in events.iter().enumerate() {
         let untold = held(kept, seat, Call::Step(*event), 0)?;
-        if at % 3 == 2 || at + 1 == events.len() {
+        if (at + 1) % many.max(1) == 0 || at + 1 == events.len() {
             let Err(untold) = untold.release(&kept.synced()) else {
                 return Err("it is told before the sync".into());
             };
             let Ok(now) = kept.sync() else {
-                return Err("not synced".into());
+                return Ok(());
             };
             *synced = now.upto();
             if untold.release(&now).is_err() {
@@ -227,8 +229,10 @@ fn first_life<L: Ledger>(rt: &HostRuntime, blank: Blank, path: &str) -> Result<S
         return Err("a journal that was begun is refused".into());
     };
     let mut synced = 0;
-    recorded(rt.alloc(), &mut kept, &mut seat, &mut synced)?;
-    assert!(rt; synced == 21, "all are synced: {synced}");
+    recorded(rt.alloc(), &mut kept, &mut seat, 3, &mut synced)?;
+    if synced != 21 {
+        return Err("not all are synced".into());
+    }
     said(rt.alloc(), &mut kept, &mut seat)
 }
 
@@ -283,25 +287,40 @@ fn failing_life<L: Ledger>(
         return Ok(0);
     };
     let mut synced = 0;
-    let _ = recorded(rt.alloc(), &mut kept, &mut seat, &mut synced);
+    recorded(rt.alloc(), &mut kept, &mut seat, 11, &mut synced)?;
     Ok(synced)
 }
 
-#[test]
-fn each_call_of_the_disk_fails_from_some_on(rt: HostRuntime) -> Result<(), Fail> {
-    let path = "kept_lab_fuse/journal";
-    let mut whole = false;
-    for calls in 0..40u64 {
-        begin(&rt, "kept_lab_fuse", path, 4, 100, &[])?;
-        let synced = failing_life::<Brand>(&rt, Blank::new(1), path, calls)?;
-        let Ok((_, count)) = later_life::<Brand>(&rt, Blank::new(1), path)? else {
-            return Err("what a failed call leaves is refused".into());
-        };
-        assert!(rt; synced <= count, "{synced} are synced, {count} restored");
-        assert!(rt; count <= synced + 3, "one batch more at most: {synced}, {count}");
-        whole = synced == 21;
+/// Lives whose disk fails from each of these calls on: what is synced is restored, and one batch more at most. How many
+/// events are synced in the last.
+fn fails_from(rt: &HostRuntime, folder: &str, path: &str, all_calls: &[u64]) -> Result<u64, Fail> {
+    begin(rt, folder, path, 4, 100, &[])?;
+    let begun = fs::read(rt, path)?;
+    let mut last = 0;
+    for calls in all_calls {
+        fs::write(rt, path, begun.as_slice())?;
+        last = failing_life::<Brand>(rt, Blank::new(1), path, *calls)?;
+        let count = count_restored::<Brand>(rt, Blank::new(1), path, 4, 100)?;
+        if count < last || count > last + 11 {
+            return Err("other events are restored than were synced".into());
+        }
     }
-    assert!(rt; whole, "the last life has no failure");
+    Ok(last)
+}
+
+#[test]
+fn the_first_calls_of_the_disk_fail(rt: HostRuntime) -> Result<(), Fail> {
+    let path = "kept_lab_fuse/journal";
+    let synced = fails_from(&rt, "kept_lab_fuse", path, &[0, 1, 2, 3, 4])?;
+    assert!(rt; synced < 21, "{synced} are synced");
+    Ok(())
+}
+
+#[test]
+fn later_calls_of_the_disk_fail(rt: HostRuntime) -> Result<(), Fail> {
+    let path = "kept_lab_fuses/journal";
+    let synced = fails_from(&rt, "kept_lab_fuses", path, &[5, 6, 7, 8, 30])?;
+    assert!(rt; synced == 21, "the last life has no failure: {synced}");
     Ok(())
 }
 
@@ -312,8 +331,25 @@ fn digits_that_are_no_event_are_refused(rt: HostRuntime) -> Result<(), Fail> {
         [129u8 + 24, 129, 129, 129].as_slice(),
         [129 + 4, 131, 129].as_slice(),
         [129 + 4, 131, 129, 129, 129 + 4, 132, 129, 129].as_slice(),
-        [129 + 23, 130, 129, 129, 129, 129, 129, 129, 129, 129, 129, 136, 129, 129, 129, 129]
-            .as_slice(),
+        [
+            129 + 23,
+            130,
+            129,
+            129,
+            129,
+            129,
+            129,
+            129,
+            129,
+            129,
+            129,
+            136,
+            129,
+            129,
+            129,
+            129,
+        ]
+        .as_slice(),
     ] {
         begin(&rt, "kept_lab_illegal", path, 4, 100, digits)?;
         let found = later_life::<Brand>(&rt, Blank::new(1), path)?;
@@ -322,7 +358,14 @@ fn digits_that_are_no_event_are_refused(rt: HostRuntime) -> Result<(), Fail> {
         };
         assert!(rt; fault.as_str() == "D12 Illegal", "{fault}");
     }
-    begin(&rt, "kept_lab_illegal", path, 4, 100, &[129 + 4, 131, 129, 129])?;
+    begin(
+        &rt,
+        "kept_lab_illegal",
+        path,
+        4,
+        100,
+        &[129 + 4, 131, 129, 129],
+    )?;
     let Ok((_, count)) = later_life::<Brand>(&rt, Blank::new(1), path)? else {
         return Err("a Clear of role 2 is refused".into());
     };
@@ -330,8 +373,13 @@ fn digits_that_are_no_event_are_refused(rt: HostRuntime) -> Result<(), Fail> {
     Ok(())
 }
 
-/// A life that opens so many sessions, and syncs each thousand.
-fn many_sessions<L: Ledger>(rt: &HostRuntime, blank: Blank, path: &str, count: u32) -> Result<(), Fail>
+/// A life that opens so many sessions and closes each, and syncs each five hundred.
+fn many_sessions<L: Ledger>(
+    rt: &HostRuntime,
+    blank: Blank,
+    path: &str,
+    count: u32,
+) -> Result<(), Fail>
     requires name { blank.name ≡ L.name }
     requires parts { (blank.parts ≡ L.parts) × (1 ≡ L.parts) }
 {
@@ -340,9 +388,12 @@ fn many_sessions<L: Ledger>(rt: &HostRuntime, blank: Blank, path: &str, count: u
         return Err("refused".into());
     };
     for user in 0..count {
-        let open = Event::Client(ClientEvent::Open { user });
-        let _untold = held(&mut kept, &mut seat, Call::Step(open), 0)?;
-        if user % 1_000 == 999 && kept.sync().is_err() {
+        let open = ClientEvent::Open { user };
+        let _opened = held(&mut kept, &mut seat, Call::Step(Event::Client(open)), 0)?;
+        let session = u64::from(user) + 1;
+        let close = ClientEvent::Close { session, user };
+        let _closed = held(&mut kept, &mut seat, Call::Step(Event::Client(close)), 0)?;
+        if user % 500 == 499 && kept.sync().is_err() {
             return Err("not synced".into());
         }
     }
@@ -350,12 +401,18 @@ fn many_sessions<L: Ledger>(rt: &HostRuntime, blank: Blank, path: &str, count: u
 }
 
 /// How many events are restored.
-fn count_restored<L: Ledger>(rt: &HostRuntime, blank: Blank, path: &str) -> Result<u64, Fail>
+fn count_restored<L: Ledger>(
+    rt: &HostRuntime,
+    blank: Blank,
+    path: &str,
+    nodes: u8,
+    limit: u32,
+) -> Result<u64, Fail>
     requires name { blank.name ≡ L.name }
     requires parts { (blank.parts ≡ L.parts) × (1 ≡ L.parts) }
 {
     let files = open(rt, path, Unknown)?;
-    match restored::<L, _>(rt.alloc(), blank, files, 1, 30_000)? {
+    match restored::<L, _>(rt.alloc(), blank, files, nodes, limit)? {
         Ok((kept, _)) => Ok(kept.synced().upto()),
         Err(fault) => Err(fault.into()),
     }
@@ -365,8 +422,8 @@ fn count_restored<L: Ledger>(rt: &HostRuntime, blank: Blank, path: &str) -> Resu
 fn many_events_are_restored(rt: HostRuntime) -> Result<(), Fail> {
     let path = "kept_lab_many/journal";
     begin(&rt, "kept_lab_many", path, 1, 30_000, &[])?;
-    many_sessions::<Brand>(&rt, Blank::new(1), path, 20_000)?;
-    let count = count_restored::<Brand>(&rt, Blank::new(1), path)?;
+    many_sessions::<Brand>(&rt, Blank::new(1), path, 10_000)?;
+    let count = count_restored::<Brand>(&rt, Blank::new(1), path, 1, 30_000)?;
     assert!(rt; count == 20_000, "all are restored: {count}");
     Ok(())
 }

@@ -75,7 +75,8 @@ module _ {D : Type 0} where
             let count : at ≡ recorded + 1 =
             omega (arith, is, k.recorded_is, ap end_of (held ∙ put.3), grown h.node.history put.0) in
             subst (λ (x : Held). IsKept may_leave is_clean x j now wide at synced) (sym (held ∙ put.3))
-            (kept_put may_leave is_clean h j waiting capacity recorded synced put.0 (h.seats ++ s.number ∷ []) now wide at
+            (kept_put may_leave is_clean h j waiting capacity recorded synced put.0 (h.seats ++ s.number ∷ []) now
+            wide at
             k (omega (arith, room_left (end_of h - synced) room, k.recorded_is, k.within))
             (recorded_is_of h.node.config h.node.me h.node.history put.0 fit put.2)
             (at_some event put.0 (λ e. now ≡ waiting ++ event_digits e) some (digits less)) long more count)
@@ -119,7 +120,8 @@ module _ {D : Type 0} where
   unopened_is seen faults is_clean is_mixing key config me old files head fault names refused = (head, names, refused)
 
   -- of a journal that was opened
-  pub opened_leaves : (may_leave : D → List ℕ → Type 0) (is_clean : D → Bool) (j : JournalValue D) (config : ConfigValue)
+  pub opened_leaves : (may_leave : D → List ℕ → Type 0) (is_clean : D → Bool) (j : JournalValue D) (config :
+      ConfigValue)
       (me : ℕ) (file : List ℕ) (old : List ℕ → Type 0) → IsHeadOf config me j.head →
       journals.Survives may_leave is_clean j → j.synced ≡ length j.batches → IsTrue (is_clean j.disk) →
       reading j.key j.head file ≡ Ok j.batches → LeavesAsBefore j.key config me file old (may_leave j.disk)

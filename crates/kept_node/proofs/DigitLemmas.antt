@@ -62,7 +62,8 @@ unfolding number_at
 read_again width most n rest few fits wide =
     let long = length-digits_of width n in
     let front : take width (digits_of width n ++ rest) ≡ digits_of width n =
-    subst (λ w. take w (digits_of width n ++ rest) ≡ digits_of width n) long (take-append_seam (digits_of width n) rest) in
+    subst (λ w. take w (digits_of width n ++ rest) ≡ digits_of width n) long (take-append_seam (digits_of width n)
+    rest) in
     let behind : drop width (digits_of width n ++ rest) ≡ rest =
     subst (λ w. drop w (digits_of width n ++ rest) ≡ rest) long (drop-append_seam (digits_of width n) rest) in
     let there : nat_le width (length (digits_of width n ++ rest)) ≡ true = enough in

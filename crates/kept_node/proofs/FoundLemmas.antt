@@ -38,7 +38,8 @@ name_found : (s : Counts) (digits : List ℕ) (r : ℕ × List ℕ) → name_at 
 unfolding name_at
 name_found s digits r e =
     let index = then_some {A = ℕ × List ℕ} {B = ℕ × List ℕ}
-    (λ i. option_and_then {U = ℕ × List ℕ} (λ (name : ℕ). Some (name, i.1)) (name_due s i.0)) (number_at 2 127 digits) r e in
+    (λ i. option_and_then {U = ℕ × List ℕ} (λ (name : ℕ). Some (name, i.1)) (name_due s i.0)) (number_at 2 127
+    digits) r e in
     let name = then_some {A = ℕ} {B = ℕ × List ℕ} (λ name. Some (name, index.0.1)) (name_due s index.0.0) r index.2 in
     let found = number_found 2 127 digits index.0 index.1 in
     let there = due index.0.0 name.0 name.1 in
@@ -197,7 +198,8 @@ command_found number digits r e =
     clear : ((number == 4) ≡ true) × (option_map {U = Command × List ℕ} (λ (x : ℕ × List ℕ). (Clear x.0, x.1))
         (number_at 3 65535 digits) ≡ Some r) → CommandRead number digits r
     clear h =
-        let m = mapped {A = ℕ × List ℕ} {B = Command × List ℕ} (λ x. (Clear x.0, x.1)) (number_at 3 65535 digits) r h.1 in
+        let m = mapped {A = ℕ × List ℕ} {B = Command × List ℕ} (λ x. (Clear x.0, x.1)) (number_at 3 65535 digits) r
+        h.1 in
         let found = number_found 3 65535 digits m.0 m.1 in
         let is : number ≡ 4 = grind (arith, nat_tests, h.0) in
         subst (CommandRead number digits) m.2 (is, found.0, omega (arith, found.1))

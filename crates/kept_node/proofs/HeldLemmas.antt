@@ -57,7 +57,8 @@ fits_after h s e fits = go (is_recorded (due_at h.node e))
 taken_is_routed : (config : ConfigValue) (me : ℕ) (history : List Event) (p : PacketValue) →
     IsTrue (is_recorded (answer_due config me history (Take p))) → IsTrue (is_routed config.roles.sizes me p)
 taken_is_routed config me history p h =
-    go (is_routed config.roles.sizes me p) (of_effect_due (effect_due (step_due config.roles.sizes (packets history) p))) h
+    go (is_routed config.roles.sizes me p) (of_effect_due (effect_due (step_due config.roles.sizes (packets history)
+    p))) h
   where
     go : (b : Bool) (due : Result Effect NodeFault) → is_recorded (answered
         (unless_full (nat_le config.limit (length history)) (cond b due (Err Misrouted)))
@@ -80,9 +81,16 @@ held_put h s (Some (Ask question)) less = absurd (omega arith)
 held_put h s (Some (Step e)) less = go (is_recorded (due_at h.node e)) refl less
   where
     go : (b : Bool) → is_recorded (due_at h.node e) ≡ b →
-        length h.node.history < length (cond b (record { node = with_event h.node e; seats = h.seats ++ s.number ∷ [] }) h).node.history →
+        length h.node.history < length (cond b (record {
+          node = with_event h.node e;
+          seats = h.seats ++ s.number ∷ [];
+        }) h).node.history →
         (x : Event) × (Some e ≡ Some x) × IsTrue (is_recorded (due_at h.node x))
-        × (cond (is_recorded (due_at h.node e)) (record { node = with_event h.node e; seats = h.seats ++ s.number ∷ [] }) h
+        × (cond (is_recorded (due_at h.node e)) (record {
+          node = with_event h.node e;
+          seats = h.seats ++ s.number ∷
+              [];
+        }) h
         ≡ record { node = with_event h.node x; seats = h.seats ++ s.number ∷ [] })
     go true t l = (
       e,

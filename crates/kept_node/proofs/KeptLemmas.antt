@@ -156,12 +156,14 @@ module _ {D : Type 0} where
   -- a node that is restored
   pub kept_restored : (may_leave : D → List ℕ → Type 0) (is_clean : D → Bool) (held : Held) (j : JournalValue D)
       (waiting : List ℕ) (capacity count : ℕ) → count ≡ end_of held → waiting ≡ [] →
-      AreSizes held.node.config.roles.sizes → All (IsEventOf held.node.config.roles.sizes held.node.me) held.node.history →
+      AreSizes held.node.config.roles.sizes → All (IsEventOf held.node.config.roles.sizes held.node.me)
+      held.node.history →
       IsHeadOf held.node.config held.node.me j.head → 19497 ≤ j.room → 19456 ≤ capacity →
       j.synced ≡ length j.batches → journals.Survives may_leave is_clean j →
       (IsTrue (is_clean j.disk) → concat j.batches ≡ digits_of_events held.node.history) →
       IsKept may_leave is_clean held j waiting capacity count count
-  kept_restored may_leave is_clean held j waiting capacity count e none sizes each head room wide settled survives digits =
+  kept_restored may_leave is_clean held j waiting capacity count e none sizes each head room wide settled survives
+      digits =
       record {
         recorded_is = e;
         within = omega arith;
@@ -199,7 +201,8 @@ module _ {D : Type 0} where
       IsEventOf held.node.config.roles.sizes held.node.me e → now ≡ waiting ++ event_digits e →
       length now ≤ length waiting + 19 → capacity ≤ wide → at ≡ recorded + 1 →
       IsKept may_leave is_clean (record { node = with_event held.node e; seats = seats }) j now wide at synced
-  kept_put may_leave is_clean held j waiting capacity recorded synced e seats now wide at k less of digits long more is =
+  kept_put may_leave is_clean held j waiting capacity recorded synced e seats now wide at k less of digits long more
+      is =
       let count : length (held.node.history ++ e ∷ []) ≡ length held.node.history + 1 =
       length-append held.node.history (e ∷ []) in
       record {
@@ -243,7 +246,8 @@ module _ {D : Type 0} where
       IsCommitted is_clean j new waiting → now ≡ [] → j.room ≤ new.room → wide ≡ capacity →
       journals.Survives may_leave is_clean new →
       IsKept may_leave is_clean held new now wide recorded recorded
-  kept_committed may_leave is_clean held j new waiting capacity recorded synced now wide k same done none room is survives =
+  kept_committed may_leave is_clean held j new waiting capacity recorded synced now wide k same done none room is
+      survives =
       record {
         recorded_is = k.recorded_is;
         within = omega arith;
@@ -293,7 +297,8 @@ module _ {D : Type 0} where
       j.broken ≡ false → IsTrue new.broken → Records is_clean j new waiting → now ≡ [] → j.room ≤ new.room →
       wide ≡ capacity → journals.Survives may_leave is_clean new →
       IsKept may_leave is_clean held new now wide recorded synced
-  kept_failed may_leave is_clean held j new waiting capacity recorded synced now wide k same was broken done none room is
+  kept_failed may_leave is_clean held j new waiting capacity recorded synced now wide k same was broken done none
+      room is
       survives =
       record {
         recorded_is = k.recorded_is;
@@ -329,7 +334,8 @@ module _ {D : Type 0} where
                   ∙ (λ i. digits_of_events w.second ++ w.third_digits i)
                   ∙ sym (flat_map-append event_digits w.second w.third);
               third_digits = none;
-              history_is = w.history_is ∙ ap (λ (l : List Event). w.first ++ l) (sym (append-nil (w.second ++ w.third)));
+              history_is = w.history_is ∙ ap (λ (l : List Event). w.first ++ l) (sym (append-nil (w.second ++
+                  w.third)));
               synced_is = w.synced_is;
             };
       }
@@ -344,7 +350,8 @@ module _ {D : Type 0} where
       wide ≡ capacity →
       IsKept may_leave is_clean held (record j { room = room }) now wide recorded synced
   kept_roomy may_leave is_clean held j room waiting capacity recorded synced now wide k same more is =
-      subst (λ (l : List ℕ). IsKept may_leave is_clean held (record j { room = room }) l wide recorded synced) (sym same)
+      subst (λ (l : List ℕ). IsKept may_leave is_clean held (record j { room = room }) l wide recorded synced) (sym
+      same)
       (record {
         recorded_is = k.recorded_is;
         within = k.within;
@@ -395,11 +402,15 @@ module _ {D : Type 0} where
       at : (b : Bool) → j.broken ≡ b → fault ≡ Device → IsKept may_leave is_clean held new now wide recorded synced
       at true t d =
           let e = broken t in
-          let same_room : new ≡ record j { room = new.room } = e.0 ∙ (λ i. record j { room = sym (ap (λ (x : JournalValue D). x.room) e.0) i }) in
+          let same_room : new ≡ record j { room = new.room } = e.0 ∙ (λ i. record j {
+            room = sym (ap (λ (x :
+                JournalValue D). x.room) e.0) i;
+          }) in
           stays same_room e.1
       at false f d =
           let e = device f d in
-          kept_failed may_leave is_clean held j new waiting capacity recorded synced now wide k same f e.0 e.1 e.2 room is
+          kept_failed may_leave is_clean held j new waiting capacity recorded synced now wide k same f e.0 e.1 e.2
+          room is
           survives
 
 -- a call of the disk has failed since some moment, so since the first

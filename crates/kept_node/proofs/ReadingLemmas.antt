@@ -26,7 +26,10 @@ use Rattle.kept_node.proofs.DigitLemmas.{read_again}
 
 -- ---- digits are read as what they are of
 
-role_again : (role : ℕ) (rest : List ℕ) → role < 2 ^ 16 → number_at 3 65535 (digits_of 3 role ++ rest) ≡ Some (role, rest)
+role_again : (role : ℕ) (rest : List ℕ) → role < 2 ^ 16 → number_at 3 65535 (digits_of 3 role ++ rest) ≡ Some (
+  role,
+  rest,
+)
 role_again role rest h = read_again 3 65535 role rest (omega arith) (omega arith) (omega arith)
 
 user_again : (user : ℕ) (rest : List ℕ) → user < 2 ^ 32 →

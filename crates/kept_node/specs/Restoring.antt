@@ -44,7 +44,8 @@ pub record IsIllegalFile (key : List ℕ) (config : ConfigValue) (me place : ℕ
 -- What a crash leaves now might have been left before, or is read as the file was.
 abbrev pub LeavesAsBefore : List ℕ → ConfigValue → ℕ → List ℕ → (List ℕ → Type 0) → (List ℕ → Type 0) → Type 0
 LeavesAsBefore key config me file old new =
-    (c : List ℕ) → new c → old c ⊎ ((head : Head) × IsHeadOf config me head × (reading key head c ≡ reading key head file))
+    (c : List ℕ) → new c → old c ⊎ ((head : Head) × IsHeadOf config me head × (reading key head c ≡ reading key head
+    file))
 
 -- the file that is handed back
 abbrev pub file_of : {D : Type 0} → Unrestored D → D

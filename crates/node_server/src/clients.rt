@@ -359,8 +359,7 @@ impl<N: HeldNode, K: FrameKeys, R: Wait + Clock> Client<'_, '_, N, K, R> {
         owner: NodeName,
         place: Place,
         sent: &NodeAgain,
-    ) -> Result<(), AheadFault>
-    {
+    ) -> Result<(), AheadFault> {
         let mut messages = Vec::new(self.server.alloc);
         push_again(&mut messages, owner, place, sent)?;
         let mut frames = Vec::with_capacity(self.server.alloc, messages.len())?;
@@ -369,8 +368,7 @@ impl<N: HeldNode, K: FrameKeys, R: Wait + Clock> Client<'_, '_, N, K, R> {
     }
 
     /// Has the node take messages that it sends to itself.
-    fn take_again(&mut self, me: NodeName, messages: &[Message]) -> Result<(), AheadFault>
-    {
+    fn take_again(&mut self, me: NodeName, messages: &[Message]) -> Result<(), AheadFault> {
         let (slot, line) = (self.number, NO_LINE);
         let number = Caller::Client { slot, line }.number();
         for message in messages {

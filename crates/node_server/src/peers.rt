@@ -51,7 +51,11 @@ struct Connection {
 impl Connection {
     /// Reads a block at most, or one frame where none has opened yet: so who can't seal frames takes little of a turn.
     fn read(&mut self) {
-        let most = if self.opened.is_some() { BLOCK_FRAMES } else { 1 };
+        let most = if self.opened.is_some() {
+            BLOCK_FRAMES
+        } else {
+            1
+        };
         let mut reader = &self.stream;
         self.came = self.block.read(&mut reader, most);
     }

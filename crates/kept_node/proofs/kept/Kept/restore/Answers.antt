@@ -74,7 +74,8 @@ pub returns-in-Ok-replay_events-clause-crash : goal.returns-in-Ok-replay_events-
 returns-in-Ok-replay_events-clause-crash g c =
     kept_survives g.D.Disk.may_leave g.D.Disk.is_clean c.replay_events.new.locked c.make_room.new.self
     c.in-Ok-with_capacity.waiting.items (vec_capacity c.in-Ok-with_capacity.waiting) c.in-Ok-replay_events.count
-    c.in-Ok-replay_events.count (opened_kept g.D.Disk.may_leave g.D.Disk.is_clean c.in-Ok-open.opened.0 c.make_room.new.self c.args.key.now
+    c.in-Ok-replay_events.count (opened_kept g.D.Disk.may_leave g.D.Disk.is_clean c.in-Ok-open.opened.0
+    c.make_room.new.self c.args.key.now
     c.in-Ok.head (g.D.Disk.seen c.args.files.db) c.args.locked.node c.replay_events.new.locked c.deref.result.now
     c.in-Ok-with_capacity.waiting.items (vec_capacity c.in-Ok-with_capacity.waiting) c.in-Ok-replay_events.count
     (record {
