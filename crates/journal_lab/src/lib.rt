@@ -7,5 +7,3 @@ mod bytes_tests;
 mod files_tests;
 #[cfg(test)]
 mod given;
-#[cfg(test)]
-mod kept_tests;
