@@ -14,17 +14,13 @@ import signal
 import sys
 import tempfile
 
-import tundelca
+sys.path.insert(0, os.path.join(os.path.dirname(os.path.dirname(os.path.abspath(__file__))), "tools"))
+import built  # noqa: E402
+import tundelca  # noqa: E402
 
 NODES, MAY_LIE = 4, 1
 USER, ROLE, OPERATION, OBJECT = 7, 2, 5, 9
 ACCESS = {"user": USER, "operation": OPERATION, "object": OBJECT}
-
-
-def default_program():
-    """Where `rt run` leaves the program."""
-    root = os.path.dirname(os.path.dirname(os.path.abspath(__file__)))
-    return os.path.join(root, "crates/tundelca/out/tundelca")
 
 
 def say(number, client, op, **members):
@@ -73,7 +69,7 @@ def run(running, ports, start_again):
 
 
 def main():
-    program = sys.argv[1] if len(sys.argv) > 1 else default_program()
+    program = built.program("tundelca", *sys.argv[1:2])
     with tempfile.TemporaryDirectory(prefix="tundelca-") as folder:
         ports = tundelca.free_ports(2 * NODES)
         paths = tundelca.cluster_files(folder, [(ROLE, 0)], ports[:NODES], ports[NODES:], MAY_LIE)

@@ -12,13 +12,9 @@ import subprocess
 import sys
 import tempfile
 
+import built
+
 PLACES = 1_048_576
-
-
-def default_program():
-    """Where `rt run` leaves the program."""
-    root = os.path.dirname(os.path.dirname(os.path.abspath(__file__)))
-    return os.path.join(root, "crates/role_lab/out/role_lab")
 
 
 def lines():
@@ -35,7 +31,7 @@ def lines():
 
 
 def main():
-    program = sys.argv[1] if len(sys.argv) > 1 else default_program()
+    program = built.program("role_lab", *sys.argv[1:2])
     with tempfile.TemporaryDirectory(prefix="tundelca-") as folder:
         script, due, came = (os.path.join(folder, name) for name in ("script", "due", "came"))
         with open(script, "w", encoding="ascii") as asked, open(due, "w", encoding="ascii") as answers:

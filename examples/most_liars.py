@@ -14,18 +14,14 @@ import subprocess
 import sys
 import tempfile
 
+import built
+
 NODES, MAY_LIE = 128, 42
 CORRECT = range(NODES - MAY_LIE)
 LIARS = range(NODES - MAY_LIE, NODES)
 ECHO_QUORUM, AMPLIFY, DELIVER = (NODES + MAY_LIE) // 2 + 1, MAY_LIE + 1, 2 * MAY_LIE + 1
 USERS = 7, 8  # the two commands of a stream assign its owner's role to them; a correct owner sends the first alone
 MOST_SECONDS = 10  # of the processor, for the program
-
-
-def default_program():
-    """Where `rt run` leaves the program."""
-    root = os.path.dirname(os.path.dirname(os.path.abspath(__file__)))
-    return os.path.join(root, "crates/role_lab/out/role_lab")
 
 
 def first_sent(owner, node):
@@ -119,7 +115,7 @@ def run(program, folder):
 
 
 def main():
-    program = sys.argv[1] if len(sys.argv) > 1 else default_program()
+    program = built.program("role_lab", *sys.argv[1:2])
     with tempfile.TemporaryDirectory(prefix="tundelca-") as folder:
         count = run(program, folder)
     spent = resource.getrusage(resource.RUSAGE_CHILDREN)

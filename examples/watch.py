@@ -1,49 +1,40 @@
 #!/usr/bin/env python3
-"""Shows how far each node of a cluster is: the commands of each owner that it has delivered, and its history's length.
+"""How far nodes are, by the client library: python3 examples/watch.py [--every SECONDS] PORT..
 
-    python3 examples/watch.py [--every SECONDS] PORT..
-
-The ports are the client ports of the nodes, on this machine. Once, or every so many seconds until it is interrupted.
-A number that is behind another node's is marked with its distance; a node that doesn't answer has dashes.
+A row for each client port: how many commands of each owner the node has delivered, with its distance where another is
+further, and its history's length; dashes where it doesn't answer. `tools/tundelca_ctl.py status` says more.
 """
 import argparse
+import os
+import sys
 import time
 
-import tundelca
+sys.path.insert(0, os.path.join(os.path.dirname(os.path.dirname(os.path.abspath(__file__))), "tools"))
+import tundelca  # noqa: E402
 
 
 def seen(port):
     """The reach of each owner at the node, and the length of its history; None where it doesn't answer."""
-    reaches = []
     try:
-        with tundelca.Client(port, patience=2.0) as client:
-            try:
-                for owner in range(256):
-                    reaches.append(client.reach(owner))
-            except tundelca.Refused:
-                pass
-            return reaches, client.length()
+        with tundelca.Client(port, patience=2.0) as node:
+            return node.reaches(), node.length()
     except tundelca.Unreachable:
         return None
 
 
-def marked(reach, most):
-    """A reach, and how far it is behind the greatest."""
-    return f"{reach:,}" if reach == most else f"{reach:,} (-{most - reach:,})"
-
-
-def table(ports):
-    """The lines of the table."""
-    nodes = [seen(port) for port in ports]
-    owners = max((len(node[0]) for node in nodes if node), default=0)
-    most = [max((node[0][owner] for node in nodes if node), default=0) for owner in range(owners)]
-    yield "  ".join([f"{'port':>6}", *(f"{f'owner {owner}':>14}" for owner in range(owners)), f"{'history':>10}"])
-    for port, node in zip(ports, nodes):
-        if node is None:
-            cells, length = ["-"] * owners, "-"
-        else:
-            cells, length = [marked(reach, most[owner]) for owner, reach in enumerate(node[0])], f"{node[1]:,}"
-        yield "  ".join([f"{port:>6}", *(f"{cell:>14}" for cell in cells), f"{length:>10}"])
+def look(ports):
+    """Prints the table. Whether all nodes answer."""
+    nodes = {port: seen(port) for port in ports}
+    reaches = [node[0] for node in nodes.values() if node]
+    most = [max(column) for column in zip(*reaches)]
+    print("  ".join([f"{'port':>6}", *(f"{f'owner {owner}':>14}" for owner in range(len(most))), f"{'history':>10}"]))
+    for port, node in nodes.items():
+        row, length = node or ([None] * len(most), None)
+        cells = ["-" if reach is None else f"{reach:,}" + (f" (-{top - reach:,})" if top > reach else "")
+                 for reach, top in zip(row, most)]
+        last = "-" if node is None else f"{length:,}"
+        print("  ".join([f"{port:>6}", *(f"{cell:>14}" for cell in cells), f"{last:>10}"]))
+    return all(nodes.values())
 
 
 def main():
@@ -51,12 +42,12 @@ def main():
     parser.add_argument("--every", type=float, metavar="SECONDS", help="look again after so many seconds, for ever")
     parser.add_argument("ports", nargs="+", type=int, metavar="PORT", help="the client port of a node")
     words = parser.parse_args()
-    while True:
-        print("\n".join(table(words.ports)), flush=True)
-        if words.every is None:
-            return
+    is_well = look(words.ports)
+    while words.every is not None:
         time.sleep(words.every)
-        print()
+        print(flush=True)
+        look(words.ports)
+    sys.exit(0 if is_well else 2)
 
 
 if __name__ == "__main__":

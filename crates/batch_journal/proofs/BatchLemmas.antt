@@ -4,7 +4,7 @@ use Rattle.std.proofs.Common.{List, ◌∷◌, ◌++◌, length, take, drop, ref
 use Rattle.std.proofs.Common.{arith, length-append, append_assoc}
 use Rattle.std.specs.List.{list_all}
 use Rattle.std.proofs.lemmas.List.{take_at, length-take}
-use Rattle.link_frames.specs.Hmac.{hmac}
+use Rattle.link_frames.specs.frames.Hmac.{hmac}
 use Rattle.link_frames.proofs.Exported.{length-hmac}
 use Rattle.batch_journal.specs.Digits.{digits_of, is_digit}
 use Rattle.batch_journal.specs.Batches.{seal_of, opened_batch, batch_of, count_in, digits_in}

@@ -1,7 +1,7 @@
 -- How batches of digits stand in a file.
 use Rattle.std.specs.Prelude.{ℕ, suc, ◌+◌, ◌-◌, ◌*◌, List, [], ◌∷◌, ◌++◌, length, take, drop, slice_index}
 use Rattle.std.specs.List.{flat_map}
-use Rattle.link_frames.specs.Hmac.{hmac}
+use Rattle.link_frames.specs.frames.Hmac.{hmac}
 use Rattle.batch_journal.specs.Digits.{digits_of}
 
 -- the seal of bytes: the first 16 bytes of their HMAC, each as two digits

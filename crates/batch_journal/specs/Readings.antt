@@ -2,7 +2,7 @@
 use Rattle.std.specs.Prelude.{ℕ, zero, suc, ◌+◌, ◌-◌, ◌==◌, nat_lt, nat_le, ◌&&◌, ◌||◌, not, Bool, if◌then◌else◌}
 use Rattle.std.specs.Prelude.{List, [], ◌∷◌, length, take, drop, slice_index, Result, Ok, Err}
 use Rattle.std.specs.List.{list_all, list_any}
-use Rattle.link_frames.specs.Hmac.{hmac}
+use Rattle.link_frames.specs.frames.Hmac.{hmac}
 use Rattle.batch_journal.specs.Batches.{batch_of, batches_of, count_in, digits_in}
 use Rattle.batch_journal.specs.Digits.{is_digit}
 use Rattle.batch_journal.specs.Heads.{head_of, other_head}

@@ -8,7 +8,7 @@ use Rattle.std.specs.FinSet as sets
 use Rattle.quorum_sizes.specs.Sizes.{Counts, echo_quorum_of, amplify_of, deliver_of}
 use Rattle.role_commands.specs.declared.command.Command.{Command}
 use Rattle.role_commands.specs.Same.{same_command}
-use Rattle.link_frames.specs.declared.kind.Kind.TheVariants.{Send, Echo, Ready}
+use Rattle.link_frames.specs.declared.frames.kind.Kind.TheVariants.{Send, Echo, Ready}
 use Rattle.bracha_instance.specs.Broadcast.{Take, command_of, is_of_kind, supporters, echoed}
 use Rattle.bracha_instance.specs.Broadcast.{readied, delivered, may_ready, may_deliver}
 use Rattle.bracha_instance.specs.States.{votes}

@@ -13,12 +13,12 @@ use Rattle.quorum_sizes.specs.Sizes.{Counts, most_nodes, echo_quorum_of, amplify
 use Rattle.quorum_sizes.proofs.Exported.{len_below}
 use Rattle.role_commands.specs.declared.command.Command.{Command}
 use Rattle.role_commands.specs.Same.{same_command}
-use Rattle.link_frames.specs.declared.kind.Kind.{Kind}
-use Rattle.link_frames.specs.declared.kind.Kind.TheVariants.{Echo, Ready}
+use Rattle.link_frames.specs.declared.frames.kind.Kind.{Kind}
+use Rattle.link_frames.specs.declared.frames.kind.Kind.TheVariants.{Echo, Ready}
 use Rattle.bracha_instance.specs.declared.instance.Instance.TheInside.{Inside}
 use Rattle.bracha_instance.specs.declared.tallies.Support.{Support}
 use Rattle.bracha_instance.specs.Prefixes.{at_first_prefix}
-use Rattle.link_frames.specs.Kinds.{same_kind}
+use Rattle.link_frames.specs.frames.Kinds.{same_kind}
 use Rattle.bracha_instance.specs.Broadcast.{Take, Names, command_of, vote, voters, supporters}
 use Rattle.bracha_instance.specs.Broadcast.{is_vote_of, echoed, readied, delivered}
 use Rattle.bracha_instance.specs.States.{Votes, State, votes, kept, state}

@@ -1,8 +1,8 @@
 -- The tests of kinds, and under the names that layers above cite those of commands.
 use Rattle.std.proofs.Common.{◌≡◌, true, refl}
-use Rattle.link_frames.specs.Kinds.{same_kind}
-use Rattle.link_frames.specs.declared.kind.Kind.{Kind}
-use Rattle.link_frames.specs.declared.kind.Kind.TheVariants.{Send, Echo, Ready}
+use Rattle.link_frames.specs.frames.Kinds.{same_kind}
+use Rattle.link_frames.specs.declared.frames.kind.Kind.{Kind}
+use Rattle.link_frames.specs.declared.frames.kind.Kind.TheVariants.{Send, Echo, Ready}
 pub use Rattle.role_commands.proofs.Exported.{same_command_is as same_command-true}
 pub use Rattle.role_commands.proofs.Exported.{same_command-self as same_command-refl}
 

@@ -7,9 +7,9 @@ use Rattle.std.specs.FinMap as maps
 use Rattle.std.specs.FinSet as sets
 use Rattle.quorum_sizes.specs.Sizes.{Counts}
 use Rattle.role_commands.specs.declared.command.Command.{Command}
-use Rattle.link_frames.specs.Kinds.{same_kind}
-use Rattle.link_frames.specs.declared.kind.Kind.{Kind}
-use Rattle.link_frames.specs.declared.kind.Kind.TheVariants.{Send, Echo, Ready}
+use Rattle.link_frames.specs.frames.Kinds.{same_kind}
+use Rattle.link_frames.specs.declared.frames.kind.Kind.{Kind}
+use Rattle.link_frames.specs.declared.frames.kind.Kind.TheVariants.{Send, Echo, Ready}
 use Rattle.bracha_instance.specs.Broadcast.{Take, command_of, is_of_kind, is_vote_of, is_for, vote, voters}
 use Rattle.bracha_instance.specs.Broadcast.{supporters, echoed, readied, delivered, may_ready, may_deliver}
 use Rattle.bracha_instance.specs.States.{State, votes, kept, state}

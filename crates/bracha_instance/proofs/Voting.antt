@@ -11,9 +11,9 @@ use Rattle.std.specs.FinMap as maps
 use Rattle.std.specs.FinSet as sets
 use Rattle.role_commands.specs.declared.command.Command.{Command}
 use Rattle.role_commands.specs.Same.{same_command}
-use Rattle.link_frames.specs.Kinds.{same_kind}
-use Rattle.link_frames.specs.declared.kind.Kind.{Kind}
-use Rattle.link_frames.specs.declared.kind.Kind.TheVariants.{Send}
+use Rattle.link_frames.specs.frames.Kinds.{same_kind}
+use Rattle.link_frames.specs.declared.frames.kind.Kind.{Kind}
+use Rattle.link_frames.specs.declared.frames.kind.Kind.TheVariants.{Send}
 use Rattle.bracha_instance.specs.Broadcast.{Take, command_of, from_of, is_of_kind, is_vote_of}
 use Rattle.bracha_instance.specs.Broadcast.{is_for, vote, voters, supporters, echoed}
 use Rattle.bracha_instance.specs.States.{votes}

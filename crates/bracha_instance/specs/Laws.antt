@@ -4,7 +4,7 @@ use Rattle.std.specs.Prelude.{[], ◌∷◌, ◌++◌, length, take, Option, Som
 use Rattle.std.specs.Option.{option_or}
 use Rattle.quorum_sizes.specs.Sizes.{Counts}
 use Rattle.role_commands.specs.declared.command.Command.{Command}
-use Rattle.link_frames.specs.declared.kind.Kind.{Kind}
+use Rattle.link_frames.specs.declared.frames.kind.Kind.{Kind}
 use Rattle.bracha_instance.specs.Broadcast.{Take, vote, supporters, echoed, readied, delivered, may_ready, may_deliver}
 use Rattle.bracha_instance.specs.States.{state}
 

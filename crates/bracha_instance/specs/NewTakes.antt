@@ -2,8 +2,8 @@
 -- message causes.
 use Rattle.std.specs.Prelude.{Bool, true, false, if◌then◌else◌, Option, Some, None, option_map}
 use Rattle.role_commands.specs.declared.command.Command.{Command}
-use Rattle.link_frames.specs.declared.kind.Kind.{Kind}
-use Rattle.link_frames.specs.declared.kind.Kind.TheVariants.{Echo, Ready}
+use Rattle.link_frames.specs.declared.frames.kind.Kind.{Kind}
+use Rattle.link_frames.specs.declared.frames.kind.Kind.TheVariants.{Echo, Ready}
 use Rattle.bracha_instance.specs.declared.instance.Effect.TheVariants.{Counted}
 use Rattle.bracha_instance.specs.declared.instance.Caused.{Caused}
 use Rattle.bracha_instance.specs.declared.instance.Taken.{Taken}

@@ -2,7 +2,7 @@
 use Rattle.std.specs.Prelude.{◌≡◌, ◌≢◌, ◌<◌, ◌+◌, ◌↔◌, ℕ, List, length, AllPairs, Contains}
 use Rattle.std.specs.FinSet as sets
 use Rattle.role_commands.specs.declared.command.Command.{Command}
-use Rattle.link_frames.specs.declared.kind.Kind.TheVariants.{Echo, Ready}
+use Rattle.link_frames.specs.declared.frames.kind.Kind.TheVariants.{Echo, Ready}
 use Rattle.bracha_instance.specs.Broadcast.{Take, supporters}
 
 -- the vote of some node, of the one kind or the other, is for c

@@ -2,8 +2,8 @@
 use Rattle.std.specs.Prelude.{◌≡◌, ℕ, Bool, List, All, if◌then◌else◌, is_some, Option, Some, None}
 use Rattle.quorum_sizes.specs.Sizes.{Counts}
 use Rattle.role_commands.specs.declared.command.Command.{Command}
-use Rattle.link_frames.specs.declared.kind.Kind.{Kind}
-use Rattle.link_frames.specs.declared.kind.Kind.TheVariants.{Send, Echo, Ready}
+use Rattle.link_frames.specs.declared.frames.kind.Kind.{Kind}
+use Rattle.link_frames.specs.declared.frames.kind.Kind.TheVariants.{Send, Echo, Ready}
 use Rattle.std.specs.FinSet as sets
 use Rattle.bracha_instance.specs.Broadcast.{Take, vote, echoed, readied, delivered}
 use Rattle.bracha_instance.specs.States.{State}

@@ -1,8 +1,8 @@
 -- What comes to a node, as the code finds it: the tests one after another say where a step arrives.
 use Rattle.std.proofs.Common.{◌≡◌, ℕ, Bool, true, false, ◌&&◌, List, Some, None, Ok, Err, refl, sym, ap, ◌∙◌}
 use Rattle.std.specs.Prelude.{if◌then◌else◌, not, nat_lt, slice_get}
-use Rattle.link_frames.specs.Packets.{PacketValue}
-use Rattle.link_frames.specs.declared.opening.LinkFault.{LinkFault}
+use Rattle.link_frames.specs.frames.Packets.{PacketValue}
+use Rattle.link_frames.specs.declared.frames.opening.LinkFault.{LinkFault}
 use Rattle.role_commands.specs.declared.command.Command.{Command}
 use Rattle.role_sessions.specs.declared.event.ClientEvent.{ClientEvent}
 use Rattle.role_node.specs.declared.event.Event.{Event}

@@ -2,7 +2,7 @@
 use Rattle.std.proofs.Common.{◌≡◌, ℕ, zero, suc, ◌+◌, ◌*◌, ◌≤◌, List, [], ◌∷◌, ◌++◌, length, Option, Some, None}
 use Rattle.std.proofs.Common.{drop, refl, sym, ap, ◌∙◌, append-nil, append_assoc, length-append, arith}
 use Rattle.std.specs.Prelude.{slice_get}
-use Rattle.link_frames.specs.declared.packet.Message.{Message}
+use Rattle.link_frames.specs.declared.frames.packet.Message.{Message}
 use Rattle.byz_world.specs.Pools.{Sent}
 use Rattle.byz_world.specs.inside.Blocks.{noted_names, noted_messages, row_names, row_messages, row_of}
 use Rattle.byz_world.specs.inside.Blocks.{mark_of_row, block_names, block_messages}

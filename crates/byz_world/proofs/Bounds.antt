@@ -6,7 +6,7 @@ use Rattle.std.specs.Prelude.{filter, nat_lt, slice_get}
 use Rattle.std.proofs.lemmas.Bool.{and_parts}
 use Rattle.quorum_sizes.specs.Sizes.{Counts}
 use Rattle.quorum_sizes.specs.NodeSets.{Nodes}
-use Rattle.link_frames.specs.Packets.{PacketValue}
+use Rattle.link_frames.specs.frames.Packets.{PacketValue}
 use Rattle.owner_streams.proofs.Exported.{takes_at-own}
 use Rattle.owner_streams.specs.Places.{take_of, takes_at}
 use Rattle.role_node.proofs.Exported.{packets-Take}

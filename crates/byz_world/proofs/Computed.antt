@@ -5,8 +5,8 @@ use Rattle.std.specs.FinSet as sets
 use Rattle.quorum_sizes.specs.Sizes.{Counts, echo_quorum_of, amplify_of, deliver_of}
 use Rattle.quorum_sizes.proofs.Exported.{count, len-count}
 use Rattle.role_commands.specs.declared.command.Command.{Command}
-use Rattle.link_frames.specs.declared.kind.Kind.{Kind}
-use Rattle.link_frames.specs.declared.kind.Kind.TheVariants.{Echo, Ready}
+use Rattle.link_frames.specs.declared.frames.kind.Kind.{Kind}
+use Rattle.link_frames.specs.declared.frames.kind.Kind.TheVariants.{Echo, Ready}
 use Rattle.bracha_instance.specs.Prefixes.{at_first_prefix}
 use Rattle.bracha_instance.specs.Broadcast.{Take, is_for, vote, supporters, may_ready}
 use Rattle.bracha_instance.specs.Broadcast.{may_deliver, command_that, readied, delivered}

@@ -14,9 +14,9 @@ use Rattle.quorum_sizes.specs.Sizes.{Counts}
 use Rattle.quorum_sizes.specs.NodeSets.{nodes_among}
 use Rattle.quorum_sizes.proofs.Exported.{contains-nodes_among, count, len-count}
 use Rattle.role_commands.specs.declared.command.Command.{Command}
-use Rattle.link_frames.specs.Kinds.{same_kind}
-use Rattle.link_frames.specs.Packets.{PacketValue, SentByOwner, IsSound, place_count, message_of}
-use Rattle.link_frames.specs.declared.kind.Kind.TheVariants.{Send}
+use Rattle.link_frames.specs.frames.Kinds.{same_kind}
+use Rattle.link_frames.specs.frames.Packets.{PacketValue, SentByOwner, IsSound, place_count, message_of}
+use Rattle.link_frames.specs.declared.frames.kind.Kind.TheVariants.{Send}
 use Rattle.bracha_instance.specs.Broadcast.{is_for, vote, echoed}
 use Rattle.bracha_instance.specs.Prefixes.{at_first_prefix}
 use Rattle.bracha_instance.specs.declared.instance.Effect.TheVariants as effect

@@ -1,8 +1,8 @@
 -- Before its READYs the run of four nodes wants them, and they are given.
 use Rattle.std.proofs.Common.{◌≡◌, Bool, true, ◌&&◌, List, [], ◌∷◌, ◌++◌, refl, ◌∙◌}
 use Rattle.std.proofs.lemmas.Bool.{and_parts}
-use Rattle.link_frames.specs.Packets.{PacketValue, message_of}
-use Rattle.link_frames.specs.declared.kind.Kind.TheVariants.{Ready}
+use Rattle.link_frames.specs.frames.Packets.{PacketValue, message_of}
+use Rattle.link_frames.specs.declared.frames.kind.Kind.TheVariants.{Ready}
 use Rattle.bracha_instance.specs.Broadcast.{vote, echoed}
 use Rattle.bracha_instance.specs.Prefixes.{at_first_prefix}
 use Rattle.owner_streams.specs.Places.{takes_at}

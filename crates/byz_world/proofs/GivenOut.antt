@@ -5,7 +5,7 @@ use Rattle.std.proofs.Common.{refl, sym, ap, ◌∙◌, arith, le_refl}
 use Rattle.std.specs.Prelude.{nat_le, Contains}
 use Rattle.std.proofs.lemmas.Bool.{cases_lt}
 use Rattle.quorum_sizes.specs.NodeSets.{Nodes}
-use Rattle.link_frames.specs.Packets.{PacketValue, message_of}
+use Rattle.link_frames.specs.frames.Packets.{PacketValue, message_of}
 use Rattle.bracha_instance.specs.declared.instance.Effect.{Effect}
 use Rattle.bracha_instance.specs.declared.instance.Effect.TheVariants as effect
 use Rattle.role_node.specs.Answers.{outlook, answered, unless_full, reply_to, answer_due, is_recorded}

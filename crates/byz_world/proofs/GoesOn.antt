@@ -1,6 +1,6 @@
 -- Each owner's stream goes on, whatever else does.
 use Rattle.std.proofs.Common.{◌≡◌, ◌<◌, inl, inr, ⊎_elim}
-use Rattle.link_frames.specs.Packets.{PacketValue}
+use Rattle.link_frames.specs.frames.Packets.{PacketValue}
 use Rattle.byz_world.specs.Progress.{IsWanted, IsQuiet, EachOwnerGoesOn}
 use Rattle.byz_world.proofs.Bounds.{about_is_bounded}
 use Rattle.byz_world.proofs.Quiet.{quiet_is_complete, quiet_or_wanted, wanted_stays}

@@ -8,7 +8,7 @@ use Rattle.std.proofs.lemmas.Map.Views.{exact_unsigned_eq}
 use Rattle.std.specs.FinSet as sets
 use Rattle.quorum_sizes.specs.Sizes.{AreSizes}
 use Rattle.quorum_sizes.specs.NodeSets.{Nodes, nodes_among}
-use Rattle.link_frames.specs.Packets.{message_of}
+use Rattle.link_frames.specs.frames.Packets.{message_of}
 use Rattle.role_node.proofs.Exported.{at_push}
 use Rattle.role_node.specs.Answers.{answer_due, is_recorded, IsLegal}
 use Rattle.role_node.specs.Configs.{ConfigValue}

@@ -5,7 +5,7 @@ use Rattle.std.proofs.Common.{length}
 use Rattle.std.specs.List.{filter_map}
 use Rattle.std.proofs.lemmas.Bool.{and_parts, and_from, eq-eqb}
 use Rattle.std.proofs.lemmas.Option.{cond_some}
-use Rattle.link_frames.specs.Packets.{PacketValue}
+use Rattle.link_frames.specs.frames.Packets.{PacketValue}
 use Rattle.bracha_instance.specs.Broadcast.{Take}
 use Rattle.bracha_instance.specs.declared.instance.Effect.{Effect}
 use Rattle.owner_streams.specs.Places.{take_of, take_at, takes_at}

@@ -8,7 +8,7 @@ use Rattle.std.proofs.lemmas.Bool.Decides.{nat_tests}
 use Rattle.quorum_sizes.specs.Sizes.{Counts}
 use Rattle.quorum_sizes.specs.NodeSets.{Nodes}
 use Rattle.role_commands.specs.declared.command.Command.{Command}
-use Rattle.link_frames.specs.Packets.{PacketValue, message_of}
+use Rattle.link_frames.specs.frames.Packets.{PacketValue, message_of}
 use Rattle.bracha_instance.proofs.Exported.{same_kind-refl}
 use Rattle.bracha_instance.specs.Broadcast.{Take, command_of, is_vote_of, vote}
 use Rattle.bracha_instance.specs.Taking.{effect_of}

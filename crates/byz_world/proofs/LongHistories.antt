@@ -3,7 +3,7 @@ use Rattle.std.proofs.Common.{◌≡◌, ℕ, suc, ◌+◌, ◌*◌, ◌<◌, �
 use Rattle.std.proofs.Common.{length-append, arith, append-nil, append_assoc}
 use Rattle.std.specs.Prelude.{slice_get}
 use Rattle.quorum_sizes.specs.Sizes.{Counts}
-use Rattle.link_frames.specs.Packets.{PacketValue}
+use Rattle.link_frames.specs.frames.Packets.{PacketValue}
 use Rattle.owner_streams.proofs.Exported.{takes_at-own, takes_at-append}
 use Rattle.owner_streams.specs.Places.{take_of, takes_at}
 use Rattle.role_node.specs.Histories.{packet_in, packets, issued, client_events}

@@ -8,7 +8,7 @@ use Rattle.std.proofs.lemmas.Nat.{mod_below}
 use Rattle.std.proofs.lemmas.List.FromFn.{length-map-range_with_len}
 use Rattle.std.proofs.lemmas.Option.{slice_get-map}
 use Rattle.role_commands.proofs.Exported.{slice_get-front}
-use Rattle.link_frames.specs.Packets.{packet_of}
+use Rattle.link_frames.specs.frames.Packets.{packet_of}
 use Rattle.role_node.specs.Configs.{ConfigValue}
 use Rattle.byz_world.specs.Runs.{Run}
 use Rattle.byz_world.specs.Pools.{Sent, messages, packets_of, pool}

@@ -1,10 +1,10 @@
 -- What opens at a correct node.
 use Rattle.std.proofs.Common.{◌≡◌, ℕ, Bool, true, false, List, Option, Some, None, Result, Ok}
 use Rattle.std.specs.Prelude.{if◌then◌else◌}
-use Rattle.link_frames.specs.KeyRings.{KeyRing}
-use Rattle.link_frames.specs.Opening.{open_due}
-use Rattle.link_frames.specs.Packets.{PacketValue, IsSound}
-use Rattle.link_frames.specs.declared.opening.LinkFault.{LinkFault}
+use Rattle.link_frames.specs.frames.KeyRings.{KeyRing}
+use Rattle.link_frames.specs.frames.Opening.{open_due}
+use Rattle.link_frames.specs.frames.Packets.{PacketValue, IsSound}
+use Rattle.link_frames.specs.declared.frames.opening.LinkFault.{LinkFault}
 use Rattle.link_frames.proofs.Exported.{opened_is_sound}
 use Rattle.byz_world.specs.LabKeys.{lab_ring}
 use Rattle.byz_world.specs.Steps.{opened_at}

@@ -13,10 +13,10 @@ use Rattle.quorum_sizes.specs.Sizes.{Counts}
 use Rattle.quorum_sizes.specs.NodeSets.{Nodes}
 use Rattle.role_commands.proofs.Exported.{slice_get-seam}
 use Rattle.role_commands.specs.declared.command.Command.{Command}
-use Rattle.link_frames.specs.declared.kind.Kind.{Kind}
-use Rattle.link_frames.specs.declared.kind.Kind.TheVariants.{Send, Echo, Ready}
-use Rattle.link_frames.specs.declared.packet.Message.{Message}
-use Rattle.link_frames.specs.Packets.{PacketValue, packet_of, message_of}
+use Rattle.link_frames.specs.declared.frames.kind.Kind.{Kind}
+use Rattle.link_frames.specs.declared.frames.kind.Kind.TheVariants.{Send, Echo, Ready}
+use Rattle.link_frames.specs.declared.frames.packet.Message.{Message}
+use Rattle.link_frames.specs.frames.Packets.{PacketValue, packet_of, message_of}
 use Rattle.bracha_instance.proofs.Exported as bracha
 use Rattle.bracha_instance.specs.Broadcast.{is_for, echoed, readied}
 use Rattle.owner_streams.specs.Places.{takes_at}

@@ -8,7 +8,7 @@ use Rattle.std.proofs.Common.{eqb-true}
 use Rattle.std.proofs.lemmas.List.Elements.{filter_map-append}
 use Rattle.quorum_sizes.specs.Sizes.{Counts}
 use Rattle.quorum_sizes.specs.NodeSets.{Nodes}
-use Rattle.link_frames.specs.Packets.{PacketValue, message_of}
+use Rattle.link_frames.specs.frames.Packets.{PacketValue, message_of}
 use Rattle.bracha_instance.specs.Taking.{effect_of}
 use Rattle.bracha_instance.specs.declared.instance.Effect.{Effect}
 use Rattle.bracha_instance.specs.declared.instance.Effect.TheVariants as effect

@@ -12,10 +12,10 @@ use Rattle.quorum_sizes.specs.NodeSets.{Nodes, AreNodes}
 use Rattle.quorum_sizes.proofs.Exported.{correct_are_enough}
 use Rattle.role_commands.proofs.Exported.{some_value}
 use Rattle.role_commands.specs.declared.command.Command.{Command}
-use Rattle.link_frames.specs.Packets.{PacketValue, packet_of}
-use Rattle.link_frames.specs.declared.kind.Kind.{Kind}
-use Rattle.link_frames.specs.declared.kind.Kind.TheVariants.{Send, Echo, Ready}
-use Rattle.link_frames.specs.declared.packet.Message.{Message}
+use Rattle.link_frames.specs.frames.Packets.{PacketValue, packet_of}
+use Rattle.link_frames.specs.declared.frames.kind.Kind.{Kind}
+use Rattle.link_frames.specs.declared.frames.kind.Kind.TheVariants.{Send, Echo, Ready}
+use Rattle.link_frames.specs.declared.frames.packet.Message.{Message}
 use Rattle.bracha_instance.specs.Broadcast.{command_of, is_of_kind, is_vote_of, vote, supporters}
 use Rattle.bracha_instance.specs.Broadcast.{echoed, readied, delivered, may_ready, may_deliver}
 use Rattle.bracha_instance.proofs.Exported.{same_kind-refl, contains-supporters}

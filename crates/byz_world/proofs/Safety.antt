@@ -11,8 +11,8 @@ use Rattle.quorum_sizes.specs.NodeSets.{Nodes, AreNodes}
 use Rattle.quorum_sizes.proofs.Exported.{quorums_share, one_is_correct}
 use Rattle.role_commands.specs.Same.{same_command}
 use Rattle.role_commands.specs.declared.command.Command.{Command}
-use Rattle.link_frames.specs.declared.kind.Kind.{Kind}
-use Rattle.link_frames.specs.declared.kind.Kind.TheVariants.{Echo, Ready}
+use Rattle.link_frames.specs.declared.frames.kind.Kind.{Kind}
+use Rattle.link_frames.specs.declared.frames.kind.Kind.TheVariants.{Echo, Ready}
 use Rattle.bracha_instance.specs.Broadcast.{Take, Names, supporters, readied, delivered, may_ready, may_deliver}
 use Rattle.bracha_instance.proofs.Exported.{same_command-refl, ready_was_first, delivery_was_first}
 use Rattle.owner_streams.proofs.Exported.{stream_is_exact_lem}

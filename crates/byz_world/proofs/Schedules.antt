@@ -4,7 +4,7 @@ use Rattle.std.proofs.Common.{◌++◌, Some}
 use Rattle.std.specs.Prelude.{slice_get, Contains}
 use Rattle.std.proofs.lemmas.Bool.{and_parts}
 use Rattle.quorum_sizes.specs.NodeSets.{Nodes}
-use Rattle.link_frames.specs.Packets.{PacketValue}
+use Rattle.link_frames.specs.frames.Packets.{PacketValue}
 use Rattle.role_node.specs.Configs.{ConfigValue}
 use Rattle.byz_world.specs.Pools.{pool}
 use Rattle.byz_world.specs.Giving.{counts_now, IsGivenOut, IsGivable, GivingComesToRest}

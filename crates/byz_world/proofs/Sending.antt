@@ -11,11 +11,11 @@ use Rattle.quorum_sizes.specs.Sizes.{Counts}
 use Rattle.role_commands.proofs.Exported.{slice_get-seam}
 use Rattle.role_commands.specs.Tables.{Table}
 use Rattle.role_commands.specs.declared.command.Command.{Command}
-use Rattle.link_frames.specs.declared.kind.Kind.{Kind}
-use Rattle.link_frames.specs.declared.kind.Kind.TheVariants.{Send, Echo, Ready}
-use Rattle.link_frames.specs.declared.packet.Message.{Message}
-use Rattle.link_frames.specs.Packets.{PacketValue}
-use Rattle.link_frames.specs.Kinds.{same_kind}
+use Rattle.link_frames.specs.declared.frames.kind.Kind.{Kind}
+use Rattle.link_frames.specs.declared.frames.kind.Kind.TheVariants.{Send, Echo, Ready}
+use Rattle.link_frames.specs.declared.frames.packet.Message.{Message}
+use Rattle.link_frames.specs.frames.Packets.{PacketValue}
+use Rattle.link_frames.specs.frames.Kinds.{same_kind}
 use Rattle.bracha_instance.proofs.Exported as bracha
 use Rattle.bracha_instance.specs.Broadcast.{Take, is_for, supporters, echoed, readied, may_ready}
 use Rattle.bracha_instance.specs.Taking.{newly, sent_for, newly_sent}

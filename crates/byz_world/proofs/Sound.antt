@@ -9,9 +9,9 @@ use Rattle.quorum_sizes.specs.NodeSets.{Nodes}
 use Rattle.role_commands.proofs.Exported.{if_some}
 use Rattle.role_commands.specs.declared.command.Command.{Command}
 use Rattle.link_frames.proofs.Exported.{due_again}
-use Rattle.link_frames.specs.Packets.{PacketValue, IsSound, place_count, packet_of, packet_due, message_of}
-use Rattle.link_frames.specs.declared.kind.Kind.{Kind}
-use Rattle.link_frames.specs.declared.kind.Kind.TheVariants.{Send, Echo, Ready}
+use Rattle.link_frames.specs.frames.Packets.{PacketValue, IsSound, place_count, packet_of, packet_due, message_of}
+use Rattle.link_frames.specs.declared.frames.kind.Kind.{Kind}
+use Rattle.link_frames.specs.declared.frames.kind.Kind.TheVariants.{Send, Echo, Ready}
 use Rattle.bracha_instance.specs.Broadcast.{echoed, readied}
 use Rattle.owner_streams.proofs.Exported.{echoed-none, readied-none}
 use Rattle.role_node.proofs.Exported.{issued_within}

@@ -2,8 +2,8 @@
 use Rattle.std.proofs.Common.{◌≡◌, ℕ, suc, Bool, true, false, ◌&&◌, List, [], ◌∷◌, ◌++◌, length, Option}
 use Rattle.std.proofs.Common.{Some, None, Result, Ok, Err, refl, sym, ap, ◌∙◌, subst, append-nil}
 use Rattle.std.specs.Prelude.{if◌then◌else◌, not, nat_lt, IsTrue, IfOk, IfErr, OnOk, slice_get}
-use Rattle.link_frames.specs.Packets.{PacketValue, IsSound, message_of}
-use Rattle.link_frames.specs.declared.opening.LinkFault.{LinkFault}
+use Rattle.link_frames.specs.frames.Packets.{PacketValue, IsSound, message_of}
+use Rattle.link_frames.specs.declared.frames.opening.LinkFault.{LinkFault}
 use Rattle.bracha_instance.specs.declared.instance.Effect.{Effect}
 use Rattle.bracha_instance.specs.declared.instance.Effect.TheVariants as effect
 use Rattle.role_node.specs.Answers.{outlook, answered, reply_to, is_recorded}

@@ -9,10 +9,10 @@ use Rattle.std.proofs.lemmas.Bool.Decides.{nat_tests}
 use Rattle.quorum_sizes.specs.Sizes.{Counts}
 use Rattle.quorum_sizes.specs.NodeSets.{Nodes}
 use Rattle.role_commands.specs.declared.command.Command.{Command}
-use Rattle.link_frames.specs.declared.kind.Kind.{Kind}
-use Rattle.link_frames.specs.declared.kind.Kind.TheVariants.{Send, Echo, Ready}
-use Rattle.link_frames.specs.declared.packet.Message.{Message}
-use Rattle.link_frames.specs.Packets.{PacketValue, packet_of, packet_due, message_of}
+use Rattle.link_frames.specs.declared.frames.kind.Kind.{Kind}
+use Rattle.link_frames.specs.declared.frames.kind.Kind.TheVariants.{Send, Echo, Ready}
+use Rattle.link_frames.specs.declared.frames.packet.Message.{Message}
+use Rattle.link_frames.specs.frames.Packets.{PacketValue, packet_of, packet_due, message_of}
 use Rattle.bracha_instance.specs.Broadcast.{Take, echoed, readied}
 use Rattle.role_node.specs.Configs.{ConfigValue}
 use Rattle.role_node.specs.Nodes.{NodeValue}

@@ -5,7 +5,7 @@ use Rattle.std.specs.Prelude.{slice_get, Contains}
 use Rattle.std.proofs.lemmas.Bool.{leb-false}
 use Rattle.quorum_sizes.specs.Sizes.{Counts}
 use Rattle.quorum_sizes.specs.NodeSets.{Nodes}
-use Rattle.link_frames.specs.Packets.{PacketValue, message_of}
+use Rattle.link_frames.specs.frames.Packets.{PacketValue, message_of}
 use Rattle.owner_streams.proofs.Exported.{is_vote, last_vote-stands, last_vote-most}
 use Rattle.owner_streams.specs.LastVotes.{vote_place}
 use Rattle.owner_streams.specs.Places.{window}

@@ -7,9 +7,9 @@ use Rattle.quorum_sizes.specs.Sizes.{Counts}
 use Rattle.quorum_sizes.specs.NodeSets.{Nodes}
 use Rattle.role_commands.proofs.Exported.{some_value}
 use Rattle.role_commands.specs.declared.command.Command.{Command}
-use Rattle.link_frames.specs.Packets.{PacketValue, packet_of}
-use Rattle.link_frames.specs.declared.kind.Kind.TheVariants.{Ready}
-use Rattle.link_frames.specs.declared.packet.Message.{Message}
+use Rattle.link_frames.specs.frames.Packets.{PacketValue, packet_of}
+use Rattle.link_frames.specs.declared.frames.kind.Kind.TheVariants.{Ready}
+use Rattle.link_frames.specs.declared.frames.packet.Message.{Message}
 use Rattle.bracha_instance.proofs.Exported.{delivered_is_ready}
 use Rattle.owner_streams.proofs.Exported.{vote_is}
 use Rattle.owner_streams.specs.Places.{window}

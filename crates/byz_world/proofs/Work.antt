@@ -11,9 +11,9 @@ use Rattle.quorum_sizes.specs.NodeSets.{Nodes}
 use Rattle.quorum_sizes.proofs.Exported.{count, count-most}
 use Rattle.role_commands.proofs.Exported.{slice_get-seam}
 use Rattle.role_commands.specs.declared.command.Command.{Command}
-use Rattle.link_frames.specs.Packets.{PacketValue, SentByOwner}
-use Rattle.link_frames.specs.declared.kind.Kind.{Kind}
-use Rattle.link_frames.specs.declared.kind.Kind.TheVariants.{Send, Echo, Ready}
+use Rattle.link_frames.specs.frames.Packets.{PacketValue, SentByOwner}
+use Rattle.link_frames.specs.declared.frames.kind.Kind.{Kind}
+use Rattle.link_frames.specs.declared.frames.kind.Kind.TheVariants.{Send, Echo, Ready}
 use Rattle.bracha_instance.proofs.Exported.{same_kind-refl, vote_push}
 use Rattle.bracha_instance.specs.Broadcast.{Take, is_vote_of, vote}
 use Rattle.bracha_instance.specs.Taking.{effect_of}

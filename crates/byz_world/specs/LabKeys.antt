@@ -4,7 +4,7 @@ use Rattle.std.specs.Prelude.{slice_get, Option, Some, None, option_and_then}
 use Rattle.std.specs.List.{range_with_len}
 use Rattle.quorum_sizes.specs.Sizes.{Counts}
 use Rattle.quorum_sizes.specs.NodeSets.{Nodes}
-use Rattle.link_frames.specs.KeyRings.{KeyRing}
+use Rattle.link_frames.specs.frames.KeyRings.{KeyRing}
 use Rattle.byz_world.specs.Runs.{is_correct}
 
 -- the key that two nodes share: the smaller index as one byte, the larger, and thirty zero bytes

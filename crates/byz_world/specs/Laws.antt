@@ -7,7 +7,7 @@ use Rattle.role_commands.specs.declared.command.Command.{Command}
 use Rattle.bracha_instance.specs.Broadcast.{echoed, readied}
 use Rattle.owner_streams.specs.Laws.{IsPrefixOf}
 use Rattle.owner_streams.specs.Places.{takes_at, delivered_at}
-use Rattle.link_frames.specs.Packets.{PacketValue, IsSound}
+use Rattle.link_frames.specs.frames.Packets.{PacketValue, IsSound}
 use Rattle.role_node.specs.Configs.{ConfigValue}
 use Rattle.role_node.specs.Histories.{issued, packets}
 use Rattle.role_node.specs.Access.{relations_at}

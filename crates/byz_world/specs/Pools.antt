@@ -1,9 +1,9 @@
 -- The packets that the correct nodes of a run have sent, in the order of the run.
 use Rattle.std.specs.Prelude.{ℕ, ◌<◌, IsTrue, List, [], ◌∷◌, ◌++◌, map, Option, Some, None, option_map}
 use Rattle.std.specs.List.{range_with_len, flat_map}
-use Rattle.link_frames.specs.declared.packet.Message.{Message}
+use Rattle.link_frames.specs.declared.frames.packet.Message.{Message}
 use Rattle.quorum_sizes.specs.NodeSets.{Nodes}
-use Rattle.link_frames.specs.Packets.{PacketValue, packet_of, message_of}
+use Rattle.link_frames.specs.frames.Packets.{PacketValue, packet_of, message_of}
 use Rattle.role_node.specs.Configs.{ConfigValue}
 use Rattle.role_node.specs.Answers.{answer_due, sent_by_answer}
 use Rattle.role_node.specs.declared.event.Event.{Event}

@@ -5,7 +5,7 @@ use Rattle.std.specs.Prelude.{length, take, filter, Contains, Ok}
 use Rattle.std.specs.Option.{option_map_or}
 use Rattle.quorum_sizes.specs.Sizes.{Counts}
 use Rattle.quorum_sizes.specs.NodeSets.{Nodes}
-use Rattle.link_frames.specs.Packets.{PacketValue}
+use Rattle.link_frames.specs.frames.Packets.{PacketValue}
 use Rattle.bracha_instance.specs.declared.instance.Effect.TheVariants.{Counted}
 use Rattle.owner_streams.specs.Places.{window, takes_at}
 use Rattle.role_node.specs.Answers.{take_outlook}

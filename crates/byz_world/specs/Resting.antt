@@ -1,7 +1,7 @@
 -- A cluster at rest.
 use Rattle.std.specs.Prelude.{Contains}
 use Rattle.quorum_sizes.specs.NodeSets.{Nodes}
-use Rattle.link_frames.specs.Packets.{PacketValue}
+use Rattle.link_frames.specs.frames.Packets.{PacketValue}
 use Rattle.role_node.specs.Configs.{ConfigValue}
 use Rattle.role_node.specs.Histories.{packets}
 use Rattle.byz_world.specs.Runs.{Run, history_of, IsCorrect}

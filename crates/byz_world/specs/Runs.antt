@@ -7,10 +7,10 @@ use Rattle.std.specs.FinSet as sets
 use Rattle.quorum_sizes.specs.Sizes.{Counts, AreSizes}
 use Rattle.quorum_sizes.specs.NodeSets.{Nodes, nodes_among}
 use Rattle.role_commands.specs.declared.command.Command.{Command}
-use Rattle.link_frames.specs.declared.kind.Kind.{Kind}
-use Rattle.link_frames.specs.declared.kind.Kind.TheVariants.{Send, Echo, Ready}
-use Rattle.link_frames.specs.declared.packet.Message.{Message}
-use Rattle.link_frames.specs.Packets.{PacketValue, IsSound, message_of}
+use Rattle.link_frames.specs.declared.frames.kind.Kind.{Kind}
+use Rattle.link_frames.specs.declared.frames.kind.Kind.TheVariants.{Send, Echo, Ready}
+use Rattle.link_frames.specs.declared.frames.packet.Message.{Message}
+use Rattle.link_frames.specs.frames.Packets.{PacketValue, IsSound, message_of}
 use Rattle.bracha_instance.specs.Broadcast.{is_for}
 use Rattle.role_node.specs.Configs.{ConfigValue}
 use Rattle.role_node.specs.Access.{sent_at, stream_at, reach_at}

@@ -2,7 +2,7 @@
 use Rattle.std.specs.Prelude.{◌≡◌, ℕ, zero, suc, ◌*◌, ◌≤◌, ◌++◌, Bool, false, IsTrue, nat_lt, if◌then◌else◌}
 use Rattle.std.specs.Prelude.{length, map}
 use Rattle.std.specs.List.{range_with_len}
-use Rattle.link_frames.specs.Packets.{PacketValue}
+use Rattle.link_frames.specs.frames.Packets.{PacketValue}
 use Rattle.role_node.specs.Configs.{ConfigValue}
 use Rattle.byz_world.specs.Pools.{pool}
 use Rattle.byz_world.specs.Giving.{IsProlongation, IsGivenOut, HasRoom}

@@ -1,9 +1,9 @@
 -- What a step of the world does: the node and the event that it comes to, its answer, and the run after it.
 use Rattle.std.specs.Prelude.{◌≡◌, ⊤, ℕ, ◌+◌, Bool, not, ◌&&◌, nat_lt, IsTrue, List, [], if◌then◌else◌}
 use Rattle.std.specs.Prelude.{◌∷◌, ◌++◌, length, slice_get, is_some, Option, Some, None, Result, Ok, Err}
-use Rattle.link_frames.specs.Opening.{open_due}
-use Rattle.link_frames.specs.Packets.{PacketValue, IsSound, message_of}
-use Rattle.link_frames.specs.declared.opening.LinkFault.{LinkFault}
+use Rattle.link_frames.specs.frames.Opening.{open_due}
+use Rattle.link_frames.specs.frames.Packets.{PacketValue, IsSound, message_of}
+use Rattle.link_frames.specs.declared.frames.opening.LinkFault.{LinkFault}
 use Rattle.role_node.specs.Nodes.{due_at}
 use Rattle.role_node.specs.Answers.{is_recorded, sent_by}
 use Rattle.role_node.specs.declared.event.Event.{Event}

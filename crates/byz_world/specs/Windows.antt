@@ -2,7 +2,7 @@
 -- other owners do meanwhile.
 use Rattle.std.specs.Prelude.{◌≡◌, ℕ, suc, ◌+◌, ◌*◌, ◌<◌, ◌≤◌, ◌⊎◌, ◌++◌, Contains, Some}
 use Rattle.quorum_sizes.specs.NodeSets.{Nodes}
-use Rattle.link_frames.specs.Packets.{PacketValue}
+use Rattle.link_frames.specs.frames.Packets.{PacketValue}
 use Rattle.owner_streams.specs.Places.{window}
 use Rattle.role_node.specs.Configs.{ConfigValue}
 use Rattle.role_node.specs.Histories.{packets}

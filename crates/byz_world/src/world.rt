@@ -5,7 +5,7 @@ ghost use Rattle.std.specs.Prelude.{slice_get, min, IfOk, IfSome, OnOk, OnErr, O
 ghost use Rattle.std.specs.Option.{option_copied};
 ghost use Rattle.std.specs.Vec.{vec_len, vec_capacity};
 ghost use Rattle.quorum_sizes.specs.Sizes.{AreSizes};
-ghost use Rattle.link_frames.specs.Packets.{IsPacket, message_of};
+ghost use Rattle.link_frames.specs.frames.Packets.{IsPacket, message_of};
 ghost use Rattle.role_node.specs.Access.{verdict_at};
 ghost use Rattle.role_node.specs.Answers.{outlook, reply_to};
 ghost use Rattle.role_node.specs.Listed.{IsWithin};

@@ -5,3 +5,4 @@ pub mod Joins
 pub mod BlankLemmas
 pub mod CompactLemmas
 pub mod ItemLemmas
+pub mod Exported

@@ -8,7 +8,7 @@ use Rattle.quorum_sizes.specs.Sizes.{Counts}
 use Rattle.role_commands.specs.declared.command.Command.TheVariants as command
 use Rattle.role_sessions.specs.declared.event.ClientEvent.TheVariants as act
 use Rattle.role_node.specs.declared.question.Question.TheVariants as question
-use Rattle.link_frames.specs.Packets.{place_count}
+use Rattle.link_frames.specs.frames.Packets.{place_count}
 use Rattle.client_lines.specs.Results.{◌>>=◌}
 use Rattle.client_lines.specs.Members.{member_of, member_number}
 use Rattle.client_lines.specs.Json.{json_of}

@@ -26,13 +26,17 @@ const MOST_BYTES: usize = 256;
 
 /// What a line says, if it is such an object, of at most 256 bytes, and has a member; `None` says nothing of the line.
 ///
-/// A line with a backslash is not begun: this way would end at the escape, perhaps late, and the other one is quick.
+/// A line with a backslash is not begun: this way would end at the escape, perhaps late, and the other one is quick. So
+/// it is with more than one blank behind the brace, behind which there may be no member.
 pub fn compact_line<'a>(text: &'a str) -> Option<Line<'a>>
     ensures { IfSome result (λ line.
         (ms : Members) × (read text.now ≡ Some (object ms)) × Says line (object ms)) }
 {
     let bytes = text.as_bytes();
     if bytes.len() < LEAST_BYTES || bytes.len() > MOST_BYTES || bytes[0] != b'{' {
+        return None;
+    }
+    if bytes[1] != b'"' && bytes[2] != b'"' {
         return None;
     }
     if bytes.contains(&b'\\') {

@@ -9,9 +9,9 @@ use Rattle.std.proofs.Math.Seq.{take-append_seam}
 use Rattle.std.proofs.KnownBytes.{Consumes-trans}
 use Rattle.std.specs.Io.KnownBytes.{Consumes}
 use borrow.Rule.Slice.PartMut.{put_mid}
-use Rattle.link_frames.specs.Devices.{WentOn}
-use Rattle.link_frames.specs.LinePrograms.{HasBytes}
-use Rattle.link_frames.specs.Watching.{Tally}
+use Rattle.link_frames.specs.lines.Devices.{WentOn}
+use Rattle.link_frames.specs.lines.LinePrograms.{HasBytes}
+use Rattle.link_frames.specs.lines.Watching.{Tally}
 use Rattle.link_frames.proofs.Exported.{HasBytes-done, WentOn-trans, some_tail, nothing_left, front_read}
 use Rattle.cluster_text.specs.Files.{Filled, SetupRead, RefusesSetup}
 use Rattle.cluster_text.specs.Setups.{setup_due, most_text_bytes}

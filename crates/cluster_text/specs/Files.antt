@@ -1,7 +1,7 @@
 -- What reading a cluster file does.
 use Rattle.std.specs.Prelude.{◌≡◌, ℕ, ◌<◌, ◌≤◌, List, length, take, ⊤, Option, Result, Ok, Err}
 use Rattle.std.specs.Io.KnownBytes.{Consumes, IsAtEnd}
-use Rattle.link_frames.specs.LinePrograms.{HasBytes}
+use Rattle.link_frames.specs.lines.LinePrograms.{HasBytes}
 use Rattle.cluster_text.specs.Setups.{setup_due}
 use Rattle.cluster_text.specs.declared.cluster.Mode.TheVariants.{Serve}
 use Rattle.cluster_text.specs.declared.cluster.Setup.{Setup}

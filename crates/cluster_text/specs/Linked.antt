@@ -1,6 +1,6 @@
 -- The keys of a setup's node.
 use Rattle.std.specs.Prelude.{ℕ, List}
-use Rattle.link_frames.specs.KeyRings.{KeyRing, key_with}
+use Rattle.link_frames.specs.frames.KeyRings.{KeyRing, key_with}
 use Rattle.cluster_text.specs.declared.cluster.Setup.{Setup}
 
 -- the keys of a setup's node, of which key i is shared with node i

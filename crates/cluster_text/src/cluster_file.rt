@@ -1,8 +1,8 @@
 //! The cluster file: what a serving node is told at its start.
 
 ghost use Rattle.std.specs.Prelude.{◌≡◌, ◌≢◌, IfOk, IfErr, OnOk, OnErr, Ok, Err};
-ghost use Rattle.link_frames.specs.Watching.{watched_inner, watched_tally};
-ghost use Rattle.link_frames.specs.Devices.{WentOn, ReaderFailed};
+ghost use Rattle.link_frames.specs.lines.Watching.{watched_inner, watched_tally};
+ghost use Rattle.link_frames.specs.lines.Devices.{WentOn, ReaderFailed};
 ghost use Rattle.cluster_text.specs.Files.{SetupRead, RefusesSetup, Filled};
 ghost use Rattle.cluster_text.specs.Setups.{setup_due, IsNodeSetup, IsServerSetup};
 

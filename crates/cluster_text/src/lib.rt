@@ -9,3 +9,5 @@ pub mod cluster;
 pub mod cluster_file;
 pub mod fault;
 mod shape;
+
+pub use shape::list_of;

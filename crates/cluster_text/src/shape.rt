@@ -186,7 +186,7 @@ fn number_most(value: &Value, most: u64) -> Option<u64>
 }
 
 /// The items of a list.
-fn list_of(value: &Value) -> Option<&[Value]>
+pub fn list_of(value: &Value) -> Option<&[Value]>
     ensures { option_map (λ items. map view items.now) result ≡ shapes.list_of (view value.now) }
 {
     match value.as_array() {

@@ -10,9 +10,9 @@ use Rattle.std.specs.Io.KnownBytes.{Consumes, Keeps}
 use Rattle.std.proofs.lemmas.List.{append-nil}
 use Rattle.std.proofs.lemmas.Slice.{take-put_mid_below}
 use Rattle.link_frames.proofs.Exported.{front_read}
-use Rattle.link_frames.specs.Layout.{frame_len}
+use Rattle.link_frames.specs.frames.Layout.{frame_len}
 use Rattle.frame_queues.specs.declared.frame_block.Came.TheVariants as came
-use Rattle.link_frames.specs.FrameStreams.{rest_of}
+use Rattle.link_frames.specs.frames.FrameStreams.{rest_of}
 use Rattle.frame_queues.specs.Blocks.{Says}
 use Rattle.frame_queues.specs.inside.Answers.{came_with}
 use Rattle.frame_queues.proofs.FrameBytes.{take-moved}

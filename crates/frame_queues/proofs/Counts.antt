@@ -5,7 +5,7 @@ use Rattle.std.specs.Prelude.{slice_set}
 use Rattle.std.proofs.lemmas.Bool.{cases_lt}
 use Rattle.std.proofs.lemmas.List.{length-take, get_or_read, get_or_past, set_past}
 use Rattle.std.proofs.lemmas.List.Sums.{sum_by-cons, sum_by-set}
-use Rattle.link_frames.specs.Packets.{PacketValue}
+use Rattle.link_frames.specs.frames.Packets.{PacketValue}
 use Rattle.frame_queues.specs.Parking.{Parked, parked_in, parked_count, IsFullest, IsRelieved, IsParked}
 use Rattle.frame_queues.specs.Firsts.{FirstValue, IsFirstParked}
 

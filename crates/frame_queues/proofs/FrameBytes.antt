@@ -8,8 +8,8 @@ use Rattle.std.proofs.lemmas.List.{take-append-le, take-append-drop, take_at}
 use Rattle.std.proofs.lemmas.List.Concat.{concat_is}
 use Rattle.std.proofs.lemmas.List.Elements.{All-head, All-tail}
 use Rattle.std.proofs.lemmas.List.Folds.{concat-append}
-use Rattle.link_frames.specs.Layout.{frame_len}
-use Rattle.link_frames.specs.FrameStreams.{AreFrames}
+use Rattle.link_frames.specs.frames.Layout.{frame_len}
+use Rattle.link_frames.specs.frames.FrameStreams.{AreFrames}
 
 pub concat-length : (frames : List (List ℕ)) → AreFrames frames → length (concat frames) ≡ length frames * frame_len
 concat-length [] are = refl

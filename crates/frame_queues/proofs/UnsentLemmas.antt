@@ -9,8 +9,8 @@ use Rattle.std.proofs.Math.Seq.{take-append-add}
 use Rattle.std.proofs.lemmas.List.{drop-drop, drop-append-le, take_all, take_min, take_rest}
 use Rattle.std.proofs.lemmas.List.Elements.{All-append, All-take}
 use Rattle.std.proofs.lemmas.List.Folds.{concat-append}
-use Rattle.link_frames.specs.Layout.{frame_len}
-use Rattle.link_frames.specs.FrameStreams.{AreFrames}
+use Rattle.link_frames.specs.frames.Layout.{frame_len}
+use Rattle.link_frames.specs.frames.FrameStreams.{AreFrames}
 use Rattle.frame_queues.specs.Unsent.{UnsentValue, most_frames, unsent, GoesOn}
 use Rattle.frame_queues.specs.inside.Kept.{IsUnsent}
 use Rattle.frame_queues.proofs.FrameBytes.{concat-drop, concat-length, concat-split, part_of_front}

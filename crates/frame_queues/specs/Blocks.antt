@@ -1,8 +1,8 @@
 -- Bytes that are read a block at a time, and the frames among them.
 use Rattle.std.specs.Prelude.{◌≡◌, ℕ, ◌*◌, ◌<◌, ◌⊎◌, min, max, List, ◌++◌, Option}
 use Rattle.std.specs.Io.KnownBytes.{Consumes}
-use Rattle.link_frames.specs.Layout.{frame_len}
-use Rattle.link_frames.specs.FrameStreams.{rest_of}
+use Rattle.link_frames.specs.frames.Layout.{frame_len}
+use Rattle.link_frames.specs.frames.FrameStreams.{rest_of}
 use Rattle.frame_queues.specs.declared.frame_block.Came.{Came}
 use Rattle.frame_queues.specs.declared.frame_block.Came.TheVariants.{Nothing, Some, More, End}
 

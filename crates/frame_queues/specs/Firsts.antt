@@ -1,7 +1,7 @@
 -- What comes before the jobs of an inbox: the node's own packet, then those that waited and are due.
 use Rattle.std.specs.Prelude.{◌≡◌, ℕ, ◌<◌, Option, Some, None, MatchOption, List, [], length}
 use Rattle.std.specs.Prelude.{slice_index_or, slice_set}
-use Rattle.link_frames.specs.Packets.{PacketValue}
+use Rattle.link_frames.specs.frames.Packets.{PacketValue}
 use Rattle.frame_queues.specs.Waiting.{first_below}
 use Rattle.frame_queues.specs.Parking.{Parked, parked_in, without_first, IsParked}
 

@@ -1,7 +1,7 @@
 -- Packets of one peer that wait: a list for each owner's stream, at most so many packets in all.
 use Rattle.std.specs.Prelude.{◌≡◌, ℕ, ◌-◌, ◌<◌, ◌≤◌, List, [], length, take, drop, sum_by}
 use Rattle.std.specs.Prelude.{slice_index_or, slice_set}
-use Rattle.link_frames.specs.Packets.{PacketValue}
+use Rattle.link_frames.specs.frames.Packets.{PacketValue}
 use Rattle.frame_queues.specs.Waiting.{waiting_with}
 
 -- a list for each owner

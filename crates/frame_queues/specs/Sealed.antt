@@ -1,9 +1,9 @@
 -- Frames that a node seals.
 use Rattle.std.specs.Prelude.{ℕ, nat_lt, if◌then◌else◌, List, Option, None, option_map}
-use Rattle.link_frames.specs.Frames.{frame}
-use Rattle.link_frames.specs.KeyRings.{KeyRing, key_with}
-use Rattle.link_frames.specs.Packets.{packet_due}
-use Rattle.link_frames.specs.declared.packet.Message.{Message}
+use Rattle.link_frames.specs.frames.Frames.{frame}
+use Rattle.link_frames.specs.frames.KeyRings.{KeyRing, key_with}
+use Rattle.link_frames.specs.frames.Packets.{packet_due}
+use Rattle.link_frames.specs.declared.frames.packet.Message.{Message}
 
 -- the frame of a message to a node of the cluster, where a packet of the ring's node may have the message
 abbrev pub frame_due : KeyRing → ℕ → ℕ → Message → Option (List ℕ)

@@ -2,8 +2,8 @@
 use Rattle.std.specs.Prelude.{◌≡◌, ℕ, ◌+◌, ◌/◌, ◌%◌, ◌≤◌, List, length, take, drop, Option, Result, MatchResult}
 use Rattle.std.specs.List.{concat}
 use Rattle.std.specs.Io.KnownBytes.{Appends, Keeps}
-use Rattle.link_frames.specs.FrameStreams.{AreFrames}
-use Rattle.link_frames.specs.Layout.{frame_len}
+use Rattle.link_frames.specs.frames.FrameStreams.{AreFrames}
+use Rattle.link_frames.specs.frames.Layout.{frame_len}
 
 -- the most frames that wait
 abbrev pub most_frames : ℕ

@@ -1,9 +1,9 @@
 -- Packets of one peer in one owner's stream that wait: in the order of their places, one of each kind at a place.
 use Rattle.std.specs.Prelude.{ℕ, ◌+◌, ◌*◌, ◌<◌, nat_lt, if◌then◌else◌, Option, Some, None, List, [], ◌∷◌}
 use Rattle.std.specs.Prelude.{length, slice_index_or}
-use Rattle.link_frames.specs.declared.kind.Kind.{Kind}
-use Rattle.link_frames.specs.declared.kind.Kind.TheVariants.{Send, Echo, Ready}
-use Rattle.link_frames.specs.Packets.{PacketValue}
+use Rattle.link_frames.specs.declared.frames.kind.Kind.{Kind}
+use Rattle.link_frames.specs.declared.frames.kind.Kind.TheVariants.{Send, Echo, Ready}
+use Rattle.link_frames.specs.frames.Packets.{PacketValue}
 
 -- the order of the kinds, in which a node says them
 abbrev pub kind_order : Kind → ℕ

@@ -1,7 +1,7 @@
 //! Bytes of frames as they are read, a block at a time.
 
 ghost use Rattle.std.specs.Prelude.{◌≡◌, ◌+◌, ◌≤◌, [], length, IfOk};
-ghost use Rattle.link_frames.specs.FrameStreams.{AreFramesOf, rest_of};
+ghost use Rattle.link_frames.specs.frames.FrameStreams.{AreFramesOf, rest_of};
 ghost use Rattle.frame_queues.specs.Blocks.{ReadsOn, Says, block_frames, block_end};
 ghost use Rattle.frame_queues.specs.inside.Answers.{came_with, came_after};
 

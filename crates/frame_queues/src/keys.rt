@@ -2,9 +2,9 @@
 
 ghost use Rattle.std.specs.Prelude.{◌≡◌, ◌<◌, ℕ, List, Option, IfSome, option_map};
 ghost use Rattle.std.specs.Result.{result_ok};
-ghost use Rattle.link_frames.specs.Opening.{open_due};
-ghost use Rattle.link_frames.specs.Packets.{PacketValue};
-ghost use Rattle.link_frames.specs.declared.packet.Message.{Message};
+ghost use Rattle.link_frames.specs.frames.Opening.{open_due};
+ghost use Rattle.link_frames.specs.frames.Packets.{PacketValue};
+ghost use Rattle.link_frames.specs.declared.frames.packet.Message.{Message};
 ghost use Rattle.frame_queues.specs.Sealed.{frame_due};
 
 use link_frames::{Frame, Message, Packet, PairKeys, open_frame, seal};
@@ -75,7 +75,7 @@ impl ClusterKeys {
 
 impl FrameKeys for ClusterKeys {
     ghost use Rattle.std.specs.Result.{result_ok};
-    ghost use Rattle.link_frames.specs.Opening.{open_due};
+    ghost use Rattle.link_frames.specs.frames.Opening.{open_due};
     ghost use Rattle.frame_queues.specs.Sealed.{frame_due};
 
     ghost opened = { λ k f. result_ok (open_due k.keys k.cluster f) };

@@ -2,7 +2,7 @@
 
 ghost use Rattle.std.specs.Prelude.{◌≡◌, ℕ, ◌+◌, ◌-◌, ◌<◌, ◌≤◌, [], length, take, drop, All, slice_index_or};
 ghost use Rattle.std.specs.Prelude.{IfOk, OnErr, OnOk, IfSome, OnSome, IfNone, if◌then◌else◌};
-ghost use Rattle.link_frames.specs.Packets.{PacketValue};
+ghost use Rattle.link_frames.specs.frames.Packets.{PacketValue};
 ghost use Rattle.frame_queues.specs.Waiting as waiting;
 ghost use Rattle.frame_queues.specs.Waiting.{waiting_with, first_below, IsInOrder};
 
@@ -19,7 +19,7 @@ pub(crate) struct StreamPackets {
 
 impl Model for StreamPackets {
     ghost use Rattle.std.specs.Prelude.{List};
-    ghost use Rattle.link_frames.specs.Packets.{PacketValue};
+    ghost use Rattle.link_frames.specs.frames.Packets.{PacketValue};
     ghost use Rattle.frame_queues.specs.Waiting.{IsInOrder};
 
     ghost Value = { List PacketValue };

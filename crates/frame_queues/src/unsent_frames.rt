@@ -3,7 +3,7 @@
 ghost use Rattle.std.specs.Prelude.{◌≡◌, ◌+◌, ◌-◌, ◌*◌, ◌<◌, ◌≤◌, ◌==◌, [], ◌++◌, length, take, drop, IsTrue, IfOk};
 ghost use Rattle.std.specs.Prelude.{OnOk, OnErr};
 ghost use Rattle.std.specs.List.{concat};
-ghost use Rattle.link_frames.specs.Layout.{frame_len};
+ghost use Rattle.link_frames.specs.frames.Layout.{frame_len};
 ghost use Rattle.frame_queues.specs.Unsent.{most_frames, unsent, after_written, restarted, IsWrite};
 
 use link_frames::{FRAME_LEN, Frame};

@@ -1,4 +1,4 @@
-//! Tests of `batch_journal`, over bytes in memory and over real files: what no clause says.
+//! Tests of `batch_journal` and `kept_node`, over bytes in memory and over real files: what no clause says.
 #![tactic(auto)]
 
 #[cfg(test)]
@@ -7,3 +7,5 @@ mod bytes_tests;
 mod files_tests;
 #[cfg(test)]
 mod given;
+#[cfg(test)]
+mod kept_tests;

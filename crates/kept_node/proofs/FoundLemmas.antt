@@ -8,9 +8,9 @@ use Rattle.role_commands.specs.Words.{IsCommand}
 use Rattle.role_commands.specs.declared.command.Command.{Command}
 use Rattle.role_commands.specs.declared.command.Command.TheVariants.{Assign, Deassign, Grant, Revoke, Clear}
 use Rattle.link_frames.proofs.Exported.{due_takes}
-use Rattle.link_frames.specs.Packets.{PacketValue, IsPacket, IsSound, packet_due, packet_of}
-use Rattle.link_frames.specs.declared.kind.Kind.{Kind}
-use Rattle.link_frames.specs.declared.kind.Kind.TheVariants.{Send, Echo, Ready}
+use Rattle.link_frames.specs.frames.Packets.{PacketValue, IsPacket, IsSound, packet_due, packet_of}
+use Rattle.link_frames.specs.declared.frames.kind.Kind.{Kind}
+use Rattle.link_frames.specs.declared.frames.kind.Kind.TheVariants.{Send, Echo, Ready}
 use Rattle.batch_journal.specs.Digits.{digits_of}
 use Rattle.role_sessions.specs.declared.event.ClientEvent.{ClientEvent}
 use Rattle.role_sessions.specs.declared.event.ClientEvent.TheVariants.{Open, Activate, DropRole, Close}

@@ -4,7 +4,7 @@ use Rattle.std.proofs.Common.{List, [], ◌∷◌, ◌++◌, length, refl, ap, �
 use Rattle.std.specs.Prelude.{IsTrue, ◌==◌, count_by, nat_le}
 use Rattle.std.proofs.lemmas.Bool.Decides.{nat_tests}
 use Rattle.std.proofs.lemmas.List.Sums.{sum_by-append}
-use Rattle.link_frames.specs.Packets.{PacketValue}
+use Rattle.link_frames.specs.frames.Packets.{PacketValue}
 use Rattle.bracha_instance.specs.declared.instance.Effect.{Effect}
 use Rattle.owner_streams.specs.Steps.{step_due, effect_due}
 use Rattle.role_node.specs.Answers.{answer_due, is_recorded, is_routed, IsLegal, answered, unless_full, of_effect_due}

@@ -7,7 +7,7 @@ use Rattle.std.specs.List.{concat}
 use Rattle.std.proofs.lemmas.List.Concat.{flat_map-append}
 use Rattle.std.proofs.lemmas.List.Elements.{All-nil}
 use Rattle.quorum_sizes.specs.Sizes.{Counts, AreSizes}
-use Rattle.link_frames.specs.Hmac.{hmac}
+use Rattle.link_frames.specs.frames.Hmac.{hmac}
 use Rattle.batch_journal.specs.Batches.{sealed}
 use Rattle.batch_journal.specs.Digits.{digits_of}
 use Rattle.batch_journal.specs.Heads.{head_of, opened_head, other_head}

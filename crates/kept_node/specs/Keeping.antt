@@ -1,5 +1,6 @@
 -- A node with its journal, what a file stands for, and what a crash leaves.
-use Rattle.std.specs.Prelude.{◌≡◌, ℕ, ◌-◌, ◌≤◌, nat_le, Bool, IsTrue, List, length, take, All, Ok}
+use Rattle.std.specs.Prelude.{◌≡◌, ℕ, ◌-◌, ◌≤◌, ◌==◌, nat_le, if◌then◌else◌, Bool, IsTrue, List, length, take, All}
+use Rattle.std.specs.Prelude.{Option, Some, None, Ok}
 use Rattle.std.specs.List.{concat}
 use Rattle.batch_journal.specs.Readings.{reading}
 use Rattle.batch_journal.specs.declared.head.Head.{Head}
@@ -25,6 +26,10 @@ most_waiting = 1024
 
 abbrev pub is_full : {D : Type 0} → KeptValue D → Bool
 is_full k = nat_le most_waiting (end_of k.held - k.synced)
+
+-- the node, if all that it recorded is synced
+abbrev pub node_if_synced : {D : Type 0} → KeptValue D → Option NodeValue
+node_if_synced k = if k.synced == end_of k.held then Some k.held.node else None
 
 -- Bytes stand for these events of the node of this configuration and name: under its head they are read as batches, and
 -- the digits of these, one after another, are the events'.

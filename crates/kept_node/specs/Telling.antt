@@ -1,7 +1,7 @@
 -- What a hold of a kept node said, and who may read it.
 use Rattle.std.specs.Prelude.{ℕ, Option, None, option_and_then}
-use Rattle.link_frames.specs.Packets.{PacketValue, packet_due}
-use Rattle.link_frames.specs.declared.packet.Message.{Message}
+use Rattle.link_frames.specs.frames.Packets.{PacketValue, packet_due}
+use Rattle.link_frames.specs.declared.frames.packet.Message.{Message}
 use Rattle.role_node.specs.Answers.{sent_by}
 use Rattle.node_lock.specs.declared.receipt.Outcome.{Outcome}
 use Rattle.node_lock.specs.declared.receipt.Outcome.TheVariants as outcome

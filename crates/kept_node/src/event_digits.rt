@@ -3,7 +3,7 @@
 ghost use Rattle.std.specs.Prelude.{◌≡◌, ◌+◌, ◌<◌, ◌≤◌, ◌++◌, IsOk, OnOk, vec_len};
 ghost use Rattle.std.specs.Vec.{vec_capacity};
 ghost use Rattle.role_commands.specs.Words.{IsCommand};
-ghost use Rattle.link_frames.specs.Packets.{IsPacket};
+ghost use Rattle.link_frames.specs.frames.Packets.{IsPacket};
 ghost use Rattle.batch_journal.specs.Digits.{digits_of};
 ghost use Rattle.role_node.specs.declared.event.Event.TheVariants as event_is;
 ghost use Rattle.kept_node.specs.Events as events;

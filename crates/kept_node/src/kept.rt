@@ -3,6 +3,7 @@
 ghost use Rattle.std.specs.Prelude.{◌≡◌, ◌↔◌, ◌⊎◌, ◌<◌, ◌≤◌, ◌+◌, [], false, length, IsTrue, List, ℕ};
 ghost use Rattle.std.specs.Prelude.{option_map, Ok, IfOk, IfErr, IfSome, OnOk, OnErr};
 ghost use Rattle.std.specs.Prelude.{◌++◌, IsOk, vec_len};
+ghost use Rattle.std.specs.Option.{option_copied};
 ghost use Rattle.std.specs.Vec.{vec_capacity};
 ghost use Rattle.batch_journal.specs.Digits.{AreDigits};
 ghost use Rattle.batch_journal.specs.Faults.{Failed};
@@ -18,7 +19,7 @@ ghost use Rattle.peer_windows.specs.Pauses.{most_time};
 ghost use Rattle.kept_node.specs.Events.{event_digits, IsEvent};
 ghost use Rattle.kept_node.specs.inside.Fields.{IsCommitted, event_in};
 ghost use Rattle.kept_node.specs.Keeping as keeping;
-ghost use Rattle.kept_node.specs.Keeping.{Survives, StandsFor};
+ghost use Rattle.kept_node.specs.Keeping.{Survives, StandsFor, node_if_synced};
 ghost use Rattle.kept_node.specs.Restoring.{IsUnrestored, LeavesAsBefore, file_of};
 
 use crate::event_digits::{MOST_EVENT_DIGITS, push_event};
@@ -31,7 +32,7 @@ use link_frames::{Packet, Place};
 use node_lock::{Call, Locked, Outcome, Seat, StepFault};
 use peer_windows::{Owed, Pairs};
 use quorum_sizes::NodeName;
-use role_node::Event;
+use role_node::{Event, Node};
 use sqlite_disk::{Disk, Files};
 use std::alloc::Global;
 use std::marker::Model;
@@ -165,6 +166,17 @@ impl<L: Ledger, D: Disk> Kept<L, D> {
         ensures crash { Survives D.Disk.may_leave D.Disk.is_clean self.now }
     {
         self.recorded - self.synced >= MOST_WAITING
+    }
+
+    /// The node behind the lock, if all that it recorded is synced: what it tells of itself may then be told.
+    pub fn kept_node(&self) -> Option<&Node>
+        ensures value { option_copied result ≡ node_if_synced self.now }
+        ensures crash { Survives D.Disk.may_leave D.Disk.is_clean self.now }
+    {
+        if self.synced != self.recorded {
+            return None;
+        }
+        Some(self.locked.node())
     }
 
     /// How many events since the journal began are synced: what speaks of no more may be told.

@@ -152,7 +152,7 @@ pub struct Leaving {
 }
 
 impl Model for Leaving {
-    ghost use Rattle.link_frames.specs.declared.packet.Message.{Message};
+    ghost use Rattle.link_frames.specs.declared.frames.packet.Message.{Message};
 
     ghost Value = { Message };
 

@@ -1,11 +1,11 @@
 -- What is true of frames and of opening them.
 use Rattle.std.specs.Prelude.{◌≡◌, ℕ, ◌<◌, ◌^◌, List, length, Ok}
-use Rattle.link_frames.specs.Frames.{frame, IsFrameFor}
-use Rattle.link_frames.specs.KeyRings.{KeyRing, IsKeyRing, key_with}
+use Rattle.link_frames.specs.frames.Frames.{frame, IsFrameFor}
+use Rattle.link_frames.specs.frames.KeyRings.{KeyRing, IsKeyRing, key_with}
 use Rattle.role_commands.specs.Bytes.{IsBytes}
-use Rattle.link_frames.specs.Layout.{frame_len}
-use Rattle.link_frames.specs.Opening.{open_due}
-use Rattle.link_frames.specs.Packets.{PacketValue, IsPacket}
+use Rattle.link_frames.specs.frames.Layout.{frame_len}
+use Rattle.link_frames.specs.frames.Opening.{open_due}
+use Rattle.link_frames.specs.frames.Packets.{PacketValue, IsPacket}
 
 -- two rings are of one cluster, and share one key
 pub record AreLinked (a b : KeyRing) : Type 0 where

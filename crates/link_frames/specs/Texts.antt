@@ -1,13 +1,13 @@
 -- How a fault is written: its code, a space and its name.
 use Rattle.std.specs.Prelude.{ℕ, List, codes}
-use Rattle.link_frames.specs.declared.blocks.AheadFault.{AheadFault}
-use Rattle.link_frames.specs.declared.blocks.AheadFault.TheVariants as aheads
-use Rattle.link_frames.specs.declared.keys.KeyFault.{KeyFault}
-use Rattle.link_frames.specs.declared.keys.KeyFault.TheVariants.{WrongCount, Memory}
-use Rattle.link_frames.specs.declared.opening.LinkFault.{LinkFault}
-use Rattle.link_frames.specs.declared.opening.LinkFault.TheVariants as links
-use Rattle.link_frames.specs.declared.reading.ReadFault.{ReadFault}
-use Rattle.link_frames.specs.declared.reading.ReadFault.TheVariants.{Truncated, Device, TooManyTurns}
+use Rattle.link_frames.specs.declared.lines.blocks.AheadFault.{AheadFault}
+use Rattle.link_frames.specs.declared.lines.blocks.AheadFault.TheVariants as aheads
+use Rattle.link_frames.specs.declared.frames.keys.KeyFault.{KeyFault}
+use Rattle.link_frames.specs.declared.frames.keys.KeyFault.TheVariants.{WrongCount, Memory}
+use Rattle.link_frames.specs.declared.frames.opening.LinkFault.{LinkFault}
+use Rattle.link_frames.specs.declared.frames.opening.LinkFault.TheVariants as links
+use Rattle.link_frames.specs.declared.frames.reading.ReadFault.{ReadFault}
+use Rattle.link_frames.specs.declared.frames.reading.ReadFault.TheVariants.{Truncated, Device, TooManyTurns}
 
 abbrev pub key_fault_text : KeyFault → List ℕ
 key_fault_text WrongCount = codes "K1 WrongCount"

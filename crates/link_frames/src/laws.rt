@@ -1,6 +1,6 @@
 //! What is true of frames and of opening them.
 
-ghost use Rattle.link_frames.specs.FrameStreams.{FramesAreOne};
+ghost use Rattle.link_frames.specs.frames.FrameStreams.{FramesAreOne};
 ghost use Rattle.link_frames.specs.Laws.{SealedIsOpened, OpenedIsSealed, OneFrame, FramesDiffer, FrameLength};
 
 /// Sealing and opening undo each other.

@@ -251,6 +251,13 @@ impl<L: Ledger> Locked<L> {
         })
     }
 
+    /// The node behind the lock.
+    pub fn node(&self) -> &Node
+        ensures { result.now ≡ self.now.node }
+    {
+        &self.node
+    }
+
     /// What the node behind the lock was told at its start.
     pub fn config(&self) -> &Config
         ensures value { result.now ≡ self.now.node.config }

@@ -1,7 +1,7 @@
 -- What a client hears of what a hold said, and what the node then sends.
-use Rattle.std.specs.Prelude.{ℕ, Option, Some, None, option_and_then}
-use Rattle.link_frames.specs.Packets.{PacketValue, packet_due}
-use Rattle.link_frames.specs.declared.packet.Message.{Message}
+use Rattle.std.specs.Prelude.{ℕ, nat_lt, Bool, false, Option, Some, None, option_and_then}
+use Rattle.link_frames.specs.frames.Packets.{PacketValue, packet_due}
+use Rattle.link_frames.specs.declared.frames.packet.Message.{Message}
 use Rattle.role_sessions.specs.declared.faults.SessionFault.{SessionFault}
 use Rattle.role_sessions.specs.declared.faults.SessionFault.TheVariants as session
 use Rattle.role_node.specs.Answers.{sent_by}
@@ -54,6 +54,15 @@ sent_outcome (outcome.Refused f) = None
 -- the same of what a hold said
 abbrev pub sent_said : Said → Option Message
 sent_said said = option_and_then sent_outcome said.outcome
+
+-- the owner's stream has grown by a packet, to which this was answered
+abbrev pub has_grown : Reply → Bool
+has_grown (reply.Counted send delivered from to) = nat_lt from to
+has_grown r = false
+
+abbrev pub grows : Outcome → Bool
+grows (outcome.Reply r) = has_grown r
+grows said = false
 
 -- the packet of that message to the node of this name itself
 abbrev pub own_packet : ℕ → Option Outcome → Option PacketValue

@@ -1,13 +1,15 @@
 //! What a client hears of what a node answers, over a pipe and over TCP.
 
 ghost use Rattle.std.specs.Prelude.{◌≡◌, ◌≤◌, ◌++◌, OnOk, OnErr};
-ghost use Rattle.link_frames.specs.Lines.{ended};
+ghost use Rattle.link_frames.specs.lines.Lines.{ended};
 ghost use Rattle.client_lines.specs.AnswerTexts as texts;
 ghost use Rattle.client_lines.specs.AnswerTexts.{IsWritten};
+ghost use Rattle.operator_lines.specs.AnswerTexts as operator_texts;
 ghost use Rattle.node_server.specs.Answers as answers;
 
 use client_lines::{ClientAnswer, answer_text};
 use link_frames::Held;
+use operator_lines::{OperatorAnswer, operator_text};
 use role_commands::Command;
 use role_node::{Answer, NodeAgain};
 use std::alloc::{AllocError, Global};
@@ -37,6 +39,23 @@ pub fn hold_answer(alloc: Global, held: &mut Held, answer: &ClientAnswer) -> Res
     ensures same { OnErr result (held.new ≡ held.old) }
 {
     let text = answer_text(alloc, answer)?;
+    held.push_line(text.as_str())
+}
+
+/// Holds the text of what an operator hears behind the lines that are held.
+///
+/// # Errors
+///
+/// Only for want of memory. What is held stays as it was.
+pub fn hold_operator_answer(
+    alloc: Global,
+    held: &mut Held,
+    answer: &OperatorAnswer,
+) -> Result<(), AllocError>
+    ensures ok { OnOk result (held.new ≡ held.old ++ ended (operator_texts.operator_text answer.now)) }
+    ensures same { OnErr result (held.new ≡ held.old) }
+{
+    let text = operator_text(alloc, answer)?;
     held.push_line(text.as_str())
 }
 

@@ -15,6 +15,7 @@ use link_frames::{Packet, Place};
 use node_lock::{Call, Locked, Outcome, Seat, StepFault};
 use peer_windows::{Owed, Pairs};
 use quorum_sizes::NodeName;
+use role_node::Node;
 use std::sync::ledger::Ledger;
 
 /// What holds recorded could not be kept.
@@ -89,6 +90,12 @@ pub trait HeldNode {
         ensures kept { OnOk result
             ((u : Self.Untold) → (said u).view.at ≤ end_of (held self.new) → may_leave self.new u) }
         ensures same { held self.new ≡ held self.old };
+
+    /// The node, where all that was recorded is kept; then what holds said until now may leave.
+    fn kept(&self) -> Option<&Node>
+        ensures node { IfSome result (λ node. node.now ≡ (held self.now).node) }
+        ensures kept { OnSome result
+            ((u : Self.Untold) → (said u).view.at ≤ end_of (held self.now) → may_leave self.now u) };
 
     /// What a hold said, if that may leave.
     fn release(&self, untold: Self::Untold) -> Option<Said>
@@ -172,6 +179,10 @@ impl<L: Ledger + Send + Sync> HeldNode for Locked<L> {
 
     fn sync(&mut self) -> Result<(), NotKept> {
         Ok(())
+    }
+
+    fn kept(&self) -> Option<&Node> {
+        Some(Locked::node(self))
     }
 
     fn release(&self, untold: Said) -> Option<Said> {

@@ -1,11 +1,14 @@
 //! The clients: lines in, answers out.
 
-ghost use Rattle.std.specs.Prelude.{IfOk};
+ghost use Rattle.std.specs.Prelude.{◌≡◌, ◌++◌, IfOk, OnOk};
 ghost use Rattle.client_lines.specs.AnswerTexts.{IsWritten};
-ghost use Rattle.link_frames.specs.Aheads.{front_of};
-ghost use Rattle.link_frames.specs.Nexts.{Begins};
+ghost use Rattle.link_frames.specs.lines.Aheads.{front_of};
+ghost use Rattle.link_frames.specs.lines.Nexts.{Begins};
+ghost use Rattle.node_lock.specs.Inboxes.{after_put};
+ghost use Rattle.role_node.specs.Windows.{messages_of};
+ghost use Rattle.node_server.specs.Sent.{again_number, own_jobs};
 
-use crate::answers::{hold_answer, sent_count};
+use crate::answers::{hold_answer, hold_operator_answer, sent_count};
 use crate::behind::HeldNode;
 use crate::client_stream::{Farewell, LineReader, is_http};
 use crate::job_queue::JobQueue;
@@ -16,6 +19,7 @@ use client_lines::{ClientAnswer, LineFault, MOST_LINE_BYTES, Request, RequestRea
 use frame_queues::{Caller, FrameKeys, MOST_LINES, NO_LINE};
 use link_frames::{Ahead, AheadFault, Held, Message, Next, Packet, Place, Watched};
 use node_lock::{Call, Job, View};
+use operator_lines::{OperatorAnswer, OperatorFault, read_operator};
 use peer_windows::push_again;
 use quorum_sizes::NodeName;
 use role_node::{Event, NodeAgain, Question};
@@ -224,11 +228,34 @@ impl<N: HeldNode, K: FrameKeys, R: Wait + Clock> Client<'_, '_, N, K, R> {
                 Ok(AfterLine::Continue)
             }
             Err(LineFault::Memory) => Err(AheadFault::Memory),
+            Err(LineFault::UnknownOp) if self.server.operators => {
+                self.answer_operator(line)?;
+                Ok(AfterLine::Continue)
+            }
             Err(fault) => {
                 self.say(&ClientAnswer::BadLine(fault))?;
                 Ok(AfterLine::Continue)
             }
         }
+    }
+
+    /// Answers a line that no client's table has. As of listings there is one such answer at most.
+    fn answer_operator(&mut self, line: &[u8]) -> Result<(), AheadFault> {
+        let alloc = self.server.alloc;
+        let answer = match read_operator(alloc, &self.server.keys.sizes(), line) {
+            Ok(None) => return self.say(&ClientAnswer::BadLine(LineFault::UnknownOp)),
+            Err(OperatorFault::Memory) => return Err(AheadFault::Memory),
+            Err(fault) => OperatorAnswer::BadLine(fault),
+            Ok(Some(request)) => {
+                self.settle()?;
+                let answer = self.server.operator_answer(request);
+                answer.ok_or(AheadFault::Memory)?
+            }
+        };
+        self.settle()?;
+        self.lines = MOST_LINES;
+        hold_operator_answer(alloc, &mut self.held, &answer)?;
+        Ok(())
     }
 
     /// Answers all lines before, and that the node stops.
@@ -271,13 +298,14 @@ impl<N: HeldNode, K: FrameKeys, R: Wait + Clock> Client<'_, '_, N, K, R> {
     /// line is looked at, so there is one at most.
     fn ask(&mut self, question: Question) -> Result<(), AheadFault> {
         self.settle()?;
-        let me = self.server.keys.me();
-        let said = self.server.look(Some(question), me, 0);
-        let answer = said.and_then(Said::into_answer).ok_or(AheadFault::Memory)?;
         self.asked = matches!(question, Question::Check { .. });
-        if !self.asked {
+        let said = if self.asked {
+            self.server.look(Some(question), self.server.keys.me(), 0)
+        } else {
             self.lines = MOST_LINES;
-        }
+            self.server.list(question)
+        };
+        let answer = said.and_then(Said::into_answer).ok_or(AheadFault::Memory)?;
         self.say(&answer)
     }
 
@@ -293,8 +321,10 @@ impl<N: HeldNode, K: FrameKeys, R: Wait + Clock> Client<'_, '_, N, K, R> {
     }
 
     /// Puts a job, again until the inbox takes it. No answer is held back meanwhile.
-    fn put(&mut self, job: &Job) -> Result<(), AheadFault> {
-        for _ in self.server.rt.forever() {
+    fn put(&mut self, job: &Job) -> Result<(), AheadFault>
+        ensures { OnOk result (self.new.queue.pass ≡ after_put self.old.queue.pass job.now) }
+    {
+        for _turn in self.server.rt.forever() {
             if self.queue.put(self.server.rt, *job).is_ok() {
                 self.put = self.put.saturating_add(1);
                 return Ok(());
@@ -359,16 +389,23 @@ impl<N: HeldNode, K: FrameKeys, R: Wait + Clock> Client<'_, '_, N, K, R> {
         owner: NodeName,
         place: Place,
         sent: &NodeAgain,
-    ) -> Result<(), AheadFault> {
-        let mut messages = Vec::new(self.server.alloc);
+    ) -> Result<(), AheadFault>
+        ensures { let jobs = own_jobs (again_number self.old.number) me (messages_of owner place sent.now) in
+            OnOk result (self.new.queue.pass.put ≡ self.old.queue.pass.put ++ jobs) }
+    {
+        let alloc = self.server.alloc;
+        let mut messages = Vec::new(alloc);
         push_again(&mut messages, owner, place, sent)?;
-        let mut frames = Vec::with_capacity(self.server.alloc, messages.len())?;
-        self.server.send(&messages, None, &mut frames);
+        let mut frames = Vec::with_capacity(alloc, messages.len())?;
+        self.server.send(&messages, &[], &[], &mut frames);
         self.take_again(me, &messages)
     }
 
     /// Has the node take messages that it sends to itself.
-    fn take_again(&mut self, me: NodeName, messages: &[Message]) -> Result<(), AheadFault> {
+    fn take_again(&mut self, me: NodeName, messages: &[Message]) -> Result<(), AheadFault>
+        ensures { OnOk result (self.new.queue.pass.put
+            ≡ self.old.queue.pass.put ++ own_jobs (again_number self.old.number) me messages.now) }
+    {
         let (slot, line) = (self.number, NO_LINE);
         let number = Caller::Client { slot, line }.number();
         for message in messages {

@@ -20,7 +20,7 @@ pub const REFUSED: u64 = u64::MAX;
 pub struct Crew<'a, N: HeldNode> {
     pub idle: Vec<Worker<'a, N>>,
     /// Absent while a worker takes jobs.
-    pub front: Option<Front>,
+    pub front: Option<Front<N::Untold>>,
     /// Jobs were put, and no worker has looked since; or a worker has left some, since its batch was full.
     pub jobs: bool,
     /// The peers to which there is a new connection since a worker looked.
@@ -43,7 +43,7 @@ impl<'a, N: HeldNode> Crew<'a, N> {
     }
 
     /// An idle worker takes jobs from now on, if none does, with what comes before them.
-    fn begin(&mut self) -> Option<(Worker<'a, N>, Front)> {
+    fn begin(&mut self) -> Option<(Worker<'a, N>, Front<N::Untold>)> {
         let mut front = self.front.take()?;
         match self.idle.pop() {
             Some(worker) => {
@@ -95,7 +95,7 @@ impl<'a, N: HeldNode, K: FrameKeys, R: Wait + Clock> Server<'a, N, K, R> {
     }
 
     /// Does a batch of jobs with a worker. What is left then is left to others.
-    fn work(&self, mut worker: Worker<'a, N>, mut front: Front) {
+    fn work(&self, mut worker: Worker<'a, N>, mut front: Front<N::Untold>) {
         for _ in self.rt.forever() {
             let is_left = self.take_jobs(&mut worker, &mut front);
             match self.takes_on(is_left, front) {
@@ -120,14 +120,14 @@ impl<'a, N: HeldNode, K: FrameKeys, R: Wait + Clock> Server<'a, N, K, R> {
 
     /// What comes before the inbox, for the worker that takes jobs, if it takes more that were put since it looked.
     /// What is left of a full batch is left to others, who look at once.
-    fn takes_on(&self, is_left: bool, front: Front) -> Option<Front> {
+    fn takes_on(&self, is_left: bool, front: Front<N::Untold>) -> Option<Front<N::Untold>> {
         let mut crew = self.crew.lock(self.rt);
         if crew.jobs && !is_left && !N::may_sync_long() {
             crew.jobs = false;
             return Some(front);
         }
         crew.jobs |= is_left;
-        crew.due = front.pairs.next_due();
+        crew.due = front.pairs.next_due().min(front.tell_by);
         if crew.due < crew.wakes {
             crew.wakes = crew.due;
             self.wake_ports();

@@ -1,16 +1,19 @@
 //! What comes before the inbox, and what is sent to single peers.
 
-ghost use Rattle.std.specs.Prelude.{◌≡◌, ◌≤◌, None};
+ghost use Rattle.std.specs.Prelude.{◌≡◌, ◌+◌, ◌≤◌, None, false, true, is_some};
 ghost use Rattle.peer_windows.specs.Pauses.{most_time};
+ghost use Rattle.node_server.specs.Served.{grows};
 
 use crate::behind::HeldNode;
 use crate::job_queue::JobQueue;
 use crate::outbox::Outbox;
+use crate::owed::owed_to;
+use crate::workers::MOST_BATCH;
 use frame_queues::{Caller, FirstPackets};
-use link_frames::Packet;
+use link_frames::{Message, Packet};
 use node_lock::{Call, Job, Outcome, Seat};
 use owner_streams::WINDOW;
-use peer_windows::{ENOUGH_ROOM, Owed, Pairs};
+use peer_windows::{ENOUGH_ROOM, NEVER, Owed, Pairs, Share};
 use quorum_sizes::{NodeName, Sizes};
 use role_node::{Event, NodeFault, Reply};
 use std::alloc::{AllocError, Global};
@@ -18,10 +21,22 @@ use std::collections::VecDeque;
 use std::mem;
 use std::sync::Wait;
 
-/// What the worker has that takes jobs: what comes before the inbox, and the pairs of owners and peers. There is one,
-/// so one worker takes at a time, and jobs are done in the order in which they came.
+/// For how many milliseconds it waits at most to be told what has the node send nothing, and no client waits for.
+const LONGEST_UNTOLD: u64 = 10;
+
+/// A job whose call was made, and what the hold said; nothing for want of memory, and where the seat does not fit the
+/// node.
 #[derive(Drop)]
-pub struct Front {
+pub struct Done<U> {
+    pub caller: Caller,
+    pub packet: Option<Packet>,
+    pub said: Option<U>,
+}
+
+/// What the worker has that takes jobs: what comes before the inbox, the pairs of owners and peers, and what holds have
+/// said. There is one, so one worker takes at a time, and jobs are done in the order in which they came.
+#[derive(Drop)]
+pub struct Front<U> {
     pub first: FirstPackets,
     /// Packets that the node sends to itself once more.
     again: VecDeque<Packet>,
@@ -30,18 +45,21 @@ pub struct Front {
     has_grown: bool,
     /// The peers to which there is a new connection.
     pub connected: Vec<NodeName>,
+    /// Jobs whose calls were made, before what they recorded is kept, and when that is at the latest, in milliseconds.
+    pub untold: Vec<Done<U>>,
+    pub tell_by: u64,
     /// How many frames each node takes.
     rooms: Vec<Option<u32>>,
     me: NodeName,
 }
 
-impl Front {
+impl<U: Drop> Front<U> {
     /// Nothing comes before the inbox.
     ///
     /// # Errors
     ///
     /// Only for want of memory.
-    pub fn new(alloc: Global, sizes: Sizes, me: NodeName, now: u64) -> Result<Front, AllocError>
+    pub fn new(alloc: Global, sizes: Sizes, me: NodeName, now: u64) -> Result<Front<U>, AllocError>
         requires { now ≤ most_time }
     {
         Ok(Front {
@@ -50,6 +68,8 @@ impl Front {
             pairs: Pairs::new(alloc, sizes, me, now)?,
             has_grown: false,
             connected: Vec::with_capacity(alloc, usize::from(sizes.n()))?,
+            untold: Vec::with_capacity(alloc, MOST_BATCH)?,
+            tell_by: NEVER,
             rooms: Vec::from_elem(alloc, None, usize::from(sizes.n()))?,
             me,
         })
@@ -74,8 +94,29 @@ impl Front {
         }
     }
 
+    /// A job's call was made. It is told at once where something leaves then, and else with what comes soon after.
+    pub fn put_untold(&mut self, done: Done<U>, leaves: bool, now: u64)
+        requires { now ≤ most_time }
+        ensures leaves { leaves ≡ true → self.new.tell_by ≤ now }
+        ensures soon { self.new.tell_by ≤ now + 10 }
+        ensures sooner { self.new.tell_by ≤ self.old.tell_by }
+    {
+        let by = if leaves { now } else { now + LONGEST_UNTOLD };
+        self.tell_by = self.tell_by.min(by);
+        // there is room for a batch
+        let _ = self.untold.push(done);
+    }
+
+    /// Whether it is time to tell what is untold, or for what is due to single peers, which waits for that.
+    pub fn tells_now(&self, now: u64) -> bool {
+        self.tell_by <= now || self.pairs.next_due() <= now
+    }
+
     /// Whether a stream has grown since this was last asked, for which packets may wait.
-    pub fn has_grown(&mut self) -> bool {
+    pub fn has_grown(&mut self) -> bool
+        ensures told { result ≡ self.old.has_grown }
+        ensures since { self.new.has_grown ≡ false }
+    {
         mem::replace(&mut self.has_grown, false)
     }
 
@@ -86,16 +127,22 @@ impl Front {
 
     /// Notes what the node answered. A packet that is beyond the window now waits until its owner's stream has grown;
     /// one that made the stream grow lets those go on that wait for that.
-    pub fn note(&mut self, packet: Option<&Packet>, outcome: &Outcome) {
-        match (outcome, packet) {
-            (Outcome::Reply(Reply::Counted { from, to, .. }), Some(packet)) => {
+    pub fn note(&mut self, packet: Option<&Packet>, outcome: &Outcome)
+        ensures grown { is_some packet.entry ≡ true → grows outcome.now ≡ true → self.new.has_grown ≡ true }
+        ensures kept { self.old.has_grown ≡ true → self.new.has_grown ≡ true }
+    {
+        let Some(packet) = packet else {
+            return;
+        };
+        match outcome {
+            Outcome::Reply(Reply::Counted { from, to, .. }) => {
                 if *from < *to {
                     self.first
                         .reached(packet.owner(), to.saturating_add(WINDOW));
                     self.has_grown = true;
                 }
             }
-            (Outcome::Refused(NodeFault::Beyond { .. }), Some(packet)) => {
+            Outcome::Refused(NodeFault::Beyond { .. }) => {
                 // without memory it is lost, as on any network
                 let _ = self.first.park(*packet);
             }
@@ -107,6 +154,7 @@ impl Front {
     pub fn gather<N: HeldNode, R: Wait>(
         &mut self,
         rt: &R,
+        alloc: Global,
         outboxes: &[Outbox],
         node: &mut N,
         seat: &mut Seat<N::Ledger>,
@@ -120,10 +168,16 @@ impl Front {
         }
         if self.pairs.next_due() <= now {
             self.look_at_rooms(rt, outboxes, owed);
-            let before = owed.shares().len();
+            let (shares, messages) = (owed.shares().len(), owed.messages().len());
             // what was gathered before a fault is sent
             let _ = node.gather(seat, now, &mut self.pairs, &mut self.rooms, owed);
-            self.keep_own(owed, before);
+            if let (Some(shares), Some(messages)) = (
+                owed.shares().get(shares..),
+                owed.messages().get(messages..),
+            ) {
+                // without memory it is lost, as on any network
+                let _ = self.keep_own(alloc, shares, messages);
+            }
         }
     }
 
@@ -150,20 +204,18 @@ impl Front {
         }
     }
 
-    /// Keeps what the node owes itself, of the shares from this one on.
-    fn keep_own(&mut self, owed: &Owed, first: usize) {
-        let mut from = 0usize;
-        for (at, share) in owed.shares().iter().enumerate() {
-            let to = from.saturating_add(share.count);
-            if at >= first && share.peer == self.me {
-                for message in owed.messages().get(from..to).unwrap_or(&[]) {
-                    if let Some(packet) = Packet::new(self.me, self.me, *message) {
-                        // without memory it is lost, as on any network
-                        let _ = self.again.push_back(packet);
-                    }
-                }
+    /// Keeps what the node owes itself.
+    fn keep_own(
+        &mut self,
+        alloc: Global,
+        shares: &[Share],
+        messages: &[Message],
+    ) -> Result<(), AllocError> {
+        for message in owed_to(alloc, self.me, shares, messages)? {
+            if let Some(packet) = Packet::new(self.me, self.me, message) {
+                self.again.push_back(packet)?;
             }
-            from = to;
         }
+        Ok(())
     }
 }

@@ -30,7 +30,8 @@ impl<'a> JobQueue<'a> {
 
     /// Takes the next job.
     pub fn take<R: Wait>(&mut self, rt: &R) -> Option<Job>
-        ensures { MatchOption result (self.new.pass ≡ self.old.pass) (λ job. self.new.pass ≡ after_take self.old.pass job) }
+        ensures { MatchOption result (self.new.pass ≡ self.old.pass)
+            (λ job. self.new.pass ≡ after_take self.old.pass job) }
     {
         self.inbox.take(rt, &mut self.pass)
     }

@@ -8,8 +8,8 @@
 //!
 //! The server does not know what is behind the lock (`HeldNode`), nor by which keys frames open (`FrameKeys`).
 //! `specs/Served.antt` says what a client hears and what the node sends, `specs/Told.antt` which answers it reads,
-//! `specs/Callers.antt` who waits for a job, and `frame_queues` which frame a message gets, which bytes that come are
-//! frames, which connections have a place, and which bytes go over a connection.
+//! and `frame_queues` who waits for a job, which frame a message gets, which bytes that come are frames, which
+//! connections have a place, and which bytes go over a connection.
 #![tactic(auto)]
 
 ghost use denote.Param.Send.{IsSend, IsSync};
@@ -21,13 +21,18 @@ mod clients;
 mod crew;
 mod fault;
 mod front;
+mod heard;
 mod job_queue;
+mod operators;
 mod outbox;
+mod owed;
 mod peers;
 mod ports;
 mod said;
 mod server;
 mod slot;
+mod tally;
+mod tickets;
 mod told;
 mod workers;
 
@@ -38,6 +43,7 @@ pub use fault::ServerFault;
 use frame_queues::MOST_CLIENTS;
 pub use frame_queues::{ClusterKeys, FrameKeys, PeerName};
 use front::Front;
+use heard::Heard;
 use job_queue::{JobQueue, job_queues};
 use mio::Waker;
 use node_lock::{Inbox, Seat};
@@ -53,6 +59,8 @@ use std::sync::{Condvar, Mutex, Wait};
 use std::thread::Threads;
 use std::time::{Clock, Duration};
 use std::{io, thread};
+use tally::SyncTally;
+use tickets::TicketLock;
 use workers::Worker;
 
 /// How many workers there are.
@@ -75,6 +83,8 @@ pub struct Site {
     pub addresses: Vec<SocketAddr>,
     /// After so long a client that sends nothing is closed.
     pub idle: Duration,
+    /// Whether the lines of operators are answered, beside those of clients.
+    pub operators: bool,
 }
 
 /// A listener at an address, which never waits.
@@ -127,9 +137,7 @@ where
     let queue = queues.pop().ok_or(ServerFault::Memory)?;
     let outboxes = outboxes(alloc, &keys, &site.addresses)?;
     let (poll, waker) = poll_of(rt).map_err(fault_of)?;
-    let server = server_of(
-        rt, alloc, node, seats, keys, queues, outboxes, waker, site.idle,
-    )?;
+    let server = server_of(rt, alloc, node, seats, keys, queues, outboxes, waker, &site)?;
     let peers = Peers::new(&server, queue)?;
     let listeners = (site.peers, site.clients);
     run(Ports::new(&server, poll, listeners, peers).map_err(fault_of)?)?;
@@ -172,7 +180,7 @@ fn server_of<'a, N: HeldNode + Drop, K: FrameKeys + Drop, R: Clock>(
     mut queues: Vec<JobQueue<'a>>,
     outboxes: Vec<Outbox>,
     waker: Waker,
-    idle: Duration,
+    site: &Site,
 ) -> Result<Server<'a, N, K, R>, AllocError> {
     let view_seat = seats.pop().ok_or(AllocError)?;
     let mut slots = Vec::new(alloc);
@@ -181,18 +189,24 @@ fn server_of<'a, N: HeldNode + Drop, K: FrameKeys + Drop, R: Clock>(
     }
     let front = Front::new(alloc, keys.sizes(), keys.me(), millis(rt))?;
     let crew = crew_of(alloc, seats, queues, front, keys.sizes().n())?;
+    let heard = Heard::new(alloc, keys.sizes().n())?;
     Ok(Server {
         rt,
         alloc,
         node: Mutex::new(node),
+        turns: TicketLock::new(),
         view_seat: Mutex::new(view_seat),
+        listing: Mutex::new(()),
         keys,
         crew: Mutex::new(crew),
         left: Condvar::new(),
         outboxes,
         slots,
         waker,
-        idle,
+        idle: site.idle,
+        operators: site.operators,
+        syncs: Mutex::new(SyncTally::new()),
+        heard: Mutex::new(heard),
     })
 }
 
@@ -205,7 +219,7 @@ fn crew_of<'a, N: HeldNode>(
     alloc: Global,
     seats: Vec<Seat<N::Ledger>>,
     mut queues: Vec<JobQueue<'a>>,
-    front: Front,
+    front: Front<N::Untold>,
     nodes: u8,
 ) -> Result<Crew<'a, N>, AllocError> {
     let mut idle = Vec::new(alloc);

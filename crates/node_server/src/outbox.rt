@@ -2,11 +2,13 @@
 
 ghost use Rattle.std.specs.Prelude.{◌≡◌, ◌≤◌};
 ghost use Rattle.frame_queues.specs.Unsent.{restarted};
+ghost use Rattle.node_server.specs.Counts.{grown, lost_of, is_stuck};
 
 use frame_queues::{MOST_FRAMES, UnsentFrames};
 use link_frames::{FRAME_LEN, Frame};
 use mio::net::TcpStream;
 use mio::{Interest, Registry, Token};
+use operator_lines::PeerStanding;
 use quorum_sizes::NodeName;
 use std::alloc::Global;
 use std::io::ErrorKind;
@@ -52,10 +54,27 @@ struct Line {
     pause: u64,
     /// Since when the connection has taken no bytes, while frames wait; since ever, where a write has failed.
     full_since: Option<u64>,
+    /// How many frames of what is sent to this peer alone were put, and how many of all were lost.
+    again: u64,
+    lost: u64,
     ghost short: { pause ≤ 1000 },
 }
 
 impl Line {
+    /// Puts frames behind the others, of which the last so many go to this peer alone. What does not fit into 1,024
+    /// frames, or finds no memory, is lost.
+    fn put(&mut self, frames: &[Frame], alone: usize)
+        ensures lost { self.new.lost
+            ≡ grown self.old.lost (lost_of self.old.unsent.frames frames.now self.new.unsent.frames) }
+    {
+        let waited = MOST_FRAMES - self.unsent.room();
+        let _ = self.unsent.push(frames);
+        let wait = MOST_FRAMES - self.unsent.room();
+        let lost = (waited + frames.len()).saturating_sub(wait);
+        self.lost = self.lost.saturating_add(lost as u64);
+        self.again = self.again.saturating_add(alone.saturating_sub(lost) as u64);
+    }
+
     /// Writes until no frame waits, or the connection takes no more or has failed; without one frames wait.
     fn write(&mut self, now: u64) {
         for _ in 0..MOST_WRITES {
@@ -97,8 +116,33 @@ impl Line {
         self.unsent.restart();
     }
 
+    /// Looks what has come of the connection. Whether it is made now.
+    fn look(&mut self, now: u64) -> bool {
+        match mem::replace(&mut self.link, Link::Later(now)) {
+            Link::Later(time) => self.link = Link::Later(time),
+            Link::Begun(stream, end) => match is_made(&stream) {
+                Ok(true) => {
+                    self.link = Link::Open(stream, now);
+                    return true;
+                }
+                Ok(false) => self.link = Link::Begun(stream, end),
+                Err(_) => self.close(now),
+            },
+            Link::Open(stream, since) => {
+                let has_ended = self.is_stuck(now) || has_closed(&stream);
+                self.link = Link::Open(stream, since);
+                if has_ended {
+                    self.close(now);
+                }
+            }
+        }
+        false
+    }
+
     /// Whether the connection has taken no bytes for too long.
-    fn is_stuck(&self, now: u64) -> bool {
+    fn is_stuck(&self, now: u64) -> bool
+        ensures { result ≡ is_stuck self.now.full_since now }
+    {
         match self.full_since {
             Some(since) => now.saturating_sub(since) >= PATIENCE,
             None => false,
@@ -126,7 +170,22 @@ impl Outbox {
                 link: Link::Later(0),
                 pause: FIRST_PAUSE,
                 full_since: None,
+                again: 0,
+                lost: 0,
             }),
+        }
+    }
+
+    /// How the way to the peer stands; what is heard of it is left out.
+    pub fn standing<R: Wait>(&self, rt: &R) -> PeerStanding {
+        let line = self.line.lock(rt);
+        PeerStanding {
+            connected: matches!(line.link, Link::Open(_, _)),
+            heard: false,
+            waiting: (MOST_FRAMES - line.unsent.room()) as u32,
+            again: line.again,
+            lost: line.lost,
+            unopened: 0,
         }
     }
 
@@ -139,11 +198,11 @@ impl Outbox {
         }
     }
 
-    /// Puts frames behind the others, and writes as far as the connection takes them. What does not fit into 1,024
-    /// frames, or finds no memory, is lost.
-    pub fn send<R: Wait>(&self, rt: &R, now: u64, frames: &[Frame]) {
+    /// Puts frames behind the others, of which the last so many go to this peer alone, and writes as far as the
+    /// connection takes them. What does not fit into 1,024 frames, or finds no memory, is lost.
+    pub fn send<R: Wait>(&self, rt: &R, now: u64, frames: &[Frame], alone: usize) {
         let mut line = self.line.lock(rt);
-        let _ = line.unsent.push(frames);
+        line.put(frames, alone);
         if line.full_since.is_none() {
             line.write(now);
         }
@@ -167,32 +226,13 @@ impl Outbox {
         }
     }
 
-    /// Something may have come of the connection: it is made now, has ended, or takes bytes again. Whether it is made
-    /// now; then all that waits goes over it.
+    /// Something may have come of the connection: it is made now, has ended, or takes bytes again. What waits goes over
+    /// it. Whether it is made now.
     pub fn go_on<R: Wait>(&self, rt: &R, now: u64) -> bool {
         let mut line = self.line.lock(rt);
-        match mem::replace(&mut line.link, Link::Later(now)) {
-            Link::Later(time) => line.link = Link::Later(time),
-            Link::Begun(stream, end) => match is_made(&stream) {
-                Ok(true) => {
-                    line.link = Link::Open(stream, now);
-                    line.write(now);
-                    return true;
-                }
-                Ok(false) => line.link = Link::Begun(stream, end),
-                Err(_) => line.close(now),
-            },
-            Link::Open(stream, since) => {
-                let has_ended = line.is_stuck(now) || has_closed(&stream);
-                line.link = Link::Open(stream, since);
-                if has_ended {
-                    line.close(now);
-                } else {
-                    line.write(now);
-                }
-            }
-        }
-        false
+        let is_made = line.look(now);
+        line.write(now);
+        is_made
     }
 }
 

@@ -1,7 +1,12 @@
 //! The connections of peers: frames in.
 
+ghost use Rattle.std.specs.Prelude.{◌≡◌, IsTrue, IsFalse};
+ghost use Rattle.node_lock.specs.Inboxes.{after_put};
+ghost use Rattle.node_server.specs.Sent.{peer_job};
+
 use crate::behind::HeldNode;
 use crate::crew::REFUSED;
+use crate::heard::Heard;
 use crate::job_queue::JobQueue;
 use crate::server::{Server, millis};
 use frame_queues::{
@@ -79,6 +84,9 @@ pub struct Peers<'a, 'b, N: HeldNode, K: FrameKeys, R> {
     turns: Turns,
     /// By what lots are drawn.
     lot: u64,
+    /// What is heard of the peers, and whether others have to be told.
+    heard: Heard,
+    is_news: bool,
 }
 
 impl<'a, 'b, N: HeldNode, K: FrameKeys, R: Wait + Clock> Peers<'a, 'b, N, K, R> {
@@ -104,11 +112,13 @@ impl<'a, 'b, N: HeldNode, K: FrameKeys, R: Wait + Clock> Peers<'a, 'b, N, K, R> 
             ready: Vec::with_capacity(alloc, PLACES)?,
             turns: Turns::new(alloc, PLACES)?,
             lot: millis(server.rt),
+            heard: Heard::new(alloc, server.keys.sizes().n())?,
+            is_news: false,
         })
     }
 
     /// Until when to wait at most for what comes next. A connection on which no frame has opened in its time is closed,
-    /// and so is one of which a packet found no memory.
+    /// and so is one of which a packet found no memory. What is heard is told.
     pub fn wait_until(&mut self, now: u64) -> u64 {
         let mut wait = if self.ready.is_empty() { u64::MAX } else { now };
         for slot in 0..PLACES {
@@ -125,7 +135,18 @@ impl<'a, 'b, N: HeldNode, K: FrameKeys, R: Wait + Clock> Peers<'a, 'b, N, K, R> 
                 wait = wait.min(end);
             }
         }
+        self.tell_heard();
         wait
+    }
+
+    /// Tells what is heard of the peers, where that has changed.
+    fn tell_heard(&mut self) {
+        if self.is_news {
+            self.is_news = false;
+            self.heard.note_places(&self.places);
+            let mut heard = self.server.heard.lock(self.server.rt);
+            heard.take_over(&self.heard);
+        }
     }
 
     /// Notes that the connection of a place may have bytes, or has its end.
@@ -186,6 +207,7 @@ impl<'a, 'b, N: HeldNode, K: FrameKeys, R: Wait + Clock> Peers<'a, 'b, N, K, R> 
             self.places.get_mut(slot),
             self.connections.get_mut(slot),
         ) {
+            self.is_news |= place.is_some();
             *place = None;
             *room = None;
         }
@@ -193,7 +215,7 @@ impl<'a, 'b, N: HeldNode, K: FrameKeys, R: Wait + Clock> Peers<'a, 'b, N, K, R> 
 
     /// Reads of each connection that may have bytes, one block at most, and puts the frames of these blocks in turns, a
     /// few of each: so no connection's block is behind another's. Those that may have more stay ready.
-    pub fn read_ready(&mut self) {
+    pub fn read_ready(&mut self, now: u64) {
         for slot in &self.ready {
             if let Some(Some(connection)) = self.connections.get_mut(*slot) {
                 connection.read();
@@ -206,7 +228,7 @@ impl<'a, 'b, N: HeldNode, K: FrameKeys, R: Wait + Clock> Peers<'a, 'b, N, K, R> 
             let Some(turn) = self.turns.next() else {
                 break;
             };
-            put = put.saturating_add(self.put(turn));
+            put = put.saturating_add(self.put(turn, now));
             if put >= MOST_PUT {
                 put = 0;
                 self.server.ring();
@@ -231,7 +253,7 @@ impl<'a, 'b, N: HeldNode, K: FrameKeys, R: Wait + Clock> Peers<'a, 'b, N, K, R> 
 
     /// Puts the packets of some frames of a connection's block into the inbox. How many. A frame that does not open is
     /// lost, and the connection ends where it is the first.
-    fn put(&mut self, turn: Turn) -> usize {
+    fn put(&mut self, turn: Turn, now: u64) -> usize {
         let server = self.server;
         let (Ok(slot), Some(Some(connection))) = (
             u32::try_from(turn.block),
@@ -240,18 +262,27 @@ impl<'a, 'b, N: HeldNode, K: FrameKeys, R: Wait + Clock> Peers<'a, 'b, N, K, R> 
             return 0;
         };
         let mut opened = connection.opened;
-        let mut count = 0usize;
+        let (mut count, mut has_opened) = (0usize, false);
         for frame in connection.frames().get(turn.from..turn.to).unwrap_or(&[]) {
             if let Some(packet) = server.keys.open(frame) {
                 opened = opened.or(Some(server.keys.peer(&packet)));
-                put_packet(server, &mut self.queue, slot, packet);
-                count = count.saturating_add(1);
-            } else if opened.is_none() {
-                connection.came = Came::End;
-                break;
+                has_opened = true;
+                if put_packet(server, &mut self.queue, slot, packet) {
+                    count = count.saturating_add(1);
+                }
+            } else {
+                self.heard.note_unopened(opened);
+                self.is_news = true;
+                if opened.is_none() {
+                    connection.came = Came::End;
+                    break;
+                }
             }
         }
         connection.opened = opened;
+        if let (true, Some(name)) = (has_opened, opened) {
+            self.is_news |= self.heard.note_opened(name.index, now);
+        }
         count
     }
 
@@ -274,6 +305,7 @@ impl<'a, 'b, N: HeldNode, K: FrameKeys, R: Wait + Clock> Peers<'a, 'b, N, K, R> 
             self.close(slot);
         } else if let (None, Some(name)) = (place.name, connection.opened) {
             place.name = Some(name);
+            self.is_news = true;
             if let Some(third) = third_of(&self.places, name) {
                 self.close(third);
             }
@@ -283,19 +315,27 @@ impl<'a, 'b, N: HeldNode, K: FrameKeys, R: Wait + Clock> Peers<'a, 'b, N, K, R> 
 }
 
 /// Puts a packet into the inbox. Where that has no room this thread does jobs and tries again, up to the node's end.
+/// Whether it is put.
 fn put_packet<N: HeldNode, K: FrameKeys, R: Wait + Clock>(
     server: &Server<'_, N, K, R>,
     queue: &mut JobQueue<'_>,
     slot: u32,
     packet: Packet,
-) {
-    for _ in server.rt.forever() {
+) -> bool
+    ensures put { IsTrue result → queue.new.pass ≡ after_put queue.old.pass (peer_job slot packet) }
+    ensures same { IsFalse result → queue.new.pass ≡ queue.old.pass }
+{
+    for _turn in server.rt.forever() {
         let number = Caller::Peer { slot }.number();
         let call = Call::Step(Event::Take(packet));
-        if queue.put(server.rt, Job { number, call }).is_ok() || server.has_ended() {
-            return;
+        if queue.put(server.rt, Job { number, call }).is_ok() {
+            return true;
+        }
+        if server.has_ended() {
+            return false;
         }
         server.ring();
         thread::sleep(server.rt, Duration::from_millis(NEXT_PUT));
     }
+    unreachable!()
 }

@@ -32,7 +32,7 @@ const LONGEST_WAIT: u64 = 5_000;
 /// The milliseconds after which it looks again at the connections to peers.
 const NEXT_LOOK: u64 = 1_000;
 
-/// How many connections of each port are taken in a turn.
+/// How many connections of each port are taken in a turn. With fewer, who floods the port fills its queue.
 const MOST_NEWCOMERS: usize = 32;
 
 /// The milliseconds until a listener is asked again that has failed.
@@ -157,7 +157,7 @@ impl<'a, 'b, N: HeldNode, K: FrameKeys, R: Net + Wait + Clock> Ports<'a, 'b, N, 
         }
         let now = millis(server.rt);
         self.note_events(now);
-        self.peers.read_ready();
+        self.peers.read_ready(now);
         self.dial(now);
         if server.is_due(now) {
             server.ring();

@@ -5,14 +5,18 @@ ghost use Rattle.peer_windows.specs.Pauses.{most_time};
 
 use crate::behind::HeldNode;
 use crate::crew::Crew;
+use crate::heard::Heard;
 use crate::outbox::Outbox;
+use crate::owed::frames_to;
 use crate::said::Said;
 use crate::slot::Slot;
+use crate::tally::SyncTally;
+use crate::tickets::TicketLock;
 use frame_queues::FrameKeys;
 use link_frames::{Frame, Message, Place};
 use mio::Waker;
 use node_lock::{Call, Seat};
-use peer_windows::{MOST_TIME, Owed};
+use peer_windows::{MOST_TIME, Share};
 use quorum_sizes::NodeName;
 use role_node::Question;
 use std::alloc::Global;
@@ -25,8 +29,11 @@ pub struct Server<'a, N: HeldNode, K: FrameKeys, R> {
     pub rt: &'a R,
     pub alloc: Global,
     pub node: Mutex<N>,
-    /// The seat of those who only look.
+    /// The order in which threads get the node, where syncs take long.
+    pub turns: TicketLock,
+    /// The seat of those who only look, for which one of those waits at most whose answers may be long.
     pub view_seat: Mutex<Seat<N::Ledger>>,
+    pub listing: Mutex<()>,
     pub keys: K,
     pub crew: Mutex<Crew<'a, N>>,
     /// Threads wait here for jobs that are left to them.
@@ -39,6 +46,10 @@ pub struct Server<'a, N: HeldNode, K: FrameKeys, R> {
     pub waker: Waker,
     /// After so long a client that sends nothing is closed.
     pub idle: Duration,
+    /// Whether the lines of operators are answered; what they are told of syncs, and of what is heard of the peers.
+    pub operators: bool,
+    pub syncs: Mutex<SyncTally>,
+    pub heard: Mutex<Heard>,
 }
 
 impl<N: HeldNode, K: FrameKeys, R: Wait + Clock> Server<'_, N, K, R> {
@@ -76,9 +87,42 @@ impl<N: HeldNode, K: FrameKeys, R: Wait + Clock> Server<'_, N, K, R> {
         }
     }
 
+    /// Waits for this thread's turn at the node, where threads have it for as long as a sync takes, and that is long:
+    /// so who only looks waits for one sync at most. Whether it has a turn, which it ends then.
+    pub fn begin_turn(&self) -> bool {
+        let has_turn = N::may_sync_long() && self.syncs.lock(self.rt).are_long();
+        if has_turn {
+            self.turns.wait_for_turn(self.rt);
+        }
+        has_turn
+    }
+
+    /// Ends this thread's turn, if it has one.
+    pub fn end_turn(&self, has_turn: bool) {
+        if has_turn {
+            self.turns.end_turn(self.rt);
+        }
+    }
+
+    /// Has a question answered whose answer may be long. Who asks such waits for the others that do: so who looks for
+    /// something else waits for one of them at most.
+    pub fn list(&self, question: Question) -> Option<Said> {
+        let listing = self.listing.lock(self.rt);
+        let said = self.look(Some(question), self.keys.me(), 0);
+        drop(listing);
+        said
+    }
+
     /// Makes a hold of the seat of those who look: asks a question, if there is one, and looks at a place of the
     /// owner's stream. Nothing is said for want of memory, and where the seat does not fit the node.
     pub fn look(&self, question: Option<Question>, owner: NodeName, place: Place) -> Option<Said> {
+        let has_turn = self.begin_turn();
+        let said = self.look_now(question, owner, place);
+        self.end_turn(has_turn);
+        said
+    }
+
+    fn look_now(&self, question: Option<Question>, owner: NodeName, place: Place) -> Option<Said> {
         let call = question.map(|question| Call::Ask(question));
         let mut seat = self.view_seat.lock(self.rt);
         let mut node = self.node.lock(self.rt);
@@ -86,36 +130,24 @@ impl<N: HeldNode, K: FrameKeys, R: Wait + Clock> Server<'_, N, K, R> {
             return None;
         }
         let untold = node.hold(&mut seat, call, owner, place).ok()?;
-        node.sync().ok()?;
+        self.keep(&mut *node).ok()?;
         node.release(untold)
     }
 
-    /// Sends each other node the messages to all, and what it alone is owed. `frames` is room for them; what does not
-    /// fit is lost.
-    pub fn send(&self, messages: &[Message], owed: Option<&Owed>, frames: &mut Vec<Frame>) {
+    /// Sends each other node the messages to all, and behind them what it alone is owed: the messages of its shares.
+    /// `frames` is room for them; what finds no memory is lost.
+    pub fn send(
+        &self,
+        messages: &[Message],
+        shares: &[Share],
+        owed: &[Message],
+        frames: &mut Vec<Frame>,
+    ) {
         for outbox in &self.outboxes {
-            frames.clear();
-            self.seal(outbox.to, messages, frames);
-            let mut from = 0usize;
-            for share in owed.map(|owed| owed.shares()).unwrap_or(&[]) {
-                let end = from.saturating_add(share.count);
-                if share.peer == outbox.to {
-                    let own = owed.and_then(|owed| owed.messages().get(from..end));
-                    self.seal(outbox.to, own.unwrap_or(&[]), frames);
-                }
-                from = end;
-            }
+            let (alloc, keys, to) = (self.alloc, &self.keys, outbox.to);
+            let alone = frames_to(alloc, keys, to, messages, shares, owed, frames);
             if !frames.is_empty() {
-                outbox.send(self.rt, millis(self.rt), frames);
-            }
-        }
-    }
-
-    /// The frames of messages to a node, behind those that are there. One that finds no memory is lost.
-    fn seal(&self, to: NodeName, messages: &[Message], frames: &mut Vec<Frame>) {
-        for message in messages {
-            if let Some(frame) = self.keys.seal(to, message) {
-                let _ = frames.push(frame);
+                outbox.send(self.rt, millis(self.rt), frames, alone.unwrap_or(0));
             }
         }
     }

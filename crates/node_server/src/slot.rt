@@ -1,5 +1,8 @@
 //! Places for the clients' connections that are open at once.
 
+ghost use Rattle.std.specs.Prelude.{◌≡◌, ◌+◌, ◌-◌, ◌^◌, min, nat_le, slice_set, option_and_then, true, false, Some};
+ghost use Rattle.node_server.specs.Served.{served_said};
+
 use crate::job_queue::JobQueue;
 use crate::said::Said;
 use crate::told::Told;
@@ -19,6 +22,33 @@ pub struct Place<'a> {
     pub told: Told,
     /// The node has ended.
     ended: bool,
+}
+
+impl Place<'_> {
+    /// A job is done, and this was said to the line of this number. Whether all are done that are waited for.
+    fn tell(&mut self, line: u32, said: Option<Said>) -> bool
+        ensures told { self.new.told ≡ slice_set self.old.told line (option_and_then served_said said) }
+        ensures done { self.new.done ≡ min (self.old.done + 1) (2 ^ 32 - 1) }
+        ensures wanted { result ≡ nat_le self.old.wanted self.new.done }
+    {
+        self.told.tell(line, said);
+        self.done = self.done.saturating_add(1);
+        self.done >= self.wanted
+    }
+}
+
+impl<'a> Place<'a> {
+    /// The place is free once more, if so many jobs are done, all that were put: else one could meet the next
+    /// connection.
+    fn give_back(&mut self, queue: JobQueue<'a>, put: u32)
+        ensures back { nat_le put self.old.done ≡ true → self.new.queue ≡ Some queue.entry }
+        ensures kept { nat_le put self.old.done ≡ false → self.new.queue ≡ self.old.queue }
+    {
+        if self.done >= put {
+            self.queue = Some(queue);
+            self.done = 0;
+        }
+    }
 }
 
 /// A place for one client's connection at a time.
@@ -81,8 +111,8 @@ impl<'a> Slot<'a> {
     /// The place is free again once all jobs that were put are done, so that none of them meets the next connection.
     pub fn free<R: Wait>(&self, rt: &R, queue: JobQueue<'a>, put: u32) {
         self.place.lock(rt).stream = None;
-        if let Some(mut place) = self.wait(rt, put) {
-            place.queue = Some(queue);
+        if let Some(mut place) = self.wait_for(rt, put) {
+            place.give_back(queue, put);
         }
     }
 
@@ -94,6 +124,12 @@ impl<'a> Slot<'a> {
     /// Waits until all jobs that were put are done, so many. The place then, where none is done of those that are put
     /// next; `None` at the end.
     pub fn wait<R: Wait>(&self, rt: &R, put: u32) -> Option<MutexGuard<'_, Place<'a>>> {
+        let mut place = self.wait_for(rt, put)?;
+        place.done = 0;
+        Some(place)
+    }
+
+    fn wait_for<R: Wait>(&self, rt: &R, put: u32) -> Option<MutexGuard<'_, Place<'a>>> {
         let mut place = self.place.lock(rt);
         place.wanted = put;
         let mut place = self.done.wait_while(
@@ -105,16 +141,13 @@ impl<'a> Slot<'a> {
             return None;
         }
         place.wanted = u32::MAX;
-        place.done = 0;
         Some(place)
     }
 
     /// A job is done, and this was said to the line of this number.
     pub fn tell<R: Wait>(&self, rt: &R, line: u32, said: Option<Said>) {
         let mut place = self.place.lock(rt);
-        place.told.tell(line, said);
-        place.done = place.done.saturating_add(1);
-        if place.done >= place.wanted {
+        if place.tell(line, said) {
             self.done.notify_one();
         }
     }

@@ -1,43 +1,37 @@
 //! The workers, who make the calls of all jobs.
 
-ghost use Rattle.std.specs.Prelude.{◌≡◌, ◌≤◌, Some, IfSome};
+ghost use Rattle.std.specs.Prelude.{◌≡◌, ◌≤◌, Some, IfSome, OnOk};
+ghost use Rattle.node_lock.specs.Holds.{end_of};
 ghost use Rattle.node_lock.specs.Receipts.{outcome_due};
 ghost use Rattle.node_lock.specs.Views.{view_of, held_after_hold};
 ghost use Rattle.peer_windows.specs.Pauses.{most_time};
 
 use crate::behind::{HeldNode, NotKept};
-use crate::front::Front;
+use crate::front::{Done, Front};
 use crate::job_queue::JobQueue;
 use crate::said::Said;
 use crate::server::{Server, millis};
+use crate::tally::micros;
 use frame_queues::{Caller, FrameKeys};
 use link_frames::{Frame, Message, Packet};
 use node_lock::{Call, Seat};
-use peer_windows::Owed;
+use peer_windows::{NEVER, Owed};
 use quorum_sizes::NodeName;
 use role_node::Event;
 use std::alloc::{AllocError, Global};
+use std::mem;
 use std::sync::Wait;
 use std::time::Clock;
 
 /// The most jobs that a worker takes at once.
-const MOST_BATCH: usize = 192;
-
-/// A job whose call was made, and what the hold said; nothing for want of memory, and where the seat does not fit the
-/// node.
-#[derive(Drop)]
-struct Done<U> {
-    caller: Caller,
-    packet: Option<Packet>,
-    said: Option<U>,
-}
+pub const MOST_BATCH: usize = 192;
 
 /// A worker, with its seat and room for a batch of jobs.
 #[derive(Drop)]
 pub struct Worker<'a, N: HeldNode> {
     queue: JobQueue<'a>,
     seat: Seat<N::Ledger>,
-    /// Jobs whose calls were made, before what they recorded is kept; and those that are released.
+    /// Jobs that are released now, and those that are.
     untold: Vec<Done<N::Untold>>,
     told: Vec<Done<Said>>,
     messages: Vec<Message>,
@@ -73,24 +67,26 @@ impl<'a, N: HeldNode> Worker<'a, N> {
     }
 
     /// Makes the calls of what comes first and of jobs, each by one hold, until nothing is left or the batch is full,
-    /// and keeps what they recorded. Whether it is full.
+    /// and keeps what they recorded, unless nothing of it has to be told yet. Whether it is full.
     ///
     /// # Errors
     ///
     /// It could not be kept. Nothing is told.
-    fn take<R: Wait>(
+    fn take<K: FrameKeys, R: Wait + Clock>(
         &mut self,
-        rt: &R,
+        server: &Server<'_, N, K, R>,
         node: &mut N,
-        me: NodeName,
-        front: &mut Front,
+        front: &mut Front<N::Untold>,
         now: u64,
     ) -> Result<bool, NotKept>
         requires { now ≤ most_time }
     {
         for _ in 0..MOST_BATCH {
-            let is_full = self.make_calls(rt, node, me, front);
-            node.sync()?;
+            let is_full = self.make_calls(server.rt, node, server.keys.me(), front, now);
+            if !is_full && !tells_now(&*node, front, now) {
+                return Ok(false);
+            }
+            server.keep(node)?;
             self.release(node, front, now);
             // packets may wait for a stream that has grown
             if is_full || !front.has_grown() {
@@ -107,33 +103,41 @@ impl<'a, N: HeldNode> Worker<'a, N> {
         rt: &R,
         node: &mut N,
         me: NodeName,
-        front: &mut Front,
-    ) -> bool {
-        for _ in self.told.len()..MOST_BATCH {
+        front: &mut Front<N::Untold>,
+        now: u64,
+    ) -> bool
+        requires { now ≤ most_time }
+    {
+        for _ in self.told.len().saturating_add(front.untold.len())..MOST_BATCH {
             let Some(job) = front.next_job(rt, &mut self.queue) else {
                 return false;
             };
             let packet = taken_packet(&job.call);
             let said = call(node, &mut self.seat, job.call, me);
+            let caller = Caller::of(job.number);
+            let mut leaves = matches!(caller, Caller::Client { .. });
             if let Some(untold) = &said {
                 if let Some(own) = node.own_packet(me, untold) {
                     front.first.put_own(own);
+                    leaves = true;
                 }
             }
-            let caller = Caller::of(job.number);
-            let _ = self.untold.push(Done {
+            let done = Done {
                 caller,
                 packet,
                 said,
-            });
+            };
+            front.put_untold(done, leaves, now);
         }
         true
     }
 
     /// Hears what the calls said, and notes what comes of it.
-    fn release(&mut self, node: &mut N, front: &mut Front, now: u64)
+    fn release(&mut self, node: &mut N, front: &mut Front<N::Untold>, now: u64)
         requires { now ≤ most_time }
     {
+        mem::swap(&mut self.untold, &mut front.untold);
+        front.tell_by = NEVER;
         for done in self.untold.drain(..) {
             let Done {
                 caller,
@@ -166,27 +170,65 @@ impl<'a, N: HeldNode> Worker<'a, N> {
 impl<'a, N: HeldNode, K: FrameKeys, R: Wait + Clock> Server<'a, N, K, R> {
     /// Has a worker take jobs until nothing is left or its batch is full, and gather what is due to single peers, all
     /// under one lock. Whether there is more. Where what they recorded can't be kept the node ends.
-    pub fn take_jobs(&self, worker: &mut Worker<'a, N>, front: &mut Front) -> bool {
+    pub fn take_jobs(&self, worker: &mut Worker<'a, N>, front: &mut Front<N::Untold>) -> bool {
+        let has_turn = self.begin_turn();
+        let is_left = self.take_now(worker, front);
+        self.end_turn(has_turn);
+        is_left
+    }
+
+    fn take_now(&self, worker: &mut Worker<'a, N>, front: &mut Front<N::Untold>) -> bool {
         let now = millis(self.rt);
         let mut node = self.node.lock(self.rt);
-        match worker.take(self.rt, &mut *node, self.keys.me(), front, now) {
+        match worker.take(self, &mut *node, front, now) {
             Ok(is_full) => {
                 let (seat, owed) = (&mut worker.seat, &mut worker.owed);
-                front.gather(self.rt, &self.outboxes, &mut *node, seat, now, owed);
+                front.gather(
+                    self.rt,
+                    self.alloc,
+                    &self.outboxes,
+                    &mut *node,
+                    seat,
+                    now,
+                    owed,
+                );
                 is_full || front.owes_itself()
             }
             Err(NotKept) => {
                 drop(node);
-                worker.untold.clear();
+                front.untold.clear();
                 self.fail();
                 false
             }
         }
     }
 
+    /// Keeps what was recorded. How long that takes is noted where it may be long, if there is anything to be kept.
+    ///
+    /// # Errors
+    ///
+    /// It could not be kept.
+    pub fn keep(&self, node: &mut N) -> Result<(), NotKept>
+        ensures kept { OnOk result
+            ((u : N.Untold) → (N.said u).view.at ≤ end_of (N.held node.new) → N.may_leave node.new u) }
+        ensures same { N.held node.new ≡ N.held node.old }
+    {
+        if !N::may_sync_long() || node.kept().is_some() {
+            return node.sync();
+        }
+        let began = micros(self.rt);
+        let kept = node.sync();
+        if let (Some(began), Some(ended)) = (began, micros(self.rt)) {
+            let mut tally = self.syncs.lock(self.rt);
+            tally.note(ended.saturating_sub(began));
+        }
+        kept
+    }
+
     /// Sends what a worker's calls have the node send, and tells the clients what was said to their lines.
     pub fn send_and_tell(&self, worker: &mut Worker<'a, N>) {
-        self.send(&worker.messages, Some(&worker.owed), &mut worker.frames);
+        let (shares, owed) = (worker.owed.shares(), worker.owed.messages());
+        self.send(&worker.messages, shares, owed, &mut worker.frames);
         worker.messages.clear();
         worker.owed.clear();
         for done in worker.told.drain(..) {
@@ -206,6 +248,11 @@ impl<'a, N: HeldNode, K: FrameKeys, R: Wait + Clock> Server<'a, N, K, R> {
             }
         }
     }
+}
+
+/// Whether what is untold is kept and told now: where that takes no time, or it is time.
+fn tells_now<N: HeldNode>(node: &N, front: &Front<N::Untold>, now: u64) -> bool {
+    !N::may_sync_long() || node.kept().is_some() || front.tells_now(now)
 }
 
 /// The packet that a call has the node take.

@@ -5,7 +5,7 @@ use Rattle.std.specs.Prelude.{◌==◌, IsSome, is_some}
 use Rattle.std.proofs.lemmas.Bool.{cases_eq}
 use Rattle.std.proofs.lemmas.Bool.Decides.{nat_tests}
 use Rattle.quorum_sizes.specs.Sizes.{Counts}
-use Rattle.link_frames.specs.Packets.{PacketValue}
+use Rattle.link_frames.specs.frames.Packets.{PacketValue}
 use Rattle.bracha_instance.proofs.Exported.{delivery_stays}
 use Rattle.bracha_instance.specs.Broadcast.{Take, delivered}
 use Rattle.bracha_instance.specs.States.{State, state}

@@ -6,7 +6,7 @@ use Rattle.std.proofs.lemmas.Bool.{cases_lt}
 use Rattle.std.proofs.lemmas.Bool.Decides.{nat_tests}
 use Rattle.quorum_sizes.specs.Sizes.{Counts}
 use Rattle.role_commands.proofs.Exported.{same_Ok}
-use Rattle.link_frames.specs.Packets.{PacketValue, SentByOwner}
+use Rattle.link_frames.specs.frames.Packets.{PacketValue, SentByOwner}
 use Rattle.bracha_instance.proofs.Exported.{voted_at}
 use Rattle.bracha_instance.specs.Broadcast.{Take, vote}
 use Rattle.bracha_instance.specs.States.{State, state}

@@ -10,7 +10,7 @@ use Rattle.std.proofs.lemmas.List.{map-set, set-get_or, get_or-set_same, get_or-
 use Rattle.std.proofs.lemmas.Option.{slice_get-map, unwrap_or-slice_get, slice_get_within}
 use Rattle.std.proofs.lemmas.Option.{get_or_from_slice_get, slice_get-get_or, slice_get_read}
 use Rattle.quorum_sizes.specs.Sizes.{Counts}
-use Rattle.link_frames.specs.Packets.{PacketValue}
+use Rattle.link_frames.specs.frames.Packets.{PacketValue}
 use Rattle.bracha_instance.specs.States.{state}
 use Rattle.owner_streams.specs.Places.{window, takes_at}
 use Rattle.owner_streams.specs.Values.{StreamsValue, state_at, IsStateOf}

@@ -5,8 +5,8 @@ use Rattle.std.specs.Prelude.{◌==◌, All}
 use Rattle.std.proofs.lemmas.Bool.Decides.{nat_tests}
 use Rattle.std.proofs.lemmas.List.Elements.{All-nil, All-cons, All-head, All-tail, All-append}
 use Rattle.std.specs.List.{filter_map, cons_option}
-use Rattle.link_frames.specs.declared.kind.Kind.TheVariants.{Send}
-use Rattle.link_frames.specs.Packets.{PacketValue, SentByOwner}
+use Rattle.link_frames.specs.declared.frames.kind.Kind.TheVariants.{Send}
+use Rattle.link_frames.specs.frames.Packets.{PacketValue, SentByOwner}
 use Rattle.bracha_instance.specs.Broadcast.{Take}
 use Rattle.bracha_instance.specs.Taking.{SendsAreFrom}
 use Rattle.owner_streams.specs.Places.{take_of, take_at, takes_at}

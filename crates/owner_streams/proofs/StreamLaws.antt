@@ -1,7 +1,7 @@
 -- The laws of streams.
 use Rattle.std.proofs.Common.{◌≡◌, ℕ, ◌+◌, ◌≤◌, List, ◌++◌, Option, None, sym, ap, ◌∙◌, arith}
 use Rattle.quorum_sizes.specs.Sizes.{Counts}
-use Rattle.link_frames.specs.Packets.{PacketValue}
+use Rattle.link_frames.specs.frames.Packets.{PacketValue}
 use Rattle.bracha_instance.proofs.Exported.{delivery_stays}
 use Rattle.bracha_instance.specs.Broadcast.{delivered}
 use Rattle.owner_streams.specs.Places.{takes_at, delivered_at, places_end, stream}

@@ -6,7 +6,7 @@ use Rattle.std.specs.List.{filter_map, cons_option}
 use Rattle.std.proofs.lemmas.List.Elements.{filter_map-append}
 use Rattle.std.proofs.lemmas.Bool.Decides.{nat_tests}
 use Rattle.quorum_sizes.specs.Sizes.{Counts}
-use Rattle.link_frames.specs.Packets.{PacketValue}
+use Rattle.link_frames.specs.frames.Packets.{PacketValue}
 use Rattle.bracha_instance.specs.Prefixes.{at_first_prefix}
 use Rattle.bracha_instance.specs.Broadcast.{delivered, echoed, readied}
 use Rattle.owner_streams.specs.Places.{take_of, take_at, takes_at, places_end}

@@ -8,7 +8,7 @@ use Rattle.std.proofs.lemmas.List.Elements.{All-same, All-replicate, All-set, Al
 use Rattle.std.proofs.lemmas.Nat.{mul-add-lt, same_from_place}
 use Rattle.std.proofs.lemmas.Option.{slice_get_read, get_or_from_slice_get}
 use Rattle.quorum_sizes.specs.Sizes.{Counts}
-use Rattle.link_frames.specs.Packets.{PacketValue, place_count}
+use Rattle.link_frames.specs.frames.Packets.{PacketValue, place_count}
 use Rattle.owner_streams.specs.LastVotes.{vote_place, last_vote}
 use Rattle.owner_streams.specs.Values.{StreamsValue, IsStateOf}
 use Rattle.owner_streams.specs.inside.VoteEnds.{voted_to, end_at, AreEndsOf}

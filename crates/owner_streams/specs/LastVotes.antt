@@ -2,9 +2,9 @@
 use Rattle.std.specs.Prelude.{ℕ, ◌==◌, ◌&&◌, not, max, if◌then◌else◌, List, [], ◌∷◌, Option, Some, None}
 use Rattle.std.specs.List.{filter_map}
 use Rattle.std.specs.Option.{option_map_or}
-use Rattle.link_frames.specs.Kinds.{same_kind}
-use Rattle.link_frames.specs.Packets.{PacketValue}
-use Rattle.link_frames.specs.declared.kind.Kind.TheVariants.{Send}
+use Rattle.link_frames.specs.frames.Kinds.{same_kind}
+use Rattle.link_frames.specs.frames.Packets.{PacketValue}
+use Rattle.link_frames.specs.declared.frames.kind.Kind.TheVariants.{Send}
 
 -- the place of the packet, where it is a vote, an ECHO or a READY, of this node about the owner's stream
 abbrev pub vote_place : ℕ → ℕ → PacketValue → Option ℕ

@@ -2,7 +2,7 @@
 use Rattle.std.specs.Prelude.{◌≡◌, ℕ, List, ◌++◌, Some}
 use Rattle.quorum_sizes.specs.Sizes.{Counts}
 use Rattle.role_commands.specs.declared.command.Command.{Command}
-use Rattle.link_frames.specs.Packets.{PacketValue}
+use Rattle.link_frames.specs.frames.Packets.{PacketValue}
 use Rattle.owner_streams.specs.Places.{delivered_at, stream, IsStream}
 
 abbrev pub IsPrefixOf : List Command → List Command → Type 0

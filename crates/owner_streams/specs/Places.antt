@@ -4,9 +4,9 @@ use Rattle.std.specs.Prelude.{List, [], ◌∷◌, length, slice_get, Option, So
 use Rattle.std.specs.List.{filter_map}
 use Rattle.quorum_sizes.specs.Sizes.{Counts}
 use Rattle.role_commands.specs.declared.command.Command.{Command}
-use Rattle.link_frames.specs.Packets.{PacketValue}
+use Rattle.link_frames.specs.frames.Packets.{PacketValue}
 use Rattle.bracha_instance.specs.Broadcast.{Take, delivered}
-pub use Rattle.link_frames.specs.Packets.{place_count}
+pub use Rattle.link_frames.specs.frames.Packets.{place_count}
 
 -- so many places from the end of the stream on are open
 abbrev pub window : ℕ

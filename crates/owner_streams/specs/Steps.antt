@@ -3,7 +3,7 @@ use Rattle.std.specs.Prelude.{◌≡◌, ℕ, ◌+◌, nat_le, if◌then◌else�
 use Rattle.std.specs.Prelude.{◌∷◌, ◌++◌, All, IsOkAnd, codes, Result, Ok, Err}
 use Rattle.std.specs.Fmt.{decimal}
 use Rattle.quorum_sizes.specs.Sizes.{Counts}
-use Rattle.link_frames.specs.Packets.{PacketValue, SentByOwner}
+use Rattle.link_frames.specs.frames.Packets.{PacketValue, SentByOwner}
 use Rattle.bracha_instance.specs.Broadcast.{echoed, readied}
 use Rattle.bracha_instance.specs.Taking.{effect_of, newly_sent, newly_delivered}
 use Rattle.bracha_instance.specs.declared.instance.Effect.{Effect}

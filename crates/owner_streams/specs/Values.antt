@@ -5,7 +5,7 @@ use Rattle.std.specs.Ordering.{nat_cmp}
 use Rattle.std.specs.FinMap as maps
 use Rattle.quorum_sizes.specs.Sizes.{Counts}
 use Rattle.quorum_sizes.specs.contracts.sizes.Sizes as sizes
-use Rattle.link_frames.specs.Packets.{PacketValue}
+use Rattle.link_frames.specs.frames.Packets.{PacketValue}
 use Rattle.bracha_instance.specs.States.{State, state}
 use Rattle.bracha_instance.specs.contracts.instance.Instance as instance
 use Rattle.bracha_instance.specs.declared.instance.Effect.TheVariants.{Counted}

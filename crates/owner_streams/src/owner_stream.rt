@@ -5,7 +5,7 @@ ghost use Rattle.std.specs.Prelude.{length, max, IsSome, IfOk, OnOk, OnErr, is_s
 ghost use Rattle.std.specs.Prelude.{slice_set, vec_len, vec_capacity, Some, None, IfSome, Ok};
 ghost use Rattle.std.specs.Option.{option_copied};
 ghost use Rattle.quorum_sizes.specs.Sizes.{Counts};
-ghost use Rattle.link_frames.specs.Packets.{PacketValue};
+ghost use Rattle.link_frames.specs.frames.Packets.{PacketValue};
 ghost use Rattle.bracha_instance.specs.Broadcast.{Take, vote};
 ghost use Rattle.bracha_instance.specs.Taking.{SendsAreFrom};
 ghost use Rattle.bracha_instance.specs.States.{state};

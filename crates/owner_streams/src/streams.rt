@@ -2,7 +2,7 @@
 
 ghost use Rattle.std.specs.Prelude.{◌≡◌, ◌≢◌, ℕ, ◌+◌, ◌<◌, ◌≤◌, List, [], ◌∷◌, ◌++◌, Ok, IfOk, OnOk, OnErr};
 ghost use Rattle.std.specs.Prelude.{slice_get, IfSome};
-ghost use Rattle.link_frames.specs.Packets.{PacketValue};
+ghost use Rattle.link_frames.specs.frames.Packets.{PacketValue};
 ghost use Rattle.bracha_instance.specs.declared.instance.Effect.TheVariants.{Idle, Counted};
 ghost use Rattle.owner_streams.specs.Places.{place_count, window, stream, reach as reach_of};
 ghost use Rattle.owner_streams.specs.LastVotes.{last_vote as last_vote_of};

@@ -1,7 +1,7 @@
 //! How far each node has voted in each owner's stream.
 
 ghost use Rattle.std.specs.Prelude.{◌≡◌, ◌<◌, ◌≤◌, ◌+◌, ◌*◌, List, [], ◌∷◌, ◌++◌, length, IfOk, IfSome};
-ghost use Rattle.link_frames.specs.Packets.{PacketValue, place_count};
+ghost use Rattle.link_frames.specs.frames.Packets.{PacketValue, place_count};
 ghost use Rattle.owner_streams.specs.LastVotes.{vote_place, last_vote};
 ghost use Rattle.owner_streams.specs.inside.VoteEnds.{voted_to, AreEndsOf};
 

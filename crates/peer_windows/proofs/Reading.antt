@@ -6,7 +6,7 @@ use Rattle.std.specs.List.{flat_map, range_with_len}
 use Rattle.std.proofs.lemmas.Grind.{flat_map-append}
 use Rattle.std.proofs.lemmas.List.{length-take, take-take, take_at}
 use Rattle.role_commands.specs.declared.command.Command.{Command}
-use Rattle.link_frames.specs.declared.packet.Message.{Message}
+use Rattle.link_frames.specs.declared.frames.packet.Message.{Message}
 use Rattle.role_node.specs.Windows.{messages_of}
 use Rattle.role_node.specs.declared.event.NodeAgain.{NodeAgain}
 use Rattle.node_lock.specs.Holds.{Held, Fits, IsMisfit, count_of, seat_after_question, end_of}

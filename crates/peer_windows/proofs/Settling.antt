@@ -5,7 +5,7 @@ use Rattle.std.specs.Prelude.{◌==◌, ◌&&◌, Option, Some, None}
 use Rattle.std.specs.List.{flat_map, list_all, range_with_len}
 use Rattle.std.proofs.lemmas.Bool.Decides.{nat_tests}
 use Rattle.role_commands.specs.declared.command.Command.{Command}
-use Rattle.link_frames.specs.declared.packet.Message.{Message}
+use Rattle.link_frames.specs.declared.frames.packet.Message.{Message}
 use Rattle.owner_streams.specs.Places.{window}
 use Rattle.role_node.specs.Windows.{messages_of, is_nothing, has_nothing_open}
 use Rattle.role_node.specs.declared.event.NodeAgain.{NodeAgain}

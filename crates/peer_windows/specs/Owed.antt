@@ -1,7 +1,7 @@
 -- Messages that go to single peers.
 use Rattle.std.specs.Prelude.{◌≡◌, ℕ, Bool, ◌||◌, nat_le, List, [], ◌∷◌, ◌++◌, length, All}
 use Rattle.std.specs.List.{flat_map}
-use Rattle.link_frames.specs.declared.packet.Message.{Message}
+use Rattle.link_frames.specs.declared.frames.packet.Message.{Message}
 use Rattle.node_lock.specs.Holds.{Held}
 use Rattle.peer_windows.specs.Sent.{probe_of, tail_of, window_of, rest_of}
 use Rattle.peer_windows.specs.declared.seen.Step.{Step}

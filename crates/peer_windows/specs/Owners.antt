@@ -1,9 +1,9 @@
 -- The pairs of owners and peers, and when they are looked at.
-use Rattle.std.specs.Prelude.{◌≡◌, ℕ, ◌+◌, ◌<◌, ◌≤◌, Bool, not, ◌&&◌, nat_le, nat_lt, length, if◌then◌else◌}
-use Rattle.std.specs.Prelude.{is_some, List, [], ◌∷◌, ◌++◌, min}
+use Rattle.std.specs.Prelude.{ℕ, ◌+◌, Bool, not, ◌&&◌, nat_le, nat_lt, length, if◌then◌else◌}
+use Rattle.std.specs.Prelude.{is_some, List, [], ◌∷◌, ◌++◌, ◌-◌, min, max}
 use Rattle.std.specs.Prelude.{slice_index_or, slice_set}
-use Rattle.peer_windows.specs.Pauses.{first_pause, never}
-use Rattle.peer_windows.specs.Pairs.{is_nothing, new_pair, anew}
+use Rattle.peer_windows.specs.Pauses.{first_pause, never, probe_interval}
+use Rattle.peer_windows.specs.Pairs.{is_nothing, new_pair, anew, joined}
 use Rattle.peer_windows.specs.declared.pair.Pair.{Pair}
 
 -- the pair of a peer, among those of an owner
@@ -53,12 +53,10 @@ abbrev pub begun_at : ℕ → ℕ → ℕ → PairsValue → PairsValue
 begun_at now owner peer a =
     due_by (with_pair_at a owner peer (anew now a.longest (pair_at a owner peer))) owner (now + first_pause)
 
--- all pairs of a peer have begun anew, and are looked at after the first pause
-pub record IsBegun (now peer : ℕ) (old new : PairsValue) : Type 0 where
-  pub begun : (owner : ℕ) → owner < length old.pairs → peer < length (pairs_of old owner) →
-      pair_at new owner peer ≡ anew now old.longest (pair_at old owner peer)
-  pub due : (owner : ℕ) → owner < length old.pairs → owner < length old.dues →
-      slice_index_or new.dues owner never ≤ now + first_pause
+-- the pair of an owner and a peer begins anew with a new connection, and the owner's pairs are looked at now
+abbrev pub joined_at : ℕ → ℕ → ℕ → PairsValue → PairsValue
+joined_at now owner peer a =
+    due_by (with_pair_at a owner peer (joined now a.longest (pair_at a owner peer))) owner now
 
 -- something of the owner's stream has grown
 abbrev pub grown : PairsValue → ℕ → ℕ → PairsValue
@@ -73,6 +71,12 @@ owed_now now owner peer a = if owes (pair_at a owner peer) then due_by a owner n
 abbrev pub is_still : ℕ → ℕ → PairsValue → Bool
 is_still now owner a =
     nat_lt owner (length a.moved) && nat_le (slice_index_or a.moved owner 0 + first_pause) now
+
+-- a peer to which there is a new connection is probed soon, but only so long after the last probe
+abbrev pub probed_soon : ℕ → ℕ → PairsValue → PairsValue
+probed_soon now peer a =
+    let due = slice_index_or a.probes peer never in
+    record a { probes = slice_set a.probes peer (min due (max (due - (probe_interval - 10000)) (now + 500))) }
 
 -- the least of times
 abbrev pub least : List ℕ → ℕ

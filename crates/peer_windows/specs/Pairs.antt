@@ -38,6 +38,7 @@ new_pair = record {
   seen = record { reach = 0; voted = 0; outstanding = 0 };
   look = asleep;
   tailed = false;
+  over_new = false;
   silent = false;
   served = None;
   served_until = 0;
@@ -55,13 +56,22 @@ new_pair = record {
 abbrev pub anew : ℕ → ℕ → Pair → Pair
 anew now longest pair = record pair { look = begun now longest (renewed pair.look); tailed = false }
 
+-- there is a new connection to the peer: it begins anew and is looked at now, whatever goes on
+abbrev pub joined : ℕ → ℕ → Pair → Pair
+joined now longest pair =
+    let begun = anew now longest pair in record begun { look = ended_by now begun.look; over_new = true }
+
+-- the pair goes on by itself, and something may have gone over the connection
+abbrev pub is_left : Seen → Pair → Bool
+is_left seen pair = goes_on pair.seen seen && not pair.over_new
+
 -- what a look at a pair that is not settled and doesn't go on brings: first the tail, then the window
 abbrev pub insisting : Pair → Step
 insisting pair = if pair.tailed then Window else Tail
 
 -- what a look brings
 abbrev pub step_due : Seen → Pair → Step
-step_due seen pair = if goes_on pair.seen seen || seems_settled seen then Nothing else insisting pair
+step_due seen pair = if is_left seen pair || seems_settled seen then Nothing else insisting pair
 
 -- this is sent at the next look, whatever is seen then
 abbrev pub owing : Step → Pair → Pair
@@ -81,10 +91,11 @@ insisted now longest has_voted pair =
 -- The pair after a look: it begins anew where it goes on, sleeps where it is settled, and else waits longer.
 abbrev pub looked : ℕ → ℕ → Seen → Pair → Pair
 looked now longest seen pair =
-    if goes_on pair.seen seen then anew now longest (record pair { seen = seen; silent = false })
-    else (if seems_settled seen then record pair { seen = seen; silent = false; tailed = false; look = asleep }
+    if is_left seen pair then anew now longest (record pair { seen = seen; silent = false })
+    else (if seems_settled seen
+    then record pair { seen = seen; silent = false; tailed = false; over_new = false; look = asleep }
     else insisted now longest (nat_lt pair.seen.voted seen.voted)
-    (record pair { seen = seen; silent = is_silent pair.seen seen }))
+    (record pair { seen = seen; silent = is_silent pair.seen seen; over_new = false }))
 
 -- something is owed, or it is time for a look
 abbrev pub is_due : ℕ → Pair → Bool

@@ -1,6 +1,6 @@
 -- What a node sends again, read from what is behind its lock.
 use Rattle.std.specs.Prelude.{◌≡◌, ℕ, ◌-◌, ◌==◌, max, Bool, if◌then◌else◌, List, [], ◌++◌, length, None}
-use Rattle.link_frames.specs.declared.packet.Message.{Message}
+use Rattle.link_frames.specs.declared.frames.packet.Message.{Message}
 use Rattle.owner_streams.specs.Places.{window}
 use Rattle.role_node.specs.Access.{reach_at, sent_at}
 use Rattle.role_node.specs.Windows.{last_vote_at, voted_to, window_from, window_to}

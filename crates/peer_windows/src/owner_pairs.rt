@@ -2,7 +2,7 @@
 
 ghost use Rattle.std.specs.Prelude.{◌≡◌, ◌≤◌, replicate, IfOk, IsSome, slice_get};
 ghost use Rattle.peer_windows.specs.Pauses.{most_pause, most_time};
-ghost use Rattle.peer_windows.specs.Pairs.{new_pair, anew, attended, attended_step, owing};
+ghost use Rattle.peer_windows.specs.Pairs.{new_pair, anew, joined, attended, attended_step, owing};
 ghost use Rattle.peer_windows.specs.Answers.{heard, moved_on, passed, voted_on, served};
 ghost use Rattle.peer_windows.specs.Owners.{pair_in, with_pair, is_served, owes};
 
@@ -53,6 +53,17 @@ impl OwnerPairs {
     {
         if peer < self.pairs.len() {
             self.pairs[peer].begin_anew(now, longest);
+        }
+    }
+
+    /// There is a new connection to the peer.
+    pub(crate) fn join(&mut self, peer: usize, now: u64, longest: u32)
+        requires time { now ≤ most_time }
+        requires longest { longest ≤ most_pause }
+        ensures { self.new ≡ with_pair self.old peer (joined now longest (pair_in self.old peer)) }
+    {
+        if peer < self.pairs.len() {
+            self.pairs[peer].join(now, longest);
         }
     }
 

@@ -2,8 +2,8 @@
 
 ghost use Rattle.std.specs.Prelude.{◌≡◌, ◌≤◌};
 ghost use Rattle.peer_windows.specs.Pauses.{most_pause, most_time};
-ghost use Rattle.peer_windows.specs.Pairs.{new_pair, anew, is_due, attended, attended_step, looked, step_due};
-ghost use Rattle.peer_windows.specs.Pairs.{insisted, insisting, owing, holding_answers};
+ghost use Rattle.peer_windows.specs.Pairs.{new_pair, anew, joined, is_due, attended, attended_step, looked};
+ghost use Rattle.peer_windows.specs.Pairs.{step_due, insisted, insisting, owing, holding_answers};
 
 use crate::pause::{FIRST_PAUSE, NEVER, Pause};
 use crate::seen::{Level, Seen, Step};
@@ -27,6 +27,8 @@ pub(crate) struct Pair {
     pub look: Pause,
     /// The tail was sent at a look, so the window is next.
     pub tailed: bool,
+    /// The connection is new: the pair hasn't been looked at over it.
+    pub over_new: bool,
     /// The peer was behind at the last look, and had not voted since the one before.
     pub silent: bool,
     /// The last window that was sent, while the peer was behind.
@@ -64,6 +66,7 @@ impl Pair {
             },
             look,
             tailed: false,
+            over_new: false,
             silent: false,
             served: None,
             served_until: 0,
@@ -87,6 +90,18 @@ impl Pair {
         self.look.renew();
         self.look.begin(now, longest);
         self.tailed = false;
+    }
+
+    /// There is a new connection to the peer: it begins anew, and is looked at now. Where it is not settled the tail is
+    /// sent then, though something has grown: what went over the last connection may be lost.
+    pub(crate) fn join(&mut self, now: u64, longest: u32)
+        requires time { now ≤ most_time }
+        requires longest { longest ≤ most_pause }
+        ensures { self.new ≡ joined now longest self.old }
+    {
+        self.begin_anew(now, longest);
+        self.look.end_by(now);
+        self.over_new = true;
     }
 
     /// Whether something is owed, or it is time for a look.
@@ -131,11 +146,12 @@ impl Pair {
         let silent = old.voted == seen.voted && seen.voted < old.reach;
         let held_up = old.outstanding > 0 && seen.outstanding > 0 && old.reach == seen.reach;
         self.seen = seen;
-        if !silent && !held_up && old != seen {
+        if !silent && !held_up && old != seen && !self.over_new {
             self.silent = false;
             self.begin_anew(now, longest);
             return Step::Nothing;
         }
+        self.over_new = false;
         if seen.is_settled() {
             self.silent = false;
             self.tailed = false;

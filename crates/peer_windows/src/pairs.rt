@@ -4,8 +4,8 @@ ghost use Rattle.std.specs.Prelude.{◌≡◌, ◌≤◌, true, false};
 ghost use Rattle.quorum_sizes.specs.Sizes.{most_nodes};
 ghost use Rattle.peer_windows.specs.Pauses.{most_time, most_pause, longest_look as longest_look_of};
 ghost use Rattle.peer_windows.specs.Answers.{heard, moved_on, passed, voted_on};
-ghost use Rattle.peer_windows.specs.Owners.{with_pair_at, pair_at, begun_at, grown, due_by, owed_now};
-ghost use Rattle.peer_windows.specs.Owners.{next_due, least as least_of, is_served, is_still};
+ghost use Rattle.peer_windows.specs.Owners.{with_pair_at, pair_at, begun_at, joined_at, grown, due_by, owed_now};
+ghost use Rattle.peer_windows.specs.Owners.{next_due, least as least_of, is_served, is_still, probed_soon};
 
 use crate::answers::Repeat;
 use crate::owner_pairs::OwnerPairs;
@@ -17,6 +17,11 @@ use std::marker::Model;
 
 /// How often a peer is probed, in milliseconds.
 pub(crate) const PROBE_INTERVAL: u64 = 60_000;
+
+/// The milliseconds until the first probe over a new connection, and from the last probe to that at least.
+const FIRST_PROBE: u64 = 500;
+
+const PROBE_PAUSE: u64 = 10_000;
 
 /// The pairs of all owners and peers of a node, and when something is due.
 #[derive(Drop)]
@@ -81,7 +86,9 @@ impl Pairs {
             probes: first_probes(alloc, nodes, me, now)?,
             turn: 0,
         };
-        made.connected(now, me);
+        for owner in 0..made.pairs.len() {
+            made.begin(owner, usize::from(me.index()), now);
+        }
         Ok(made)
     }
 
@@ -93,12 +100,27 @@ impl Pairs {
         least(&self.dues).min(least(&self.probes))
     }
 
-    /// There is a new connection to the peer: all its pairs begin anew.
+    /// There is a new connection to the peer: all its pairs begin anew and are looked at now, and it is probed soon, so
+    /// that it hears of this node though it may lack nothing.
     pub fn connected(&mut self, now: u64, peer: NodeName)
         requires { now ≤ most_time }
     {
+        let peer = usize::from(peer.index());
         for owner in 0..self.pairs.len() {
-            self.begin(owner, usize::from(peer.index()), now);
+            self.join(owner, peer, now);
+        }
+        self.probe_soon(peer, now);
+    }
+
+    /// The peer is probed once its settled pairs sleep, but not at once after the last probe.
+    fn probe_soon(&mut self, peer: usize, now: u64)
+        requires { now ≤ most_time }
+        ensures { self.new ≡ probed_soon now peer self.old }
+    {
+        if peer < self.probes.len() {
+            let due = self.probes[peer];
+            let soonest = due.saturating_sub(PROBE_INTERVAL - PROBE_PAUSE);
+            self.probes[peer] = due.min(soonest.max(now + FIRST_PROBE));
         }
     }
 
@@ -111,6 +133,17 @@ impl Pairs {
             self.pairs[owner].begin_anew(peer, now, self.longest);
         }
         self.look_by(owner, now + u64::from(FIRST_PAUSE));
+    }
+
+    /// There is a new connection, so the pair of an owner and a peer begins anew, and is looked at now.
+    fn join(&mut self, owner: usize, peer: usize, now: u64)
+        requires { now ≤ most_time }
+        ensures { self.new ≡ joined_at now owner peer self.old }
+    {
+        if owner < self.pairs.len() {
+            self.pairs[owner].join(peer, now, self.longest);
+        }
+        self.look_by(owner, now);
     }
 
     /// Something of the owner's stream has grown: its reach, what this node has sent in it, or how far a peer has

@@ -7,6 +7,6 @@ pub use Rattle.rbac_state.proofs.PolicyLaws.{blank_is_of_no_commands, applied_is
 pub use Rattle.rbac_state.proofs.PolicyLaws.{same_is_of_the_same}
 pub use Rattle.rbac_state.proofs.OneListing.{one_list}
 pub use Rattle.rbac_state.proofs.ListingLemmas.{listing_of}
-pub use Rattle.rbac_state.proofs.Members.{contains_head, contains_cases, contains_none, in_filter}
-pub use Rattle.rbac_state.proofs.Members.{into_filter, filter_none}
+pub use Rattle.sorted_pairs.proofs.Members.{contains_head, contains_cases, contains_none, in_filter}
+pub use Rattle.sorted_pairs.proofs.Members.{into_filter, filter_none}
 pub use Rattle.rbac_state.proofs.PairLemmas.{permissions_total}

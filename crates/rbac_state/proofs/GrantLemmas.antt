@@ -9,11 +9,11 @@ use Rattle.std.specs.Ordering.{eq_by_cmp, is_eq, nat_cmp, ordering_then}
 use Rattle.std.proofs.lemmas.Bool.{cases_lt}
 use Rattle.rbac_state.specs.Policies.{permission_cmp, grant_cmp}
 use Rattle.rbac_state.specs.inside.Packed.{packed, permission_of, grant_of}
-use Rattle.rbac_state.specs.inside.Pairs.{number_cmp, back}
-use Rattle.rbac_state.specs.inside.Relations.{is_among}
+use Rattle.sorted_pairs.specs.Pairs.{number_cmp, back}
+use Rattle.sorted_pairs.specs.Lists.{is_among}
 use Rattle.rbac_state.proofs.FirstLemmas.{and_false}
-use Rattle.rbac_state.proofs.NumberLemmas.{cmp_is, digits, parts_cmp}
-use Rattle.rbac_state.proofs.RelationLemmas.{pair_tied}
+use Rattle.sorted_pairs.proofs.Exported.{cmp_is, digits, parts_cmp}
+use Rattle.sorted_pairs.proofs.Exported.{pair_tied}
 
 pub small_object : (n : ℕ) → (permission_of n).1 < 4294967296
 small_object n = omega arith

@@ -13,20 +13,21 @@ use Rattle.std.proofs.lemmas.List.{take_more, flat_map_more}
 use Rattle.std.proofs.lemmas.List.Elements.{Contains-append_left, Contains-append_right, Contains-append_cases}
 use Rattle.std.proofs.lemmas.Map.Lookups.{exact_unsigned}
 use Rattle.std.proofs.lemmas.Map.Views.{exact_unsigned_eq}
-use Rattle.rbac_state.specs.inside.Blocks.{items_in}
+use Rattle.sorted_pairs.specs.Blocks.{items_in}
 use Rattle.rbac_state.specs.declared.relation.Relation.{Relation}
 use Rattle.rbac_state.specs.Listings.{IsListing}
 use Rattle.rbac_state.specs.Policies.{PolicyValue, assignment_cmp, permission_cmp}
 use Rattle.rbac_state.specs.Policies.{grant_cmp, assigned_in, granted_in, RoleMay}
 use Rattle.rbac_state.specs.inside.Packed.{packed, permission_of, grant_of}
-use Rattle.rbac_state.specs.inside.Pairs.{number_cmp}
-use Rattle.rbac_state.specs.inside.Relations.{is_among, IsKeptBothWays}
-use Rattle.rbac_state.proofs.Members.{contains_head, contains_more, contains_cases}
-use Rattle.rbac_state.proofs.Members.{contains_none, picked_from, picked_into, mapped_from, mapped_into}
+use Rattle.sorted_pairs.specs.Pairs.{number_cmp}
+use Rattle.sorted_pairs.specs.Lists.{is_among}
+use Rattle.rbac_state.specs.inside.Relations.{IsKeptBothWays}
+use Rattle.sorted_pairs.proofs.Exported.{contains_head, contains_more, contains_cases}
+use Rattle.sorted_pairs.proofs.Exported.{contains_none, picked_from, picked_into, mapped_from, mapped_into}
 use Rattle.rbac_state.proofs.PairLemmas.{assignments_total, grants_total}
 use Rattle.rbac_state.proofs.GrantLemmas.{grant_is, grant_not, small_object, packed_again, permission_again}
 use Rattle.rbac_state.proofs.GrantLemmas.{permissions_ascend}
-use Rattle.rbac_state.proofs.RelationLemmas.{seconds_ascend, seconds_members}
+use Rattle.sorted_pairs.proofs.Exported.{seconds_ascend, seconds_members}
 
 -- a listing of a set is one of the same set said in other words
 pub listing_of : {X : Type 0} {cmp : X → X → Ordering} {P Q : X → Type 0} {xs : List X} → IsListing cmp P xs →

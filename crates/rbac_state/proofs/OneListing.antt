@@ -10,7 +10,7 @@ use Rattle.std.proofs.lemmas.Cmp.{tied_itself}
 use Rattle.std.proofs.lemmas.List.Elements.{All-contains}
 use Rattle.std.proofs.lemmas.Map.Keys.{sorted_tail}
 use Rattle.std.proofs.lemmas.Map.Views.{All-after_first}
-use Rattle.rbac_state.proofs.Members.{contains_head, contains_more, contains_cases, contains_none}
+use Rattle.sorted_pairs.proofs.Exported.{contains_head, contains_more, contains_cases, contains_none}
 
 module _ {K : Type 0} {R : K → K → Ordering} (o : IsTotalOrder R) where
   below_later : (x : K) (xs : List K) (y : K) → IsStrictlySortedBy R (x ∷ xs) → Contains xs y → R x y ≡ Less

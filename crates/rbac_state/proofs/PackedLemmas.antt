@@ -12,7 +12,7 @@ use Rattle.std.proofs.lemmas.List.Elements.{at_from_Contains}
 use Rattle.rbac_state.specs.Policies.{permission_cmp}
 use Rattle.rbac_state.specs.Listings.{IsListing}
 use Rattle.rbac_state.specs.inside.Packed.{packed, permission_of}
-use Rattle.rbac_state.proofs.Members.{contains_head, contains_more, mapped_from, mapped_into}
+use Rattle.sorted_pairs.proofs.Exported.{contains_head, contains_more, mapped_from, mapped_into}
 
 abbrev pub Fits : ℕ × ℕ → Type 0
 Fits p = (p.0 < 2 ^ 16) × (p.1 < 2 ^ 32)

@@ -9,7 +9,7 @@ use Rattle.std.proofs.lemmas.Cmp.{nat_cmp_total, then_total, on_total, eq_by_cmp
 use Rattle.std.proofs.lemmas.Map.Lookups.{CmpEqualImpliesEq}
 use Rattle.std.proofs.lemmas.Map.Views.{Contains-from_any, list_any-from_Contains, tells_apart}
 use Rattle.rbac_state.specs.Policies.{assignment_cmp, permission_cmp, grant_cmp}
-use Rattle.rbac_state.specs.inside.Relations.{is_among}
+use Rattle.sorted_pairs.specs.Lists.{is_among}
 
 pub assignments_total : IsTotalOrder assignment_cmp
 assignments_total = then_total (on_total (λ a. a.0) nat_cmp_total) (on_total (λ a. a.1) nat_cmp_total)

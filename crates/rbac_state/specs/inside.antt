@@ -1,6 +1,3 @@
-pub mod Pairs
-pub mod Blocks
+pub mod Limits
 pub mod Packed
 pub mod Relations
-pub mod Runs
-pub mod Searches

@@ -2,19 +2,16 @@
 //! the relations of Core RBAC (ANSI INCITS 359-2004) with its review functions.
 #![tactic(auto)]
 
-mod blocks;
 pub mod laws;
+mod limits;
 mod listing;
 mod numbered;
 mod packed;
-mod pair;
 mod policy;
 mod relation;
-mod run;
-mod search;
 mod select;
 mod shown;
-mod sorted;
 
 pub use laws::law_one_more;
-pub use policy::{Permission, Policy};
+pub use packed::Permission;
+pub use policy::Policy;

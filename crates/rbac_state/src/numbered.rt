@@ -2,10 +2,9 @@
 
 ghost use Rattle.std.specs.Prelude.{◌≡◌, ℕ, ◌<◌};
 ghost use Rattle.rbac_state.specs.inside.Packed.{permission_of};
-ghost use Rattle.rbac_state.specs.inside.Pairs.{most_firsts};
+ghost use Rattle.rbac_state.specs.inside.Limits.{most_firsts};
 
-use crate::packed::Packed;
-use crate::policy::Permission;
+use crate::packed::{Packed, Permission};
 
 /// What numbers below a limit stand for.
 pub trait Numbered: Copy + Drop {

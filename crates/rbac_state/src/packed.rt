@@ -7,19 +7,18 @@ ghost use Rattle.std.proofs.lemmas.Cmp.{nat_cmp_total, eq_by_cmp_equiv};
 ghost use Rattle.rbac_state.specs.Policies.{permission_cmp};
 ghost use Rattle.rbac_state.specs.Listings.{IsListing};
 ghost use Rattle.rbac_state.specs.inside.Packed.{packed, permission_of};
-ghost use Rattle.rbac_state.specs.inside.Pairs.{most_firsts};
+ghost use Rattle.rbac_state.specs.inside.Limits.{most_firsts};
 
 use crate::listing::{ascending, ascends};
-use crate::policy::Permission;
 use std::alloc::{AllocError, Global};
 use std::cmp::{Eq, Ord, Ordering, PartialEq, PartialOrd};
 use std::marker::Model;
 
-/// A permission's number is below this.
-pub const PERMISSIONS: u64 = 281_474_976_710_656;
+/// An operation and an object.
+pub type Permission = (u16, u32);
 
 /// So many permissions are sorted as they are, since two more lists would cost more than they save.
-const FEW: usize = 64;
+const SORTED_AS_THEY_ARE: usize = 64;
 
 /// A permission's number.
 #[derive(Clone, Copy, Drop)]
@@ -29,7 +28,7 @@ pub struct Packed {
 
 impl Model for Packed {
     ghost use Rattle.std.specs.Prelude.{ℕ, ◌<◌, refl};
-    ghost use Rattle.rbac_state.specs.inside.Pairs.{most_firsts};
+    ghost use Rattle.rbac_state.specs.inside.Limits.{most_firsts};
 
     ghost Value = { ℕ };
 
@@ -119,7 +118,7 @@ pub fn ascending_permissions(permissions: Vec<Permission>) -> Result<Vec<Permiss
     if ascends(&permissions) {
         return Ok(permissions);
     }
-    if permissions.len() <= FEW {
+    if permissions.len() <= SORTED_AS_THEY_ARE {
         return Ok(ascending(permissions));
     }
     sorted_as_numbers(*permissions.allocator(), permissions)

@@ -6,30 +6,16 @@ ghost use Rattle.rbac_state.specs.Policies.{permission_cmp, assigned_in, granted
 ghost use Rattle.rbac_state.specs.Policies.{UserMay, least_room, IsBlank, SameRelations, IsApplied};
 ghost use Rattle.rbac_state.specs.Listings.{IsListing};
 
+use crate::limits::LEAST_ROOM;
 use crate::listing::ascending;
-use crate::packed::{PERMISSIONS, ascending_permissions, pack};
-use crate::relation::Relation;
+use crate::packed::{Permission, ascending_permissions, pack};
+use crate::relation::{Grants, Relation, Users};
 use crate::select;
 use quorum_sizes::NodeName;
 use role_commands::{Command, RoleTable};
 use std::alloc::{AllocError, Global};
-use std::fmt::{self, Debug, Formatter, Write};
+use std::fmt::Debug;
 use std::marker::Model;
-
-/// An operation and an object.
-pub type Permission = (u16, u32);
-
-/// A user's number is below this.
-const USERS: u64 = 4_294_967_296;
-
-/// Users, each with a role.
-pub type Users = Relation<USERS>;
-
-/// Permissions by their numbers, each with a role.
-pub type Grants = Relation<PERMISSIONS>;
-
-/// So many commands can be applied after room was made.
-const LEAST_ROOM: usize = 64;
 
 /// Who has which role, and which role may do what. Contracts see it as the role table, the two
 /// relations and the room.
@@ -38,18 +24,6 @@ pub struct Policy {
     roles: RoleTable,
     assigned: Users,
     granted: Grants,
-}
-
-impl Debug for Users {
-    fn fmt<W: Write>(&self, f: &mut Formatter<W>) -> fmt::Result {
-        self.write::<u64, W>(f)
-    }
-}
-
-impl Debug for Grants {
-    fn fmt<W: Write>(&self, f: &mut Formatter<W>) -> fmt::Result {
-        self.write::<Permission, W>(f)
-    }
 }
 
 impl Model for Policy {
@@ -61,7 +35,7 @@ impl Model for Policy {
 
     ghost coded = { policy_code };
 
-    ghost use Rattle.rbac_state.specs.inside.Blocks.{items_in};
+    ghost use Rattle.sorted_pairs.specs.Blocks.{items_in};
     ghost use Rattle.rbac_state.specs.inside.Packed.{grant_of};
     ghost use Rattle.rbac_state.specs.inside.Relations.{AreKept, room_of};
 

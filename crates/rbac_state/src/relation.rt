@@ -2,16 +2,17 @@
 
 ghost use Rattle.std.specs.Prelude.{◌≡◌, ◌<◌, ◌≤◌, ◌+◌, ◌*◌, ◌||◌, ◌&&◌, ℕ, not, [], filter, OnOk, OnErr};
 ghost use Rattle.std.specs.Ordering.{eq_by_cmp, nat_cmp};
-ghost use Rattle.rbac_state.specs.inside.Blocks.{block_size, items_in};
-ghost use Rattle.rbac_state.specs.inside.Pairs.{most_firsts};
+ghost use Rattle.sorted_pairs.specs.Blocks.{block_size, items_in};
+ghost use Rattle.rbac_state.specs.inside.Limits.{most_firsts};
 ghost use Rattle.rbac_state.specs.inside.Relations.{IsKeptBothWays, SamePairs, relates, room_of};
-ghost use Rattle.rbac_state.specs.inside.Runs.{AreAlike};
+ghost use Rattle.sorted_pairs.specs.KeyRanges.{IsKeyRange};
 
-use crate::blocks;
+use crate::limits::{PERMISSIONS, ROLES, USERS};
 use crate::numbered::Numbered;
-use crate::pair::{Pair, ROLES};
-use crate::run::{self, Alike};
+use crate::packed::Permission;
 use crate::shown::ShownBlocks;
+use sorted_pairs::key_range::{self, KeyRange};
+use sorted_pairs::{Pair, blocks};
 use std::alloc::{AllocError, Global};
 use std::fmt::{self, Debug, Formatter, Write};
 use std::marker::PhantomData;
@@ -24,6 +25,24 @@ pub struct Relation<const FIRSTS: u64> {
     by_second: Vec<Vec<Pair<FIRSTS>>>,
     /// So many places, or more, are free in each block.
     room: usize,
+}
+
+/// Users, each with a role.
+pub type Users = Relation<USERS>;
+
+/// Permissions by their numbers, each with a role.
+pub type Grants = Relation<PERMISSIONS>;
+
+impl Debug for Users {
+    fn fmt<W: Write>(&self, f: &mut Formatter<W>) -> fmt::Result {
+        self.write::<u64, W>(f)
+    }
+}
+
+impl Debug for Grants {
+    fn fmt<W: Write>(&self, f: &mut Formatter<W>) -> fmt::Result {
+        self.write::<Permission, W>(f)
+    }
 }
 
 impl<const FIRSTS: u64> Relation<FIRSTS> {
@@ -123,8 +142,8 @@ impl<const FIRSTS: u64> Relation<FIRSTS> {
             ≡ (not (eq_by_cmp nat_cmp b second) && relates self.old a b) }
         ensures room { room_of self.old ≤ room_of self.new }
     {
-        run::take_away_second(&mut self.by_first, &self.by_second, second);
-        run::take_away_first(&mut self.by_second, second as u64);
+        key_range::take_away_second(&mut self.by_first, &self.by_second, second as u64);
+        key_range::take_away_first(&mut self.by_second, second as u64);
     }
 
     /// Whether the pair is in the relation.
@@ -137,11 +156,11 @@ impl<const FIRSTS: u64> Relation<FIRSTS> {
     }
 
     /// Where the pairs of this first lie.
-    pub fn of_first(&self, first: u64) -> Alike<'_, ROLES>
+    pub fn of_first(&self, first: u64) -> KeyRange<'_, ROLES>
         requires { IsKeptBothWays self.now }
-        ensures { AreAlike first (items_in self.now.by_first.items) result }
+        ensures { IsKeyRange first (items_in self.now.by_first.items) result }
     {
-        Alike::find(&self.by_first, first)
+        KeyRange::find(&self.by_first, first)
     }
 
     /// The blocks of the pairs, in ascending order, in which those of this first lie.

@@ -4,22 +4,23 @@ ghost use Rattle.std.specs.Prelude.{◌≡◌, ◌<◌, ◌≤◌, ◌==◌, ◌
 ghost use Rattle.std.specs.Ordering.{eq_by_cmp, nat_cmp};
 ghost use Rattle.std.specs.List.{AllByRecursion, flat_map};
 ghost use Rattle.std.specs.List.Sorted.{IsStrictlySortedBy};
-ghost use Rattle.rbac_state.specs.inside.Blocks.{items_in};
+ghost use Rattle.sorted_pairs.specs.Blocks.{items_in};
 ghost use Rattle.rbac_state.specs.inside.Packed.{permission_of};
-ghost use Rattle.rbac_state.specs.inside.Pairs.{number_cmp, most_firsts};
+ghost use Rattle.sorted_pairs.specs.Pairs.{number_cmp};
+ghost use Rattle.rbac_state.specs.inside.Limits.{most_firsts};
 ghost use Rattle.rbac_state.specs.inside.Relations.{IsKeptBothWays, relates};
 
+use crate::limits::PERMISSIONS;
 use crate::numbered::Numbered;
-use crate::packed::PERMISSIONS;
-use crate::pair::Pair;
-use crate::policy::{Grants, Permission, Users};
-use crate::run::run_of;
-use crate::sorted;
+use crate::packed::Permission;
+use crate::relation::{Grants, Users};
+use sorted_pairs::key_range::blocks_of;
+use sorted_pairs::{Pair, beginning_with};
 use std::alloc::{AllocError, Global};
 
 /// So many roles are asked about by themselves, the first ones: to find the roles that have a permission takes longer
 /// than to ask about one role, and pays where more are asked about.
-const FEW: usize = 4;
+const ROLES_ASKED_ALONE: usize = 4;
 
 /// What the second of each pair of this first stands for.
 pub fn seconds<const LIMIT: u64, B: Numbered>(
@@ -50,9 +51,9 @@ fn add_seconds<const LIMIT: u64, B: Numbered>(
     ensures { OnOk result (seconds.new.items ≡ seconds.old.items
         ++ map (λ p. B.of p.1) (filter (λ p. eq_by_cmp nat_cmp first p.0) (items_in blocks.now))) }
 {
-    let alike = run_of(blocks, first);
+    let alike = blocks_of(blocks, first);
     for block in alike {
-        add_each_second(seconds, sorted::beginning_with(block, first))?;
+        add_each_second(seconds, beginning_with(block, first))?;
     }
     Ok(())
 }
@@ -120,9 +121,9 @@ fn add_operations(
         (filter (λ g. (permission_of g.1).1 == object)
         (filter (λ g. eq_by_cmp nat_cmp role g.0) (items_in blocks.now)))) }
 {
-    let alike = run_of(blocks, role as u64);
+    let alike = blocks_of(blocks, role as u64);
     for block in alike {
-        let grants = sorted::beginning_with(block, role as u64);
+        let grants = beginning_with(block, role as u64);
         add_each_operation(operations, grants, object)?;
     }
     Ok(())
@@ -172,7 +173,11 @@ pub fn first_granting(
 fn asked_alone(roles: usize) -> usize
     ensures { result ≤ roles }
 {
-    if roles <= FEW + 2 { roles } else { FEW }
+    if roles <= ROLES_ASKED_ALONE + 2 {
+        roles
+    } else {
+        ROLES_ASKED_ALONE
+    }
 }
 
 /// As `first_granting`: each role is asked about by itself.

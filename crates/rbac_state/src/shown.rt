@@ -3,7 +3,7 @@
 ghost use Rattle.std.specs.Prelude.{◌*◌, ◌≤◌, ◌^◌};
 
 use crate::numbered::Numbered;
-use crate::pair::Pair;
+use sorted_pairs::Pair;
 use std::fmt::{Debug, Formatter, Result, Write};
 use std::marker::PhantomData;
 

@@ -3,7 +3,7 @@ use Rattle.std.proofs.Common.{◌≡◌, ◌≤◌, List, [], ◌∷◌, length,
 use Rattle.std.proofs.Common.{refl, ap, ◌∙◌, arith}
 use Rattle.std.specs.Prelude.{IsTrue, fold}
 use Rattle.std.proofs.lemmas.List.{take_all}
-use Rattle.link_frames.specs.declared.packet.Message.{Message}
+use Rattle.link_frames.specs.declared.frames.packet.Message.{Message}
 use Rattle.bracha_instance.specs.declared.instance.Effect.{Effect}
 use Rattle.bracha_instance.specs.declared.instance.Effect.TheVariants as effect
 use Rattle.role_node.specs.Answers.{is_recorded, answer_due, answered}

@@ -13,8 +13,8 @@ use Rattle.std.proofs.lemmas.Option.{slice_get_within}
 use Rattle.quorum_sizes.specs.Sizes.{Counts, AreSizes}
 use Rattle.quorum_sizes.specs.NodeSets.{Nodes, nodes_among}
 use Rattle.role_commands.proofs.Exported.{slice_get-front}
-use Rattle.link_frames.specs.declared.packet.Message.{Message}
-use Rattle.link_frames.specs.Packets.{PacketValue, message_of}
+use Rattle.link_frames.specs.declared.frames.packet.Message.{Message}
+use Rattle.link_frames.specs.frames.Packets.{PacketValue, message_of}
 use Rattle.role_node.proofs.Exported.{at_push}
 use Rattle.role_node.specs.Configs.{ConfigValue}
 use Rattle.role_node.specs.Answers.{IsLegal, is_recorded, answer_due}

@@ -2,8 +2,8 @@
 use Rattle.std.specs.Prelude.{◌≡◌, false, IsTrue, List, [], ◌∷◌, length, drop}
 use Rattle.role_commands.specs.declared.command.Command.{Command}
 use Rattle.role_commands.specs.declared.command.Command.TheVariants.{Assign}
-use Rattle.link_frames.specs.declared.kind.Kind.TheVariants.{Send}
-use Rattle.link_frames.specs.declared.packet.Message.{Message}
+use Rattle.link_frames.specs.declared.frames.kind.Kind.TheVariants.{Send}
+use Rattle.link_frames.specs.declared.frames.packet.Message.{Message}
 use Rattle.role_node.specs.declared.event.Event.TheVariants.{Issue, Take}
 use Rattle.byz_world.specs.Example.{four, four_nodes, three_lies, user_seven, told, example_run}
 use Rattle.byz_world.specs.Runs.{has_sent}

@@ -4,8 +4,8 @@ use Rattle.std.specs.Prelude.{List, [], ◌∷◌, ◌++◌, length, take, fold,
 use Rattle.std.specs.FinSet as sets
 use Rattle.quorum_sizes.specs.Sizes.{Counts, AreSizes}
 use Rattle.quorum_sizes.specs.NodeSets.{Nodes, nodes_among}
-use Rattle.link_frames.specs.declared.packet.Message.{Message}
-use Rattle.link_frames.specs.Packets.{PacketValue, IsSound, message_of}
+use Rattle.link_frames.specs.declared.frames.packet.Message.{Message}
+use Rattle.link_frames.specs.frames.Packets.{PacketValue, IsSound, message_of}
 use Rattle.role_node.specs.Configs.{ConfigValue}
 use Rattle.role_node.specs.Answers.{answer_due, is_recorded}
 use Rattle.role_node.specs.declared.event.Event.{Event}

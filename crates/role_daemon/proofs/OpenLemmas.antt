@@ -7,14 +7,14 @@ use Rattle.std.proofs.lemmas.Bool.Decides.{nat_tests}
 use Rattle.std.proofs.KnownBytes.{Consumes-trans, Consumes-kept, Consumes-nil}
 use Rattle.std.proofs.KnownBytes.{Appends-nil, Keeps-refl, prepend_known-nil}
 use Rattle.std.specs.Io.KnownBytes.{Consumes, Appends, Keeps, IsAtEnd, prepend_known}
-use Rattle.link_frames.specs.Devices.{WentOn, ReaderFailed}
-use Rattle.link_frames.specs.Lines.{line_end, lines_of, ended, NoLineEnd}
-use Rattle.link_frames.specs.LinePrograms.{HasBytes, WroteFront}
-use Rattle.link_frames.specs.LinesAt.{devices}
-use Rattle.link_frames.specs.Nexts.{Begins, EndsAt}
-use Rattle.link_frames.specs.declared.blocks.AheadFault.{AheadFault}
-use Rattle.link_frames.specs.declared.blocks.AheadFault.TheVariants as ahead
-use Rattle.link_frames.specs.declared.next.Next.TheVariants.{TooLong, Last}
+use Rattle.link_frames.specs.lines.Devices.{WentOn, ReaderFailed}
+use Rattle.link_frames.specs.lines.Lines.{line_end, lines_of, ended, NoLineEnd}
+use Rattle.link_frames.specs.lines.LinePrograms.{HasBytes, WroteFront}
+use Rattle.link_frames.specs.lines.LinesAt.{devices}
+use Rattle.link_frames.specs.lines.Nexts.{Begins, EndsAt}
+use Rattle.link_frames.specs.declared.lines.blocks.AheadFault.{AheadFault}
+use Rattle.link_frames.specs.declared.lines.blocks.AheadFault.TheVariants as ahead
+use Rattle.link_frames.specs.declared.lines.next.Next.TheVariants.{TooLong, Last}
 use Rattle.link_frames.proofs.Exported.{lines_of-nil, lines_of-line, lines_of-last, lines_of-begun}
 use Rattle.link_frames.proofs.Exported.{Consumes-front, HasBytes-done, WroteFront-nothing, tail_of, tail_at_end}
 use Rattle.role_node.specs.Nodes.{NodeValue}
@@ -24,7 +24,7 @@ use Rattle.role_daemon.specs.Pipes.{answers_text, one_stops, node_of, opened_tex
 use Rattle.role_daemon.specs.Pipes.{fault_of_lines, opening_fault, opened_stops, lines_stop, pipe_stops}
 use Rattle.cluster_text.specs.Results.{IsDueOrMemory}
 use Rattle.role_daemon.specs.Runs.{PipeRan, IsEndless}
-use Rattle.link_frames.specs.Watching.{Tally}
+use Rattle.link_frames.specs.lines.Watching.{Tally}
 use Rattle.link_frames.proofs.Exported.{ReaderFailed-later}
 use Rattle.role_daemon.specs.inside.Steps.{of_ahead_fault, IsNodeOf, RefusesNode, Opened, client_text, LinesRan}
 use Rattle.role_daemon.specs.inside.Steps.{LinesEndless}

@@ -4,8 +4,8 @@ use Rattle.std.proofs.Common.{length, Option, Some, None, Result, Ok, Err, refl,
 use Rattle.std.specs.Prelude.{is_some}
 use Rattle.std.specs.Option.{option_map_or}
 use Rattle.std.proofs.lemmas.Bool.Decides.{nat_tests}
-use Rattle.link_frames.specs.Lines.{ended}
-use Rattle.link_frames.specs.LinePrograms.{text_by, bad_by}
+use Rattle.link_frames.specs.lines.Lines.{ended}
+use Rattle.link_frames.specs.lines.LinePrograms.{text_by, bad_by}
 use Rattle.link_frames.proofs.Exported.{lines_of-nil, text_by-nil, text_by-good}
 use Rattle.link_frames.proofs.Exported.{text_by-bad, bad_by-nil, bad_by-good, bad_by-bad}
 use Rattle.role_node.specs.Nodes.{NodeValue}

@@ -5,13 +5,13 @@ use Rattle.std.proofs.Common.{Err, IfErr, refl, sym, ap, ◌∙◌, subst, arith
 use Rattle.std.specs.Prelude.{is_some}
 use Rattle.std.proofs.KnownBytes.{Consumes-trans, Consumes-kept, Consumes-nil, Appends-trans, prepend_known-nil}
 use Rattle.std.specs.Io.KnownBytes.{Consumes, Appends, Keeps, IsAtEnd, prepend_known}
-use Rattle.link_frames.specs.Watching.{Tally}
-use Rattle.link_frames.specs.Devices.{WentOn, CallFailed, AppendsFront}
-use Rattle.link_frames.specs.Lines.{line_end, lines_of, ended}
-use Rattle.link_frames.specs.LinePrograms.{text_by, HasBytes, WroteFront}
-use Rattle.link_frames.specs.LinesAt.{Lines, devices}
-use Rattle.link_frames.specs.Nexts.{Begins, EndsAt, PassedLine}
-use Rattle.link_frames.specs.declared.next.Next.TheVariants.{TooLong, Last}
+use Rattle.link_frames.specs.lines.Watching.{Tally}
+use Rattle.link_frames.specs.lines.Devices.{WentOn, CallFailed, AppendsFront}
+use Rattle.link_frames.specs.lines.Lines.{line_end, lines_of, ended}
+use Rattle.link_frames.specs.lines.LinePrograms.{text_by, HasBytes, WroteFront}
+use Rattle.link_frames.specs.lines.LinesAt.{Lines, devices}
+use Rattle.link_frames.specs.lines.Nexts.{Begins, EndsAt, PassedLine}
+use Rattle.link_frames.specs.declared.lines.next.Next.TheVariants.{TooLong, Last}
 use Rattle.link_frames.proofs.Exported.{lines_of-line, lines_of-last, Consumes-front}
 use Rattle.link_frames.proofs.Exported.{Ran, Ran-start, Ran-taken, Ran-front, Ran-number, CallFailed-later}
 use Rattle.link_frames.proofs.Exported.{HasBytes-done, tail_of, tail_at_end, AppendsFront-nothing, AppendsFront-whole}

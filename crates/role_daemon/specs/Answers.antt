@@ -2,8 +2,8 @@
 use Rattle.std.specs.Prelude.{ℕ, zero, suc, ◌+◌, length, Option, Some, None}
 use Rattle.std.specs.Prelude.{is_some, if◌then◌else◌, Result, Ok, Err}
 use Rattle.std.specs.Option.{option_map_or}
-use Rattle.link_frames.specs.Packets.{PacketValue, packet_due}
-use Rattle.link_frames.specs.declared.packet.Message.{Message}
+use Rattle.link_frames.specs.frames.Packets.{PacketValue, packet_due}
+use Rattle.link_frames.specs.declared.frames.packet.Message.{Message}
 use Rattle.role_commands.specs.declared.command.Command.{Command}
 use Rattle.role_sessions.specs.declared.faults.SessionFault.TheVariants as session
 use Rattle.role_node.specs.Access.{reach_at, sessions_at, sent_at}

@@ -1,6 +1,6 @@
 -- What holds of a node's own packets, whatever it recorded before.
 use Rattle.std.specs.Prelude.{◌≡◌, ℕ, Option, None}
-use Rattle.link_frames.specs.declared.packet.Message.{Message}
+use Rattle.link_frames.specs.declared.frames.packet.Message.{Message}
 use Rattle.role_node.specs.Nodes.{NodeValue}
 use Rattle.role_daemon.specs.Answers.{take_own, settled}
 

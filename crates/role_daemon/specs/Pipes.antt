@@ -3,8 +3,8 @@
 use Rattle.std.specs.Prelude.{ℕ, Bool, true, false, if◌then◌else◌, List, [], ◌∷◌}
 use Rattle.std.specs.Prelude.{◌++◌, Option, Some, None, is_some, Result, Ok, Err}
 use Rattle.std.specs.Result.{result_err}
-use Rattle.link_frames.specs.Lines.{ended, lines_of}
-use Rattle.link_frames.specs.LinePrograms.{text_by, bad_by}
+use Rattle.link_frames.specs.lines.Lines.{ended, lines_of}
+use Rattle.link_frames.specs.lines.LinePrograms.{text_by, bad_by}
 use Rattle.role_node.specs.Nodes.{NodeValue, new_node}
 use Rattle.client_lines.specs.AnswerTexts.{answer_text}
 use Rattle.client_lines.specs.Requests.{request_due}

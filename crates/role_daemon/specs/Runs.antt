@@ -1,9 +1,9 @@
 -- What running a pipe does to its reader and writer.
 use Rattle.std.specs.Prelude.{◌≡◌, ℕ, ◌-◌, ◌^◌, ◌≤◌, ◌⊎◌, true, List, length, Option, None, Some, Result, Ok, Err}
 use Rattle.std.specs.Io.KnownBytes.{Consumes, Appends, Keeps, IsAtEnd}
-use Rattle.link_frames.specs.Lines.{lines_of}
-use Rattle.link_frames.specs.LinePrograms.{HasBytes}
-use Rattle.link_frames.specs.LinesAt.{Lines, WroteFrontOf}
+use Rattle.link_frames.specs.lines.Lines.{lines_of}
+use Rattle.link_frames.specs.lines.LinePrograms.{HasBytes}
+use Rattle.link_frames.specs.lines.LinesAt.{Lines, WroteFrontOf}
 use Rattle.role_daemon.specs.Pipes.{pipe_text, opening_fault, pipe_stops}
 use Rattle.role_daemon.specs.declared.fault.PipeFault.{PipeFault}
 use Rattle.role_daemon.specs.declared.fault.PipeFault.TheVariants.{Cluster, Device, Memory}

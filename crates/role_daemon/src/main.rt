@@ -1,8 +1,8 @@
 //! A node of the registry. Without words it is a pipe: the first line on standard input is a cluster text of one
 //! node, and each later one is a client's line, with one line of answer on standard output.
 //!
-//! `cluster_text` says what a cluster text sets up, `specs/Answers.antt` what the node answers, `specs/Pipes.antt` which
-//! text is due for an input, and `specs/Runs.antt` what running the pipe does.
+//! `cluster_text` says what a cluster text sets up, `specs/Answers.antt` what the node answers, `specs/Pipes.antt`
+//! which text is due for an input, and `specs/Runs.antt` what running the pipe does.
 #![tactic(auto)]
 
 ghost use Rattle.std.specs.Prelude.{IfOk};
@@ -89,8 +89,6 @@ fn setup_of(rt: &HostRuntime, file: &str) -> Result<Setup, FileFault>
 
 #[cfg(test)]
 mod device_tests;
-#[cfg(test)]
-mod layers;
 #[cfg(test)]
 mod serve_help;
 #[cfg(test)]

@@ -1,12 +1,12 @@
 //! The pipe: one node, whose clients speak in lines.
 
 ghost use Rattle.std.specs.Prelude.{◌≡◌, ◌≢◌, ◌++◌, ◌⊎◌, None, IfOk, IfErr, OnOk, OnErr, Err};
-ghost use Rattle.link_frames.specs.Watching.{watched_inner, watched_tally};
-ghost use Rattle.link_frames.specs.Devices.{WentOn, CallFailed, ReaderFailed};
-ghost use Rattle.link_frames.specs.Holding.{IsNotDue};
-ghost use Rattle.link_frames.specs.Lines.{ended};
-ghost use Rattle.link_frames.specs.LinesAt.{devices_at, lines_at};
-ghost use Rattle.link_frames.specs.Aheads.{front_of};
+ghost use Rattle.link_frames.specs.lines.Watching.{watched_inner, watched_tally};
+ghost use Rattle.link_frames.specs.lines.Devices.{WentOn, CallFailed, ReaderFailed};
+ghost use Rattle.link_frames.specs.lines.Holding.{IsNotDue};
+ghost use Rattle.link_frames.specs.lines.Lines.{ended};
+ghost use Rattle.link_frames.specs.lines.LinesAt.{devices_at, lines_at};
+ghost use Rattle.link_frames.specs.lines.Aheads.{front_of};
 ghost use Rattle.client_lines.specs.Requests.{most_line_bytes};
 ghost use Rattle.role_daemon.specs.Pipes.{stops, line_text, after_line};
 ghost use Rattle.role_daemon.specs.Runs.{PipeRan, IsEndless};

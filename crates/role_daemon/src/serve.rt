@@ -96,6 +96,7 @@ where
         clients,
         addresses: addresses(alloc, ports)?,
         idle,
+        operators: false,
     })
 }
 

@@ -12,8 +12,8 @@ use Rattle.role_commands.specs.Numbers.{is_space}
 use Rattle.role_commands.proofs.Exported.{split_word-word, split_word-decimal, split_word-joined}
 use Rattle.role_commands.proofs.Exported.{byte_read, byte_spelled, if_else, mapped}
 use Rattle.role_commands.specs.Numbers.{space}
-use Rattle.link_frames.specs.declared.kind.Kind.{Kind}
-use Rattle.link_frames.specs.declared.kind.Kind.TheVariants.{Send, Echo, Ready}
+use Rattle.link_frames.specs.declared.frames.kind.Kind.{Kind}
+use Rattle.link_frames.specs.declared.frames.kind.Kind.TheVariants.{Send, Echo, Ready}
 use Rattle.role_lab.specs.Orders.{node_number, kind_of, then_rest}
 use Rattle.role_lab.specs.Texts.{kind_word}
 

@@ -6,7 +6,7 @@ use Rattle.std.specs.List.{list_all, list_any}
 use Rattle.std.proofs.lemmas.Bool.{true≢false, and_parts, and_from, eq-eqb, or_left}
 use Rattle.role_commands.proofs.Exported.{same_command-self, same_command_is}
 use Rattle.bracha_instance.proofs.Exported.{same_kind-true, same_kind-refl}
-use Rattle.link_frames.specs.Packets.{PacketValue}
+use Rattle.link_frames.specs.frames.Packets.{PacketValue}
 use Rattle.role_node.specs.Histories.{packets}
 use Rattle.byz_world.specs.Pools.{pool}
 use Rattle.byz_world.specs.Runs.{history_of}

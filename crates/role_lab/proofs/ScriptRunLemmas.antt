@@ -3,14 +3,14 @@ use Rattle.std.proofs.Common.{◌≡◌, ℕ, ◌+◌, ◌-◌, ◌^◌, ◌≤�
 use Rattle.std.proofs.Common.{◌++◌, Option, Some, None, Ok, Err, sym, refl, subst, arith}
 use Rattle.std.proofs.KnownBytes.{Appends-trans}
 use Rattle.std.specs.Io.KnownBytes.{Appends, IsAtEnd, prepend_known}
-use Rattle.link_frames.specs.Blocks.{ReadAhead}
-use Rattle.link_frames.specs.Devices.{WentOn, ReaderFailed, AppendsFront}
-use Rattle.link_frames.specs.LinePrograms.{WroteFront, Moved}
-use Rattle.link_frames.specs.LinesAt.{Lines, devices}
-use Rattle.link_frames.specs.Lines.{ended}
-use Rattle.link_frames.specs.Watching.{Tally}
-use Rattle.link_frames.specs.declared.blocks.AheadFault.{AheadFault}
-use Rattle.link_frames.specs.declared.blocks.AheadFault.TheVariants as ahead
+use Rattle.link_frames.specs.lines.Blocks.{ReadAhead}
+use Rattle.link_frames.specs.lines.Devices.{WentOn, ReaderFailed, AppendsFront}
+use Rattle.link_frames.specs.lines.LinePrograms.{WroteFront, Moved}
+use Rattle.link_frames.specs.lines.LinesAt.{Lines, devices}
+use Rattle.link_frames.specs.lines.Lines.{ended}
+use Rattle.link_frames.specs.lines.Watching.{Tally}
+use Rattle.link_frames.specs.declared.lines.blocks.AheadFault.{AheadFault}
+use Rattle.link_frames.specs.declared.lines.blocks.AheadFault.TheVariants as ahead
 use Rattle.link_frames.proofs.Exported.{Ran-start, Ran-moved, Ran-front, Ran-good, Ran-text, Ran-number}
 use Rattle.link_frames.proofs.Exported.{Ended, Ended-whole, WentOn-nothing, WentOn-trans, AppendsFront-nothing}
 use Rattle.role_lab.specs.Runs.{ScriptRan, IsEndless}

@@ -19,8 +19,8 @@ use Rattle.role_commands.specs.declared.command.Command.{Command}
 use Rattle.role_commands.proofs.Exported.{split_word-word, split_word-decimal, split_word-joined, byte_read}
 use Rattle.role_commands.proofs.Exported.{byte_spelled, if_else, if_some, command_of-spelling, command_of_spelled}
 use Rattle.role_commands.specs.Numbers.{space}
-use Rattle.link_frames.specs.declared.kind.Kind.{Kind}
-use Rattle.link_frames.specs.declared.kind.Kind.TheVariants.{Send, Echo, Ready}
+use Rattle.link_frames.specs.declared.frames.kind.Kind.{Kind}
+use Rattle.link_frames.specs.declared.frames.kind.Kind.TheVariants.{Send, Echo, Ready}
 use Rattle.bracha_instance.specs.Broadcast.{Take}
 use Rattle.role_lab.specs.Grammar.{owner, sizes_of_numbers, sizes_of_line, take_from, vote_of, named_take, take_of_line}
 use Rattle.role_lab.specs.Spellings.{sizes_spelling, said_spelling, take_spelling, IsTake}

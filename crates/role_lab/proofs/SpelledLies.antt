@@ -8,8 +8,8 @@ use Rattle.quorum_sizes.specs.Sizes.{Counts, AreSizes}
 use Rattle.role_commands.specs.Words.{spelling}
 use Rattle.role_commands.proofs.Exported.{command_of-spelling, command_of_spelled}
 use Rattle.role_commands.specs.Numbers.{space}
-use Rattle.link_frames.specs.Packets.{PacketValue, IsSound, packet_of}
-use Rattle.link_frames.specs.declared.packet.Message.{Message}
+use Rattle.link_frames.specs.frames.Packets.{PacketValue, IsSound, packet_of}
+use Rattle.link_frames.specs.declared.frames.packet.Message.{Message}
 use Rattle.link_frames.proofs.Exported.{due_takes, due_again}
 use Rattle.role_lab.specs.Orders.{node_number, kind_of}
 use Rattle.role_lab.specs.Orders.{lie_of}

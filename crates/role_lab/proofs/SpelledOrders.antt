@@ -14,7 +14,7 @@ use Rattle.role_commands.proofs.Exported.{split_word-word, split_word-joined, wi
 use Rattle.role_commands.proofs.Exported.{wide_spelled, if_else, mapped, by_name}
 use Rattle.role_commands.proofs.Exported.{by_name_made}
 use Rattle.role_commands.specs.Numbers.{space}
-use Rattle.link_frames.specs.Packets.{PacketValue}
+use Rattle.link_frames.specs.frames.Packets.{PacketValue}
 use Rattle.byz_world.specs.declared.step.Step.{Step}
 use Rattle.byz_world.specs.declared.step.Step.TheVariants.{Issue, Give, Lie, Bytes, Client}
 use Rattle.role_lab.specs.Orders.{node_number}

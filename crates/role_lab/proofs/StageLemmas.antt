@@ -11,7 +11,7 @@ use Rattle.quorum_sizes.specs.NodeSets.{Nodes}
 use Rattle.role_commands.specs.Tables.{Table, no_roles}
 use Rattle.role_commands.specs.TableFaults.{add_due}
 use Rattle.role_commands.specs.declared.table.TableFault.{TableFault}
-use Rattle.link_frames.specs.declared.kind.Kind.TheVariants.{Send}
+use Rattle.link_frames.specs.declared.frames.kind.Kind.TheVariants.{Send}
 use Rattle.bracha_instance.specs.Broadcast.{Take}
 use Rattle.bracha_instance.specs.States.{State, state}
 use Rattle.bracha_instance.specs.Taking.{SendsAreFrom}

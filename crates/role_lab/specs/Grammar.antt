@@ -7,8 +7,8 @@ use Rattle.quorum_sizes.specs.Sizes.{Counts, name_due}
 use Rattle.quorum_sizes.specs.Refusals.{sizes_due}
 use Rattle.role_commands.specs.Numbers.{split_word, byte_number, ◌>>=◌}
 use Rattle.role_commands.specs.Reading.{command_of}
-use Rattle.link_frames.specs.declared.kind.Kind.{Kind}
-use Rattle.link_frames.specs.declared.kind.Kind.TheVariants.{Send, Echo, Ready}
+use Rattle.link_frames.specs.declared.frames.kind.Kind.{Kind}
+use Rattle.link_frames.specs.declared.frames.kind.Kind.TheVariants.{Send, Echo, Ready}
 use Rattle.bracha_instance.specs.Broadcast.{Take}
 
 -- the node whose instance it is

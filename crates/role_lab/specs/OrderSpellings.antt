@@ -6,7 +6,7 @@ use Rattle.hex.specs.Hex.{encode_lower}
 use Rattle.quorum_sizes.specs.Sizes.{Counts, AreSizes}
 use Rattle.role_commands.specs.Bytes.{IsBytes}
 use Rattle.role_commands.specs.Words.{spelling, IsCommand}
-use Rattle.link_frames.specs.Packets.{PacketValue, IsPacket}
+use Rattle.link_frames.specs.frames.Packets.{PacketValue, IsPacket}
 use Rattle.role_sessions.specs.declared.event.ClientEvent.{ClientEvent}
 use Rattle.role_sessions.specs.declared.event.ClientEvent.TheVariants.{Open, Activate, DropRole, Close}
 use Rattle.role_node.specs.declared.question.Question.{Question}

@@ -1,8 +1,8 @@
 -- Whether a cluster is at rest, as a test. `rests_is_rest` says that the test is true where the cluster is at rest.
 use Rattle.std.specs.Prelude.{◌==◌, Bool, not, ◌&&◌, ◌||◌, ◌↔◌, IsTrue}
 use Rattle.std.specs.List.{list_all, list_any}
-use Rattle.link_frames.specs.Kinds.{same_kind}
-use Rattle.link_frames.specs.Packets.{PacketValue}
+use Rattle.link_frames.specs.frames.Kinds.{same_kind}
+use Rattle.link_frames.specs.frames.Packets.{PacketValue}
 use Rattle.role_commands.specs.Same.{same_command}
 use Rattle.role_node.specs.Histories.{packets}
 use Rattle.byz_world.specs.Runs.{history_of}

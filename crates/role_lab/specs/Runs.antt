@@ -1,9 +1,9 @@
 -- What running a script does to its reader and writer.
 use Rattle.std.specs.Prelude.{◌≡◌, ℕ, ◌-◌, ◌^◌, ◌≤◌, List, length, Option, Some, None, Result, Ok, Err}
 use Rattle.std.specs.Io.KnownBytes.{Consumes, Appends, IsAtEnd}
-use Rattle.link_frames.specs.Lines.{lines_of}
-use Rattle.link_frames.specs.LinePrograms.{HasBytes}
-use Rattle.link_frames.specs.LinesAt.{Lines, WroteFrontOf}
+use Rattle.link_frames.specs.lines.Lines.{lines_of}
+use Rattle.link_frames.specs.lines.LinePrograms.{HasBytes}
+use Rattle.link_frames.specs.lines.LinesAt.{Lines, WroteFrontOf}
 use Rattle.role_lab.specs.Scripts.{script_text, first_bad}
 use Rattle.role_lab.specs.declared.fault.ScriptFault.{ScriptFault}
 use Rattle.role_lab.specs.declared.fault.ScriptFault.TheVariants.{BadScript, Device, Memory}

@@ -8,8 +8,8 @@ use Rattle.quorum_sizes.specs.NodeSets.{Nodes}
 use Rattle.role_commands.specs.Tables.{Table, no_roles, with_role}
 use Rattle.role_commands.specs.TableFaults.{add_due}
 use Rattle.role_commands.specs.declared.table.TableFault.{TableFault}
-use Rattle.link_frames.specs.Lines.{lines_of}
-use Rattle.link_frames.specs.LinePrograms.{text_by, bad_by}
+use Rattle.link_frames.specs.lines.Lines.{lines_of}
+use Rattle.link_frames.specs.lines.LinePrograms.{text_by, bad_by}
 use Rattle.bracha_instance.specs.Broadcast.{Take}
 use Rattle.byz_world.specs.Worlds.{too_many_lie}
 use Rattle.role_lab.specs.Grammar.{sizes_of_line, take_of_line}

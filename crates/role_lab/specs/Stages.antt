@@ -1,4 +1,4 @@
--- What the program keeps of the lines so far.
+-- What the program keeps of the lines so far. Serves the code, and no public contract.
 use Rattle.std.specs.Prelude.{◌≡◌, ℕ, false, List, Option, Some, None, ⊤}
 use Rattle.quorum_sizes.specs.Sizes.{AreSizes}
 use Rattle.bracha_instance.specs.States.{state}

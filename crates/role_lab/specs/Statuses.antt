@@ -1,8 +1,8 @@
 -- The faults of a script: which fault of the lines that are read ahead it is, and the exit status of the program at
 -- each.
 use Rattle.std.specs.Prelude.{ℕ}
-use Rattle.link_frames.specs.declared.blocks.AheadFault.{AheadFault}
-use Rattle.link_frames.specs.declared.blocks.AheadFault.TheVariants as ahead
+use Rattle.link_frames.specs.declared.lines.blocks.AheadFault.{AheadFault}
+use Rattle.link_frames.specs.declared.lines.blocks.AheadFault.TheVariants as ahead
 use Rattle.role_lab.specs.declared.fault.ScriptFault.{ScriptFault}
 use Rattle.role_lab.specs.declared.fault.ScriptFault.TheVariants.{BadScript, Device, Memory}
 

@@ -4,8 +4,8 @@ use Rattle.std.specs.Fmt.{decimal}
 use Rattle.quorum_sizes.specs.Sizes.{Counts, echo_quorum_of, amplify_of, deliver_of}
 use Rattle.role_commands.specs.Words.{spelling}
 use Rattle.role_commands.specs.declared.command.Command.{Command}
-use Rattle.link_frames.specs.declared.kind.Kind.{Kind}
-use Rattle.link_frames.specs.declared.kind.Kind.TheVariants.{Send, Echo, Ready}
+use Rattle.link_frames.specs.declared.frames.kind.Kind.{Kind}
+use Rattle.link_frames.specs.declared.frames.kind.Kind.TheVariants.{Send, Echo, Ready}
 use Rattle.bracha_instance.specs.Broadcast.{Take}
 use Rattle.bracha_instance.specs.Taking.{effect_of, newly_sent, newly_delivered}
 use Rattle.bracha_instance.specs.declared.instance.Effect.{Effect}

@@ -1,7 +1,7 @@
 //! The lines of a script of one instance.
 
 ghost use Rattle.std.specs.Prelude.{◌≡◌, ◌<◌, IfSome, option_map};
-ghost use Rattle.link_frames.specs.declared.kind.Kind.TheVariants.{Send, Echo, Ready};
+ghost use Rattle.link_frames.specs.declared.frames.kind.Kind.TheVariants.{Send, Echo, Ready};
 ghost use Rattle.role_lab.specs.Grammar as reading;
 ghost use Rattle.role_lab.specs.Grammar.{IsFromNode};
 ghost use Rattle.role_lab.specs.inside.Kept.{take_said};

@@ -40,6 +40,4 @@ fn main(rt: HostRuntime) -> ExitCode {
 #[cfg(test)]
 mod device_tests;
 #[cfg(test)]
-mod layers;
-#[cfg(test)]
 mod tests;

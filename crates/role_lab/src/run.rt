@@ -1,12 +1,12 @@
 //! A script, run line by line.
 
 ghost use Rattle.std.specs.Prelude.{◌≡◌, ◌≢◌, ℕ, ◌≤◌, ◌⊎◌, List, Option, length, IfOk, IfErr, Err};
-ghost use Rattle.link_frames.specs.Aheads.{front_of};
-ghost use Rattle.link_frames.specs.Devices.{WentOn, CallFailed, ReaderFailed};
-ghost use Rattle.link_frames.specs.Blocks.{ReadAhead};
-ghost use Rattle.link_frames.specs.Holding.{IsNotDue};
-ghost use Rattle.link_frames.specs.LinesAt.{Lines, devices_at, lines_at};
-ghost use Rattle.link_frames.specs.Watching.{watched_tally};
+ghost use Rattle.link_frames.specs.lines.Aheads.{front_of};
+ghost use Rattle.link_frames.specs.lines.Devices.{WentOn, CallFailed, ReaderFailed};
+ghost use Rattle.link_frames.specs.lines.Blocks.{ReadAhead};
+ghost use Rattle.link_frames.specs.lines.Holding.{IsNotDue};
+ghost use Rattle.link_frames.specs.lines.LinesAt.{Lines, devices_at, lines_at};
+ghost use Rattle.link_frames.specs.lines.Watching.{watched_tally};
 ghost use Rattle.role_lab.specs.Scripts.{Script, most_line_bytes, next};
 ghost use Rattle.role_lab.specs.Stages.{Follows};
 ghost use Rattle.role_lab.specs.Runs.{ScriptRan, IsEndless};

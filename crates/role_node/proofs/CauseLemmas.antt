@@ -4,9 +4,9 @@ use Rattle.std.specs.Prelude.{IfSome}
 use Rattle.std.specs.Option.{option_or}
 use Rattle.quorum_sizes.specs.Sizes.{Counts}
 use Rattle.role_commands.specs.declared.command.Command.{Command}
-use Rattle.link_frames.specs.Kinds.{same_kind}
-use Rattle.link_frames.specs.Packets.{PacketValue}
-use Rattle.link_frames.specs.declared.kind.Kind.TheVariants.{Send}
+use Rattle.link_frames.specs.frames.Kinds.{same_kind}
+use Rattle.link_frames.specs.frames.Packets.{PacketValue}
+use Rattle.link_frames.specs.declared.frames.kind.Kind.TheVariants.{Send}
 use Rattle.bracha_instance.specs.Broadcast.{Take, echoed, readied, delivered, may_ready, may_deliver}
 use Rattle.bracha_instance.specs.Taking.{newly, sent_for, newly_sent, newly_delivered}
 use Rattle.bracha_instance.proofs.Exported.{echoed_push, readies_its_own, delivers_its_own, IsThis}

@@ -5,7 +5,7 @@ use Rattle.std.specs.List.{filter_map, cons_option}
 use Rattle.std.proofs.lemmas.List.Elements.{filter_map-append}
 use Rattle.role_commands.proofs.Exported.{filter_map-length}
 use Rattle.role_commands.specs.declared.command.Command.{Command}
-use Rattle.link_frames.specs.Packets.{PacketValue}
+use Rattle.link_frames.specs.frames.Packets.{PacketValue}
 use Rattle.role_sessions.specs.declared.event.ClientEvent.{ClientEvent}
 use Rattle.role_node.specs.declared.event.Event.{Event}
 use Rattle.role_node.specs.declared.event.Event.TheVariants.{Issue, Take, Client}
@@ -78,3 +78,8 @@ client_events-none = refl
 pub client_events-length : (history : List Event) → length (client_events history) ≤ length history
 unfolding client_events
 client_events-length history = filter_map-length act_in history
+
+-- no more commands than events
+pub issued-length : (history : List Event) → length (issued history) ≤ length history
+unfolding issued
+issued-length history = filter_map-length command_in history

@@ -8,7 +8,7 @@ use Rattle.std.proofs.lemmas.Bool.Decides.{nat_tests}
 use Rattle.std.proofs.lemmas.Map.Views.{exact_unsigned_eq}
 use Rattle.quorum_sizes.specs.Sizes.{Counts}
 use Rattle.role_commands.specs.declared.command.Command.{Command}
-use Rattle.link_frames.specs.Packets.{PacketValue}
+use Rattle.link_frames.specs.frames.Packets.{PacketValue}
 use Rattle.bracha_instance.specs.Broadcast.{delivered}
 use Rattle.owner_streams.specs.Places.{stream, reach}
 use Rattle.owner_streams.proofs.Exported.{takes_at-other, stream_is_exact_lem, stream_is_one_lem, stream_grows_lem}

@@ -5,9 +5,9 @@ use Rattle.std.specs.Prelude.{Option, Some, None, option_map}
 use Rattle.std.specs.List.{filter_map, flat_map, range_with_len, list_all}
 use Rattle.quorum_sizes.specs.Sizes.{Counts}
 use Rattle.role_commands.specs.declared.command.Command.{Command}
-use Rattle.link_frames.specs.declared.kind.Kind.{Kind}
-use Rattle.link_frames.specs.declared.kind.Kind.TheVariants.{Send, Echo, Ready}
-use Rattle.link_frames.specs.declared.packet.Message.{Message}
+use Rattle.link_frames.specs.declared.frames.kind.Kind.{Kind}
+use Rattle.link_frames.specs.declared.frames.kind.Kind.TheVariants.{Send, Echo, Ready}
+use Rattle.link_frames.specs.declared.frames.packet.Message.{Message}
 use Rattle.owner_streams.specs.LastVotes.{last_vote}
 use Rattle.owner_streams.specs.Places.{window}
 use Rattle.role_node.specs.Access.{reach_at, sent_at}

@@ -1,7 +1,7 @@
 //! The entries of a history, kept small.
 
 ghost use Rattle.std.specs.Prelude.{◌≡◌, ◌≤◌, ◌+◌, ◌^◌, ◌<◌, option_map};
-ghost use Rattle.link_frames.specs.Packets.{IsSound};
+ghost use Rattle.link_frames.specs.frames.Packets.{IsSound};
 ghost use Rattle.owner_streams.specs.Places.{window};
 ghost use Rattle.role_sessions.specs.declared.event.ClientEvent.{ClientEvent};
 ghost use Rattle.role_node.specs.Answers.{counted_reply};

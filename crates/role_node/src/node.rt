@@ -1,9 +1,12 @@
 //! A node, with its history.
 
 ghost use Rattle.std.specs.Prelude.{◌≡◌, ◌<◌, ◌≤◌, length, map, slice_get, IfOk, IfSome, OnOk, OnErr, Ok};
+ghost use Rattle.std.specs.FinMap as finite;
 ghost use Rattle.bracha_instance.specs.declared.instance.Effect.TheVariants.{Counted};
 ghost use Rattle.owner_streams.specs.Places.{place_count};
+ghost use Rattle.role_sessions.specs.Listed.{listed_from};
 ghost use Rattle.role_node.specs.Configs.{most_events};
+ghost use Rattle.role_node.specs.Histories.{issued};
 ghost use Rattle.role_node.specs.Access.{stream_at, reach_at, sessions_at, verdict_at, sent_at};
 ghost use Rattle.role_node.specs.Windows.{last_vote_at};
 ghost use Rattle.role_node.specs.Listed.{IsWithin};
@@ -175,6 +178,35 @@ impl Node {
         ensures legal { IsLegalNode self.now }
     {
         self.entries.len() as u32
+    }
+
+    /// How many commands the node has published.
+    pub fn published(&self) -> u32
+        ensures count { result ≡ length (issued self.now.history) }
+        ensures most { result ≤ most_events }
+    {
+        self.state.issued.len() as u32
+    }
+
+    /// How many sessions are open.
+    pub fn open_count(&self) -> u32
+        ensures count { result ≡ finite.len (sessions_at self.now.history).open_sessions }
+        ensures most { result ≤ most_events }
+    {
+        self.state.sessions.open_count() as u32
+    }
+
+    /// The open sessions with this id or a greater one, each with its user, in the order of their ids: the first `most`
+    /// of them, or all where they are fewer.
+    ///
+    /// # Errors
+    ///
+    /// Only for want of memory.
+    pub fn open_sessions(&self, from: u64, most: usize) -> Result<Vec<(u64, u32)>, AllocError>
+        ensures { let sessions = (sessions_at self.now.history).open_sessions in
+            IfOk result (λ listed. listed.items ≡ listed_from sessions from most) }
+    {
+        self.state.sessions.open_from(from, most)
     }
 
     /// What the node was told at its start.

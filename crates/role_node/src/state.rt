@@ -2,7 +2,7 @@
 
 ghost use Rattle.std.specs.Prelude.{◌≡◌, ℕ, ◌<◌, ◌≤◌, ◌+◌, List, [], IfOk, OnOk, OnErr, vec_len};
 ghost use Rattle.role_commands.specs.Tables.{Table};
-ghost use Rattle.link_frames.specs.Packets.{PacketValue};
+ghost use Rattle.link_frames.specs.frames.Packets.{PacketValue};
 ghost use Rattle.owner_streams.specs.Places.{place_count};
 ghost use Rattle.owner_streams.specs.Values.{IsStateOf, WouldCount};
 ghost use Rattle.rbac_state.specs.Policies.{IsPolicyOf};

@@ -4,11 +4,18 @@ use Rattle.std.proofs.Common.{if◌then◌else◌, ◌⊎◌, List, [], ◌∷�
 use Rattle.std.proofs.Common.{refl, sym, ap, ◌∙◌, inl, inr, append_assoc, append-nil, arith}
 use Rattle.std.proofs.lemmas.Bool.{cases_lt}
 use Rattle.std.proofs.lemmas.Bool.Decides.{nat_tests}
+use Rattle.std.proofs.lemmas.List.FromFn.{length-range_with_len}
 use Rattle.std.proofs.lemmas.List.Sums.{count_by-le-length}
+use Rattle.std.specs.Cmp.{nat_cmp_total}
+use Rattle.std.specs.FinMap as map
+use Rattle.std.specs.FinMap.{len-empty, len-insert}
+use Rattle.std.specs.List.{filter_map, range_with_len}
 use Rattle.std.specs.Option.{option_map}
+use Rattle.std.specs.Ordering.{nat_cmp}
+use Rattle.role_commands.proofs.Exported.{filter_map-length}
 use Rattle.role_sessions.specs.declared.event.ClientEvent.{ClientEvent}
 use Rattle.role_sessions.specs.declared.event.ClientEvent.TheVariants.{Open, Activate, DropRole, Close}
-use Rattle.role_sessions.specs.Sessions.{Session, opened_count, is_opening, session_in}
+use Rattle.role_sessions.specs.Sessions.{Session, opened_count, is_opening, session_in, entry_in, state_of}
 use Rattle.role_sessions.specs.Laws.{StateCountsTheOpened, IdsAreGivenInOrder, ClosedStayClosed}
 use Rattle.role_sessions.proofs.StateLemmas.{opened-state_of}
 use Rattle.role_sessions.proofs.EventLemmas.{opened_count-push, session_in-opened}
@@ -21,6 +28,29 @@ opened_within events = count_by-le-length is_opening events
 
 pub state_counts_the_opened : StateCountsTheOpened
 state_counts_the_opened events = (opened-state_of events, opened_within events)
+
+-- a map has no more keys than it has entries given
+few_keys : (es : List (ℕ × Session)) → map.len (map.from_entries {R = nat_cmp} es) ≤ length es
+few_keys [] = let none = len-empty nat_cmp Session in omega (arith, none)
+few_keys (e ∷ es) =
+    by (map.contains_key (map.from_entries {R = nat_cmp} es) e.0)
+    (len-insert nat_cmp_total (map.from_entries es) e.0 e.1)
+    (few_keys es)
+  where
+    by : (b : Bool) {more few : ℕ} → more ≡ (if b then few else few + 1) → few ≤ length es → more ≤ suc (length es)
+    by true is within = omega arith
+    by false is within = omega arith
+
+-- no more sessions are open than events happened
+pub open_are_few : (events : List ClientEvent) → map.len (state_of events).open_sessions ≤ length events
+unfolding state_of
+open_are_few events =
+    let ids : List ℕ = range_with_len 1 (opened_count events) in
+    let keys = few_keys (filter_map (entry_in events) ids) in
+    let some = filter_map-length (entry_in events) ids in
+    let long = length-range_with_len 1 (opened_count events) in
+    let opened = opened_within events in
+    omega arith
 
 pub ids_are_given_in_order : IdsAreGivenInOrder
 ids_are_given_in_order events zero there = absurd (there (session_in-zero events))

@@ -3,6 +3,7 @@ pub mod StateLemmas
 pub mod RoleLemmas
 pub mod OpenLemmas
 pub mod TableLemmas
+pub mod ListedLemmas
 pub mod RememberLemmas
 pub mod DecisionLaws
 pub mod IdLaws

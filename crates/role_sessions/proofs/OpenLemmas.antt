@@ -6,8 +6,7 @@ use Rattle.std.specs.Cmp.{nat_cmp_total, nat_eq_equiv, unsigned_tied}
 use Rattle.std.specs.FinMap as map
 use Rattle.std.specs.FinMap.{find, get-from_entries, len-insert, len-remove}
 use Rattle.std.specs.FinMap.{len-empty, same_map, nat_cmp-IsAntisymmetric}
-use Rattle.std.specs.Map.{lookup, set_value}
-use Rattle.std.proofs.lemmas.Map.Steps.{set_value_same}
+use Rattle.std.specs.Map.{lookup}
 use Rattle.std.specs.Option.{option_map_or}
 use Rattle.std.specs.Ordering.{nat_cmp}
 use Rattle.role_sessions.specs.Sessions.{Session}
@@ -29,7 +28,7 @@ IsLong es = map.len (map_of es) ≡ length es
 abbrev pub Gives : {V : Type 0} → ℕ → Option V → List (ℕ × V) → List (ℕ × V) → Type 0
 Gives id w old new = (q : ℕ) → lookup (nat_eq q) new ≡ cond (nat_eq id q) w (lookup (nat_eq q) old)
 
-find-lookup : (q : ℕ) (es : Entries) → find nat_cmp q es ≡ lookup (nat_eq q) es
+pub find-lookup : (q : ℕ) (es : Entries) → find nat_cmp q es ≡ lookup (nat_eq q) es
 find-lookup q [] = refl
 find-lookup q (e ∷ es) = λ i. cond (unsigned_tied q e.0 i) (Some e.1) (find-lookup q es i)
 

@@ -1,11 +1,12 @@
 //! The table of the sessions that are open.
 
-ghost use Rattle.std.specs.Prelude.{◌≡◌, [], OnOk, OnErr};
+ghost use Rattle.std.specs.Prelude.{◌≡◌, [], IfOk, OnOk, OnErr};
 ghost use Rattle.std.specs.FinMap as map;
 ghost use Rattle.std.specs.Option.{option_copied};
 ghost use Rattle.role_sessions.specs.inside.Changes.{changed_at, with_role, without_role};
 ghost use Rattle.role_sessions.specs.Decisions.{relations_of, verdict};
 ghost use Rattle.role_sessions.specs.Kept.{KeptAreRight, KeepsRight};
+ghost use Rattle.role_sessions.specs.Listed.{listed_from};
 ghost use Rattle.role_sessions.specs.inside.Remembered.{as_sessions};
 
 use crate::open_session::OpenSession;
@@ -121,6 +122,26 @@ impl OpenSessions {
             return Verdict::Deny(Rule::NoSession);
         };
         found.check(policy, generation, user, operation, object)
+    }
+
+    /// The first `most` of those with this id or a greater one, in the order of their ids, each with its user.
+    pub(crate) fn listed_from(
+        &self,
+        alloc: Global,
+        from: u64,
+        most: usize,
+    ) -> Result<Vec<(u64, u32)>, AllocError>
+        ensures { IfOk result (λ listed. listed.items ≡ listed_from self.now.sessions from most) }
+    {
+        let mut listed: Vec<(u64, u32)> = self
+            .sessions
+            .iter()
+            .map(|(id, found)| (*id, found.session.user()))
+            .filter(|listed| from <= listed.0)
+            .collect(alloc)?;
+        listed.sort_unstable();
+        listed.truncate(most);
+        Ok(listed)
     }
 
     /// Forgets all answers.

@@ -46,6 +46,13 @@ impl Session {
         }
     }
 
+    /// The session's user.
+    pub(crate) fn user(&self) -> u32
+        ensures { result ≡ self.now.user }
+    {
+        self.user
+    }
+
     /// Whether the session is this user's.
     pub(crate) fn is_of(&self, user: u32) -> bool
         ensures { result ≡ (self.now.user == user) }

@@ -10,13 +10,14 @@ ghost use Rattle.role_sessions.specs.Decisions.{relations_of, counted_roles, Ses
 ghost use Rattle.role_sessions.specs.Refusals.{open_due, activate_due, drop_due, close_due};
 ghost use Rattle.role_sessions.specs.Refusals.{listing_due, AnswersExactly, AnswersDue};
 ghost use Rattle.role_sessions.specs.Kept.{KeptAreRight, KeepsRight};
+ghost use Rattle.role_sessions.specs.Listed.{listed_from};
 
 use crate::faults::{EndFault, SessionFault};
 use crate::open_sessions::OpenSessions;
 use crate::session::Session;
 use crate::verdict::Verdict;
 use rbac_state::{Permission, Policy};
-use std::alloc::Global;
+use std::alloc::{AllocError, Global};
 use std::marker::Model;
 
 /// The most sessions that are open at once.
@@ -63,6 +64,25 @@ impl Sessions {
         ensures { result ≡ self.now.state.opened }
     {
         self.opened
+    }
+
+    /// How many sessions are open.
+    pub fn open_count(&self) -> usize
+        ensures { result ≡ map.len self.now.state.open_sessions }
+    {
+        self.open_sessions.len()
+    }
+
+    /// The open sessions with this id or a greater one, each with its user, in the order of their ids: the first `most`
+    /// of them, or all where they are fewer.
+    ///
+    /// # Errors
+    ///
+    /// Only for want of memory.
+    pub fn open_from(&self, from: u64, most: usize) -> Result<Vec<(u64, u32)>, AllocError>
+        ensures { IfOk result (λ listed. listed.items ≡ listed_from self.now.state.open_sessions from most) }
+    {
+        self.open_sessions.listed_from(self.alloc, from, most)
     }
 
     /// The refusal of [`open`](Sessions::open) now, memory apart.

@@ -2,14 +2,17 @@
 use Rattle.std.specs.Prelude.{◌≡◌, ◌≢◌, ◌⊎◌, ⊤, ℕ, ◌+◌, ◌<◌, ◌≤◌, nat_lt, if◌then◌else◌, List, length, codes}
 use Rattle.std.specs.Prelude.{Option, Some, None, is_some, option_and_then, Result, Ok, Err}
 use Rattle.std.specs.FinMap as map
+use Rattle.std.specs.declared.net.ip_addr.IpAddr.{IpAddr}
 use Rattle.serde_json.specs.Data.{Data}
 use Rattle.serde_json.specs.Find.{get}
 use Rattle.role_commands.specs.Tables.{Table}
 use Rattle.client_lines.specs.Json.{json_of}
-use Rattle.link_frames.specs.LinePrograms.{HasBytes}
+use Rattle.link_frames.specs.lines.LinePrograms.{HasBytes}
 use Rattle.cluster_text.specs.Setups.{setup_due, most_text_bytes}
 use Rattle.cluster_text.specs.declared.cluster.Mode.TheVariants.{Serve}
 use Rattle.cluster_text.specs.declared.cluster.Setup.{Setup}
+use Rattle.tundelca.specs.Hosts.{AreHostsIn}
+use Rattle.tundelca.specs.declared.hosts.Given.{Given}
 use Rattle.tundelca.specs.declared.fault.GivenFault.{GivenFault}
 use Rattle.tundelca.specs.declared.fault.GivenFault.TheVariants as fault
 use Rattle.tundelca.specs.declared.reserved.Reserved.{Reserved}
@@ -41,20 +44,27 @@ reserved_in bytes =
 abbrev pub HasReservedRole : Table → Type 0
 HasReservedRole t = (number : ℕ) × (number < 128) × (map.get t.owners (65408 + number) ≢ None)
 
--- The setup that the text says; or the first member that is kept for later, and then the fault that is due to the text,
--- and then that a role is kept for later. Memory may be wanting for a text that is not too long.
-abbrev pub IsGiven : List ℕ → Result Setup GivenFault → Type 0
-IsGiven text (Ok setup) =
-    (reserved_in text ≡ None) × (setup_due Serve text ≡ Ok setup) × (HasReservedRole setup.config.roles → ⊥)
+-- The node that the text sets up and the hosts that it says; or the first member that is kept for later, and then the
+-- fault that is due to the text, and then that a role is kept for later, and then that there are no such hosts. Memory
+-- may be wanting for a text that is not too long.
+abbrev pub IsGiven : List ℕ → Result Given GivenFault → Type 0
+IsGiven text (Ok given) =
+    (reserved_in text ≡ None) × (setup_due Serve text ≡ Ok given.setup)
+    × (HasReservedRole given.setup.config.roles → ⊥)
+    × AreHostsIn text given.setup.config.roles.sizes.nodes given.hosts
 IsGiven text (Err (fault.Reserved member)) =
     (reserved_in text ≡ Some member) ⊎ ((member ≡ Roles) × (reserved_in text ≡ None)
     × ((setup : Setup) × (setup_due Serve text ≡ Ok setup) × HasReservedRole setup.config.roles))
 IsGiven text (Err (fault.Cluster f)) = (reserved_in text ≡ None) × (setup_due Serve text ≡ Err f)
+IsGiven text (Err fault.Hosts) =
+    (reserved_in text ≡ None)
+    × ((setup : Setup) × (setup_due Serve text ≡ Ok setup) × (HasReservedRole setup.config.roles → ⊥)
+    × ((hosts : List IpAddr) → AreHostsIn text setup.config.roles.sizes.nodes hosts → ⊥))
 IsGiven text (Err fault.Unread) = ⊥
 IsGiven text (Err fault.Memory) = length text ≤ most_text_bytes
 
 -- the same of all that a reader had
-abbrev pub GivenRead : Option (List ℕ) → Result Setup GivenFault → Type 0
+abbrev pub GivenRead : Option (List ℕ) → Result Given GivenFault → Type 0
 GivenRead reader (Err fault.Unread) = ⊤
 GivenRead reader (Err fault.Memory) = ⊤
 GivenRead reader result = (text : List ℕ) × HasBytes reader text × IsGiven text result

@@ -9,8 +9,6 @@ use Rattle.tundelca.specs.declared.fault.GivenFault.{GivenFault}
 use Rattle.tundelca.specs.declared.fault.GivenFault.TheVariants as given
 use Rattle.tundelca.specs.declared.fault.KeptFault.{KeptFault}
 use Rattle.tundelca.specs.declared.fault.KeptFault.TheVariants as kept
-use Rattle.tundelca.specs.declared.fault.ServeFault.{ServeFault}
-use Rattle.tundelca.specs.declared.fault.ServeFault.TheVariants as serve
 use Rattle.tundelca.specs.declared.fault.WordsFault.{WordsFault}
 use Rattle.tundelca.specs.declared.fault.WordsFault.TheVariants as words
 
@@ -22,6 +20,7 @@ abbrev pub given_status : GivenFault → ℕ
 given_status given.Unread = 3
 given_status (given.Reserved member) = 3
 given_status (given.Cluster fault) = cluster_status fault
+given_status given.Hosts = 3
 given_status given.Memory = 5
 
 abbrev pub journal_status : JournalFault → ℕ
@@ -36,14 +35,9 @@ kept_status kept.Illegal = 6
 kept_status kept.Unopened = 6
 kept_status (kept.Journal fault) = journal_status fault
 
-abbrev pub serve_status : ServeFault → ℕ
-serve_status serve.Device = 4
-serve_status serve.Memory = 5
-
 abbrev pub status : Fault → ℕ
 status (program.Words fault) = words_status fault
 status (program.Given fault) = given_status fault
 status (program.Kept fault) = kept_status fault
-status (program.Serve fault) = serve_status fault
-status program.Unsaid = 4
+status program.Device = 4
 status program.Memory = 5

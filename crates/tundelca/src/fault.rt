@@ -1,7 +1,7 @@
 //! Why the program ends with another status than 0.
 
 ghost use Rattle.std.specs.Prelude.{◌≡◌};
-ghost use Rattle.tundelca.specs.Statuses.{words_status, given_status, kept_status, serve_status, status};
+ghost use Rattle.tundelca.specs.Statuses.{words_status, given_status, kept_status, status};
 
 use crate::reserved::Reserved;
 use batch_journal::JournalFault;
@@ -52,6 +52,9 @@ pub enum GivenFault {
     /// Its text sets up no node; never for want of memory.
     #[error(transparent)]
     Cluster(ClusterFault),
+    /// Its hosts are no list of an address for each node.
+    #[error("U4 OutOfRange hosts")]
+    Hosts,
     /// There was no memory.
     #[error("out of memory")]
     Memory,
@@ -63,7 +66,7 @@ impl GivenFault {
         ensures { result ≡ given_status self.now }
     {
         match self {
-            GivenFault::Unread | GivenFault::Reserved(_) => 3,
+            GivenFault::Unread | GivenFault::Reserved(_) | GivenFault::Hosts => 3,
             GivenFault::Cluster(fault) => fault.status(),
             GivenFault::Memory => 5,
         }
@@ -137,48 +140,6 @@ impl From<AllocError> for KeptFault {
     }
 }
 
-/// Why a node does not serve, or serves no longer.
-#[derive(Debug, Drop, Error)]
-pub enum ServeFault {
-    /// A listener could not be made, or has failed.
-    #[error("device")]
-    Device,
-    /// There was no memory.
-    #[error("out of memory")]
-    Memory,
-}
-
-impl ServeFault {
-    /// The exit status of the program: 4 at a failed listener, 5 for want of memory.
-    pub fn status(&self) -> u8
-        ensures { result ≡ serve_status self.now }
-    {
-        match self {
-            ServeFault::Device => 4,
-            ServeFault::Memory => 5,
-        }
-    }
-}
-
-impl From<AllocError> for ServeFault {
-    ghost use Rattle.tundelca.specs.declared.fault.ServeFault.TheVariants.{Memory};
-
-    ghost from_gives = { λ _ e. e ≡ Memory };
-
-    fn from(_e: AllocError) -> Self {
-        ServeFault::Memory
-    }
-}
-
-impl From<ServerFault> for ServeFault {
-    fn from(fault: ServerFault) -> Self {
-        match fault {
-            ServerFault::Device => ServeFault::Device,
-            ServerFault::Memory => ServeFault::Memory,
-        }
-    }
-}
-
 /// Why the program ends with another status than 0.
 #[derive(Debug, Drop, Error)]
 pub enum Fault {
@@ -191,12 +152,10 @@ pub enum Fault {
     /// The journal is not begun, opened or looked at.
     #[error(transparent)]
     Kept(KeptFault),
-    /// The node does not serve, or serves no longer.
-    #[error(transparent)]
-    Serve(ServeFault),
-    /// What is to be said can't be written.
+    /// A listener could not be made or has failed, a call of the disk has failed, or what is to be said can't be
+    /// written.
     #[error("device")]
-    Unsaid,
+    Device,
     /// There was no memory for it.
     #[error("out of memory")]
     Memory,
@@ -211,8 +170,7 @@ impl Fault {
             Fault::Words(fault) => fault.status(),
             Fault::Given(fault) => fault.status(),
             Fault::Kept(fault) => fault.status(),
-            Fault::Serve(fault) => fault.status(),
-            Fault::Unsaid => 4,
+            Fault::Device => 4,
             Fault::Memory => 5,
         }
     }
@@ -242,8 +200,11 @@ impl From<KeptFault> for Fault {
     }
 }
 
-impl From<ServeFault> for Fault {
-    fn from(fault: ServeFault) -> Self {
-        Fault::Serve(fault)
+impl From<ServerFault> for Fault {
+    fn from(fault: ServerFault) -> Self {
+        match fault {
+            ServerFault::Device => Fault::Device,
+            ServerFault::Memory => Fault::Memory,
+        }
     }
 }

@@ -6,6 +6,7 @@ use node_lock::{Call, Outcome, Seat, StepFault};
 use node_server::{HeldNode, NotKept, Said};
 use peer_windows::{Owed, Pairs};
 use quorum_sizes::NodeName;
+use role_node::Node;
 use sqlite_disk::Disk;
 use std::sync::ledger::Ledger;
 
@@ -63,6 +64,10 @@ impl<L: Ledger + Send + Sync, D: Disk> HeldNode for Journaled<L, D> {
             Ok(_synced) => Ok(()),
             Err(_fault) => Err(NotKept),
         }
+    }
+
+    fn kept(&self) -> Option<&Node> {
+        self.kept.kept_node()
     }
 
     fn release(&self, untold: Untold<L>) -> Option<Said> {

@@ -1,17 +1,19 @@
 //! A node of the registry that keeps its state.
 //!
-//! `specs/Givens.antt` says what it takes of a cluster text, `specs/Fingerprints.antt` by what two owners compare
-//! theirs, `specs/Keeping.antt` what of a node with a journal may leave, and `specs/Statuses.antt` with which status it
-//! ends.
+//! `specs/Givens.antt` says what it takes of a cluster text, `specs/Hosts.antt` where the nodes then are,
+//! `specs/Fingerprints.antt` by what two owners compare their texts, `specs/Keeping.antt` what of a node with a journal
+//! may leave, and `specs/Statuses.antt` with which status it ends.
 #![tactic(auto)]
 
 ghost use Rattle.std.specs.Prelude.{IfOk};
 ghost use Rattle.cluster_text.specs.Setups.{IsNodeSetup, IsServerSetup};
+ghost use Rattle.tundelca.specs.Hosts.{HasHosts};
 
 mod fault;
 mod fingerprint;
 mod given;
 mod held;
+mod hosts;
 mod journal_file;
 mod keeping;
 mod report;
@@ -20,9 +22,9 @@ mod serve;
 mod version;
 mod words;
 
-use cluster_text::cluster::Setup;
 use fault::{Fault, GivenFault, WordsFault};
 use given::read_given;
+use hosts::Given;
 use journal_file::{make_journal, open_journal, open_to_look, remove_beside};
 use keeping::{begin, look};
 use link_frames::Watched;
@@ -37,12 +39,10 @@ use words::{Keeping, Words, read_words};
 
 fn main(rt: HostRuntime) -> ExitCode {
     let outcome = match words_given(&rt) {
-        Ok(Words::Serve { cluster, keeping }) => match (setup_of(&rt, &cluster), keeping) {
-            (Ok(setup), Keeping::InMemory) => {
-                serve_in_memory(&rt, rt.alloc(), setup).map_err(Fault::Serve)
-            }
-            (Ok(setup), Keeping::Journal(path)) => match open_journal(&rt, &path, Unknown) {
-                Ok(files) => serve_kept(&rt, rt.alloc(), setup, files),
+        Ok(Words::Serve { cluster, keeping }) => match (given_of(&rt, &cluster), keeping) {
+            (Ok(given), Keeping::InMemory) => serve_in_memory(&rt, rt.alloc(), given),
+            (Ok(given), Keeping::Journal(path)) => match open_journal(&rt, &path, Unknown) {
+                Ok(files) => serve_kept(&rt, rt.alloc(), given, files),
                 Err(fault) => Err(Fault::Kept(fault)),
             },
             (Err(fault), _) => Err(Fault::Given(fault)),
@@ -65,26 +65,28 @@ fn answer(rt: &HostRuntime, words: Words) -> Result<(), Fault> {
         Words::Say(text) => say(rt, &text),
         Words::Serve { .. } => Ok(()),
         Words::Journal { cluster, journal } => {
-            let setup = setup_of(rt, &cluster)?;
-            let _journal = begin(rt.alloc(), &setup, make_journal(rt, &journal, Unknown)?)?;
+            let given = given_of(rt, &cluster)?;
+            let files = make_journal(rt, &journal, Unknown)?;
+            let _journal = begin(rt.alloc(), &given.setup, files)?;
             Ok(())
         }
         Words::Check { cluster, journal } => {
-            let setup = setup_of(rt, &cluster)?;
-            say(rt, &report_of(rt.alloc(), &setup)?)?;
+            let given = given_of(rt, &cluster)?;
+            say(rt, &report_of(rt.alloc(), &given)?)?;
             match journal {
-                Some(path) => check(rt, setup, &path),
+                Some(path) => check(rt, given, &path),
                 None => Ok(()),
             }
         }
     }
 }
 
-/// Says what the journal of a setup's node is. The file beside it goes again where it was made for that.
-fn check(rt: &HostRuntime, setup: Setup, path: &str) -> Result<(), Fault>
-    requires me { IsNodeSetup setup }
-    requires peers { IsServerSetup setup }
+/// Says what the journal of a node is. The file beside it goes again where it was made for that.
+fn check(rt: &HostRuntime, given: Given, path: &str) -> Result<(), Fault>
+    requires me { IsNodeSetup given.setup }
+    requires peers { IsServerSetup given.setup }
 {
+    let Given { setup, .. } = given;
     let key = setup.own_key();
     let (mut files, is_made) = open_to_look(rt, path, Unknown)?;
     let sight = look(rt.alloc(), setup.config, setup.me, &key, &mut files);
@@ -97,7 +99,7 @@ fn check(rt: &HostRuntime, setup: Setup, path: &str) -> Result<(), Fault>
 
 /// Writes a text to standard output.
 fn say(rt: &HostRuntime, text: &str) -> Result<(), Fault> {
-    print!(rt; "{text}").map_err(|_| Fault::Unsaid)
+    print!(rt; "{text}").map_err(|_| Fault::Device)
 }
 
 /// What the words after the program's name ask for.
@@ -114,10 +116,11 @@ fn words_given(rt: &HostRuntime) -> Result<Words, WordsFault> {
     }
 }
 
-/// The setup of a cluster file.
-fn setup_of(rt: &HostRuntime, file: &str) -> Result<Setup, GivenFault>
-    ensures node { IfOk result IsNodeSetup }
-    ensures server { IfOk result IsServerSetup }
+/// What a cluster file says.
+fn given_of(rt: &HostRuntime, file: &str) -> Result<Given, GivenFault>
+    ensures node { IfOk result (λ given. IsNodeSetup given.setup) }
+    ensures server { IfOk result (λ given. IsServerSetup given.setup) }
+    ensures hosts { IfOk result HasHosts }
 {
     match File::open(rt, file) {
         Ok(file) => read_given(rt.alloc(), &mut Watched::new(file)),

@@ -1,30 +1,36 @@
 //! What is said of a cluster file.
 
+ghost use Rattle.cluster_text.specs.Setups.{IsServerSetup};
+ghost use Rattle.tundelca.specs.Hosts.{HasHosts};
+
 use crate::fingerprint::{of_common, of_key};
+use crate::hosts::Given;
 use crate::keeping::Sight;
-use cluster_text::cluster::Setup;
 use role_commands::RoleTable;
 use std::alloc::{AllocError, Global};
 use std::fmt::Write;
 
-/// What a setup is, in lines: the cluster and the node, the roles with their owners, and the fingerprints of what the
-/// texts of all nodes have in common and of each key. Nothing in it is secret.
+/// What a cluster file says, in lines: the cluster and the node, where the nodes take frames, the roles with their
+/// owners, and the fingerprints of what the texts of all nodes have in common and of each key. Nothing in it is secret.
 ///
 /// # Errors
 ///
 /// Only for want of memory.
-pub fn report_of(alloc: Global, setup: &Setup) -> Result<String, AllocError> {
+pub fn report_of(alloc: Global, given: &Given) -> Result<String, AllocError>
+    requires peers { IsServerSetup given.now.setup }
+    requires hosts { HasHosts given.now }
+{
+    let setup = &given.setup;
     let mut text = String::new(alloc);
     let sizes = setup.config.roles().sizes();
     let (cluster, me) = (setup.config.cluster(), setup.me.index());
     writeln!(text, "cluster {cluster}")?;
     writeln!(text, "nodes {}, of which {} may lie", sizes.n(), sizes.f())?;
-    writeln!(
-        text,
-        "this node {me}, frames at port {}, clients at port {}",
-        frame_port(setup),
-        setup.client
-    )?;
+    writeln!(text, "this node {me}, clients at port {}", setup.client)?;
+    let addresses = given.addresses(alloc)?;
+    for (node, address) in addresses.iter().enumerate() {
+        writeln!(text, "node {node} at {address}")?;
+    }
     push_roles(&mut text, setup.config.roles())?;
     let common = of_common(alloc, &setup.config)?;
     writeln!(text, "fingerprint of cluster, nodes and roles: {common}")?;
@@ -36,14 +42,6 @@ pub fn report_of(alloc: Global, setup: &Setup) -> Result<String, AllocError> {
         )?;
     }
     Ok(text)
-}
-
-/// The port at which the node takes frames.
-fn frame_port(setup: &Setup) -> u16 {
-    match setup.nodes.as_slice().get(usize::from(setup.me.index())) {
-        Some(port) => *port,
-        None => 0,
-    }
 }
 
 /// The roles with their owners, the lowest role first.

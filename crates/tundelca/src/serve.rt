@@ -1,10 +1,12 @@
-//! The node over TCP: frames of its peers, and lines of its clients, on this machine's own address.
+//! The node over TCP: frames of its peers at its host, and lines of its clients on this machine's own address.
 
 ghost use Rattle.std.specs.Prelude.{◌≡◌, IsTrue, IfOk};
 ghost use Rattle.cluster_text.specs.Linked.{ring_of};
 ghost use Rattle.cluster_text.specs.Setups.{IsNodeSetup, IsServerSetup};
+ghost use Rattle.tundelca.specs.Hosts.{HasHosts, AreAddresses};
 
-use crate::fault::{Fault, ServeFault};
+use crate::fault::Fault;
+use crate::hosts::Given;
 use crate::keeping::restored;
 use cluster_text::cluster::Setup;
 use node_lock::SharedNode;
@@ -22,18 +24,19 @@ use std::time::{Clock, Duration};
 /// The milliseconds after which a client that sends nothing is closed.
 const IDLE: u64 = 600_000;
 
-/// Serves the node of a setup, which keeps all in memory, until a client stops it.
+/// Serves the node that is given, which keeps all in memory, until a client stops it.
 ///
 /// # Errors
 ///
 /// `Device` where a listener could not be made or has failed, and `Memory`.
-pub fn serve_in_memory<R>(rt: &R, alloc: Global, setup: Setup) -> Result<(), ServeFault>
+pub fn serve_in_memory<R>(rt: &R, alloc: Global, given: Given) -> Result<(), Fault>
 where
     R: Net<Listener = TcpListener, Stream = TcpStream> + Threads + Wait + Clock + Sync,
-    requires me { IsNodeSetup setup }
-    requires peers { IsServerSetup setup }
+    requires me { IsNodeSetup given.setup }
+    requires peers { IsServerSetup given.setup }
+    requires hosts { HasHosts given }
 {
-    serve_at::<Brand, R>(rt, alloc, Blank::new(u64::from(SEATS)), setup)
+    serve_at::<Brand, R>(rt, alloc, Blank::new(u64::from(SEATS)), given)
 }
 
 /// The same at a ledger with one part for each seat.
@@ -41,16 +44,18 @@ fn serve_at<L: Ledger + Send + Sync, R>(
     rt: &R,
     alloc: Global,
     blank: Blank,
-    setup: Setup,
-) -> Result<(), ServeFault>
+    given: Given,
+) -> Result<(), Fault>
 where
     R: Net<Listener = TcpListener, Stream = TcpStream> + Threads + Wait + Clock + Sync,
     requires name { blank.name ≡ L.name }
     requires parts { (blank.parts ≡ L.parts) × (SEATS ≡ L.parts) }
-    requires me { IsNodeSetup setup }
-    requires peers { IsServerSetup setup }
+    requires me { IsNodeSetup given.setup }
+    requires peers { IsServerSetup given.setup }
+    requires hosts { HasHosts given }
 {
-    let site = site_of(rt, alloc, &setup)?;
+    let site = site_of(rt, alloc, &given)?;
+    let Given { setup, .. } = given;
     let keys = keys_of(alloc, &setup)?;
     let node = Node::new(alloc, setup.config, setup.me)?;
     let (shared, seats) = SharedNode::<L>::new(alloc, blank, node, SEATS)?;
@@ -59,8 +64,8 @@ where
     Ok(())
 }
 
-/// Serves the node of a setup, which keeps all in its journal, until a client stops it. Nobody is answered before the
-/// journal is opened.
+/// Serves the node that is given, which keeps all in its journal, until a client stops it. Nobody is answered before
+/// the journal is opened.
 ///
 /// # Errors
 ///
@@ -69,17 +74,18 @@ where
 pub fn serve_kept<D: Disk + Drop + Send, R>(
     rt: &R,
     alloc: Global,
-    setup: Setup,
+    given: Given,
     files: Files<D>,
 ) -> Result<(), Fault>
 where
     R: Net<Listener = TcpListener, Stream = TcpStream> + Threads + Wait + Clock + Sync,
-    requires me { IsNodeSetup setup }
-    requires peers { IsServerSetup setup }
+    requires me { IsNodeSetup given.setup }
+    requires peers { IsServerSetup given.setup }
+    requires hosts { HasHosts given }
     requires beside { IsTrue (D.Disk.is_usable files.log) }
     requires usable { IsTrue (D.Disk.is_usable files.db) }
 {
-    serve_kept_at::<Brand, D, R>(rt, alloc, Blank::new(u64::from(SEATS)), setup, files)
+    serve_kept_at::<Brand, D, R>(rt, alloc, Blank::new(u64::from(SEATS)), given, files)
 }
 
 /// The same at a ledger with one part for each seat.
@@ -87,60 +93,49 @@ fn serve_kept_at<L: Ledger + Send + Sync, D: Disk + Drop + Send, R>(
     rt: &R,
     alloc: Global,
     blank: Blank,
-    setup: Setup,
+    given: Given,
     files: Files<D>,
 ) -> Result<(), Fault>
 where
     R: Net<Listener = TcpListener, Stream = TcpStream> + Threads + Wait + Clock + Sync,
     requires name { blank.name ≡ L.name }
     requires parts { (blank.parts ≡ L.parts) × (SEATS ≡ L.parts) }
-    requires me { IsNodeSetup setup }
-    requires peers { IsServerSetup setup }
+    requires me { IsNodeSetup given.setup }
+    requires peers { IsServerSetup given.setup }
+    requires hosts { HasHosts given }
     requires beside { IsTrue (D.Disk.is_usable files.log) }
     requires usable { IsTrue (D.Disk.is_usable files.db) }
 {
-    let site = site_of(rt, alloc, &setup)?;
+    let site = site_of(rt, alloc, &given)?;
+    let Given { setup, .. } = given;
     let keys = keys_of(alloc, &setup)?;
     let own = setup.own_key();
     let (node, seats) = restored::<L, D>(alloc, blank, setup.config, setup.me, &own, files)?;
-    node_server::serve(rt, alloc, node, seats, keys, site).map_err(ServeFault::from)?;
+    node_server::serve(rt, alloc, node, seats, keys, site)?;
     Ok(())
 }
 
-/// Where the node of a setup is served.
+/// Where a node is served.
 ///
 /// # Errors
 ///
 /// `Device` where a listener could not be made, and `Memory`.
-pub fn site_of<R>(rt: &R, alloc: Global, setup: &Setup) -> Result<Site, ServeFault>
+fn site_of<R>(rt: &R, alloc: Global, given: &Given) -> Result<Site, Fault>
 where
     R: Net<Listener = TcpListener, Stream = TcpStream>,
-    requires me { IsNodeSetup setup.now }
-    requires peers { IsServerSetup setup.now }
+    requires me { IsNodeSetup given.now.setup }
+    requires peers { IsServerSetup given.now.setup }
+    requires hosts { HasHosts given.now }
+    ensures { IfOk result (λ site. AreAddresses given.now site.addresses.items) }
 {
-    let ports = setup.nodes.as_slice();
-    let peers = listen(rt, local(ports[usize::from(setup.me.index())]))?;
-    let clients = listen(rt, local(setup.client))?;
+    let clients = SocketAddr::V4(SocketAddrV4::new(Ipv4Addr::LOCALHOST, given.setup.client));
     Ok(Site {
-        peers,
-        clients,
-        addresses: addresses(alloc, ports)?,
+        peers: listen(rt, given.own_address())?,
+        clients: listen(rt, clients)?,
+        addresses: given.addresses(alloc)?,
         idle: Duration::from_millis(IDLE),
+        operators: true,
     })
-}
-
-/// The addresses of ports on this machine.
-fn addresses(alloc: Global, ports: &[u16]) -> Result<Vec<SocketAddr>, AllocError> {
-    let mut made = Vec::with_capacity(alloc, ports.len())?;
-    for port in ports {
-        made.push(local(*port))?;
-    }
-    Ok(made)
-}
-
-/// The address of a port on this machine.
-fn local(port: u16) -> SocketAddr {
-    SocketAddr::V4(SocketAddrV4::new(Ipv4Addr::LOCALHOST, port))
 }
 
 /// The keys of the node of a setup, in its cluster.

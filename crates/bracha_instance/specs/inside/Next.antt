@@ -6,8 +6,8 @@ use Rattle.std.specs.FinMap as maps
 use Rattle.std.specs.FinSet as sets
 use Rattle.quorum_sizes.specs.Sizes.{Counts, echo_quorum_of, amplify_of, deliver_of}
 use Rattle.role_commands.specs.declared.command.Command.{Command}
-use Rattle.link_frames.specs.declared.kind.Kind.{Kind}
-use Rattle.link_frames.specs.declared.kind.Kind.TheVariants.{Send, Echo, Ready}
+use Rattle.link_frames.specs.declared.frames.kind.Kind.{Kind}
+use Rattle.link_frames.specs.declared.frames.kind.Kind.TheVariants.{Send, Echo, Ready}
 use Rattle.bracha_instance.specs.Broadcast.{Take, Names, is_for}
 use Rattle.bracha_instance.specs.States.{Votes, State, kept}
 use Rattle.bracha_instance.specs.Taking.{has_voted}

@@ -2,9 +2,9 @@
 use Rattle.std.specs.Prelude.{◌≡◌, ◌≢◌, ℕ, zero, suc, ◌+◌, ◌-◌, ◌*◌, ◌<◌, ◌≤◌, Bool, if◌then◌else◌, List, [], ◌∷◌, ◌++◌}
 use Rattle.std.specs.Prelude.{◌/◌, length, take, slice_get, Option, Some, None, option_map, false, IsTrue}
 use Rattle.std.specs.Option.{option_map_or}
-use Rattle.link_frames.specs.Packets.{PacketValue, packet_due}
-use Rattle.link_frames.specs.declared.kind.Kind.{Kind}
-use Rattle.link_frames.specs.declared.packet.Message.{Message}
+use Rattle.link_frames.specs.frames.Packets.{PacketValue, packet_due}
+use Rattle.link_frames.specs.declared.frames.kind.Kind.{Kind}
+use Rattle.link_frames.specs.declared.frames.packet.Message.{Message}
 use Rattle.role_node.specs.Answers.{answer_due, is_recorded, sent_by_answer}
 use Rattle.role_node.specs.Nodes.{NodeValue, with_event}
 use Rattle.role_node.specs.declared.event.Event.TheVariants.{Take}

@@ -7,7 +7,7 @@ use Rattle.role_node.specs.Configs.{ConfigValue, most_events}
 use Rattle.role_node.specs.Nodes.{NodeValue}
 use Rattle.role_node.specs.declared.event.Event.{Event}
 use Rattle.role_node.specs.declared.event.Event.TheVariants.{Issue, Take, Client}
-use Rattle.link_frames.specs.Packets.{PacketValue, IsSound, message_of, packet_due}
+use Rattle.link_frames.specs.frames.Packets.{PacketValue, IsSound, message_of, packet_due}
 use Rattle.bracha_instance.specs.declared.instance.Effect.{Effect}
 use Rattle.bracha_instance.specs.declared.instance.Effect.TheVariants.{Idle, Counted}
 use Rattle.role_node.specs.Answers.{outlook, sent_by}

@@ -1,8 +1,8 @@
 -- How unsent frames and a block of bytes are kept. Serves the code, and no public contract.
 use Rattle.std.specs.Prelude.{◌≡◌, ℕ, ◌*◌, ◌<◌, ◌≤◌, List, length, refl}
 use Rattle.std.specs.Coded.{Coded, code_by, coded×, coded_list, coded_ℕ}
-use Rattle.link_frames.specs.Layout.{frame_len}
-use Rattle.link_frames.specs.FrameStreams.{AreFrames}
+use Rattle.link_frames.specs.frames.Layout.{frame_len}
+use Rattle.link_frames.specs.frames.FrameStreams.{AreFrames}
 use Rattle.frame_queues.specs.Unsent.{UnsentValue, most_frames}
 use Rattle.frame_queues.specs.Blocks.{block_frames}
 

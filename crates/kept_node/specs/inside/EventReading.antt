@@ -5,9 +5,9 @@ use Rattle.quorum_sizes.specs.Sizes.{Counts, name_due}
 use Rattle.role_commands.specs.Numbers.{◌>>=◌}
 use Rattle.role_commands.specs.declared.command.Command.{Command}
 use Rattle.role_commands.specs.declared.command.Command.TheVariants.{Assign, Deassign, Grant, Revoke, Clear}
-use Rattle.link_frames.specs.Packets.{PacketValue, packet_due}
-use Rattle.link_frames.specs.declared.kind.Kind.{Kind}
-use Rattle.link_frames.specs.declared.kind.Kind.TheVariants.{Send, Echo, Ready}
+use Rattle.link_frames.specs.frames.Packets.{PacketValue, packet_due}
+use Rattle.link_frames.specs.declared.frames.kind.Kind.{Kind}
+use Rattle.link_frames.specs.declared.frames.kind.Kind.TheVariants.{Send, Echo, Ready}
 use Rattle.batch_journal.specs.Digits.{is_digit}
 use Rattle.role_sessions.specs.declared.event.ClientEvent.{ClientEvent}
 use Rattle.role_sessions.specs.declared.event.ClientEvent.TheVariants.{Open, Activate, DropRole, Close}

@@ -5,7 +5,7 @@ use Rattle.std.specs.Prelude.{unwrap_or, option_and_then, Option, Some, None}
 use Rattle.std.specs.FinMap as maps
 use Rattle.quorum_sizes.specs.Sizes.{Counts}
 use Rattle.role_commands.specs.declared.command.Command.{Command}
-use Rattle.link_frames.specs.declared.kind.Kind.{Kind}
+use Rattle.link_frames.specs.declared.frames.kind.Kind.{Kind}
 use Rattle.bracha_instance.specs.Broadcast.{Take}
 use Rattle.bracha_instance.specs.States.{State, state}
 use Rattle.bracha_instance.specs.NewTakes.{taken_for}

@@ -1,7 +1,7 @@
 -- How the last votes are kept. Serves the code, and no public contract.
 use Rattle.std.specs.Prelude.{◌≡◌, ℕ, ◌+◌, ◌*◌, ◌<◌, ◌≤◌, List, length, slice_index_or, All, Option, Some, None}
 use Rattle.quorum_sizes.specs.Sizes.{Counts}
-use Rattle.link_frames.specs.Packets.{PacketValue, place_count}
+use Rattle.link_frames.specs.frames.Packets.{PacketValue, place_count}
 use Rattle.owner_streams.specs.LastVotes.{last_vote}
 use Rattle.owner_streams.specs.declared.vote_ends.VoteEnds.{VoteEnds}
 

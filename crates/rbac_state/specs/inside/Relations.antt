@@ -1,16 +1,10 @@
 -- A relation as it is kept: its pairs in two ascending lists, by either side, and each of them in blocks.
-use Rattle.std.specs.Prelude.{◌≡◌, ℕ, Bool, List}
-use Rattle.std.specs.List.{list_any}
+use Rattle.std.specs.Prelude.{◌≡◌, ℕ, Bool}
 use Rattle.std.specs.List.Sorted.{IsStrictlySortedBy}
-use Rattle.std.specs.Ordering.{eq_by_cmp}
-use Rattle.std.specs.declared.cmp.Ordering.{Ordering}
-use Rattle.rbac_state.specs.inside.Pairs.{number_cmp}
-use Rattle.rbac_state.specs.inside.Blocks.{AreBlocks, items_in}
+use Rattle.sorted_pairs.specs.Lists.{is_among}
+use Rattle.sorted_pairs.specs.Pairs.{number_cmp}
+use Rattle.sorted_pairs.specs.Blocks.{AreBlocks, items_in}
 use Rattle.rbac_state.specs.declared.relation.Relation.{Relation}
-
--- the item is in the list
-abbrev pub is_among : {K : Type 0} → (K → K → Ordering) → List K → K → Bool
-is_among R items item = list_any (eq_by_cmp R item) items
 
 -- the pair is in the relation
 abbrev pub relates : {k : ℕ} → Relation k → ℕ → ℕ → Bool

@@ -3,12 +3,12 @@
 use Rattle.std.specs.Prelude.{◌≡◌, ℕ, ◌-◌, ◌^◌, ◌≤◌, ◌⊎◌, Bool, true, false, List, []}
 use Rattle.std.specs.Prelude.{◌∷◌, ◌++◌, length, ⊤, Option, None, Some, Result, Ok, Err}
 use Rattle.std.specs.Io.KnownBytes.{Consumes, Appends, IsAtEnd}
-use Rattle.link_frames.specs.Devices.{AppendsFront}
-use Rattle.link_frames.specs.Lines.{lines_of, ended, NoLineEnd}
-use Rattle.link_frames.specs.LinePrograms.{HasBytes}
-use Rattle.link_frames.specs.LinesAt.{Lines, WroteFrontOf}
-use Rattle.link_frames.specs.declared.blocks.AheadFault.{AheadFault}
-use Rattle.link_frames.specs.declared.blocks.AheadFault.TheVariants as ahead
+use Rattle.link_frames.specs.lines.Devices.{AppendsFront}
+use Rattle.link_frames.specs.lines.Lines.{lines_of, ended, NoLineEnd}
+use Rattle.link_frames.specs.lines.LinePrograms.{HasBytes}
+use Rattle.link_frames.specs.lines.LinesAt.{Lines, WroteFrontOf}
+use Rattle.link_frames.specs.declared.lines.blocks.AheadFault.{AheadFault}
+use Rattle.link_frames.specs.declared.lines.blocks.AheadFault.TheVariants as ahead
 use Rattle.role_node.specs.Nodes.{NodeValue}
 use Rattle.role_daemon.specs.Pipes.{answers_text, one_stops, stops, line_text, after_line, node_of}
 use Rattle.cluster_text.specs.Setups.{setup_due}

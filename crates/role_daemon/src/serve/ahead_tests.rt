@@ -19,7 +19,7 @@ use std::time::{Clock, Duration};
 const PLACES: u32 = 400;
 
 /// How often all is tried.
-const TIMES: u32 = 4;
+const TIMES: u32 = 2;
 
 const REACH: &[u8] = b"{\"op\":\"reach\",\"owner\":1}\n";
 

@@ -63,8 +63,8 @@ where
     Ok(stream)
 }
 
-/// Whether nobody listens at the port any more, at the last of some looks. Each look is a client that comes and goes, so
-/// there are few of them.
+/// Whether nobody listens at the port any more, at the last of some looks. Each look is a client that comes and goes,
+/// so there are few of them.
 fn has_stopped<R>(rt: &R, port: u16) -> bool
 where
     R: Net<Listener = TcpListener, Stream = TcpStream> + Clock,
@@ -113,34 +113,36 @@ where
     Ok(taken && gone && !is_closed(&peer))
 }
 
-/// Writes so many times 200 lines that are no JSON, and a stop behind them. No answer is read.
-fn say_stop_unheard(stream: &TcpStream, times: u32) {
-    let mut writer = stream;
+/// Writes so many times 200 lines that are no JSON, and a stop behind them, all at once: so nothing of it waits here
+/// for what the node takes meanwhile. No answer is read.
+fn say_stop_unheard(alloc: Global, stream: &TcpStream, times: u32) -> Result<(), Fail> {
+    let mut lines = Vec::new(alloc);
     for _ in 0..times {
-        if writer.write_all(&LINES).is_err() {
-            return;
-        }
+        lines.extend_from_slice(&LINES)?;
     }
-    let _ = writer.write_all(STOP);
+    lines.extend_from_slice(STOP)?;
+    let mut writer = stream;
+    writer.write_all(&lines)?;
+    Ok(())
 }
 
 /// Whether the node stops though the client that says so has read none of many answers.
-fn deaf_then_stop<R>(rt: &R, ports: Ports) -> Result<bool, Fail>
+fn deaf_then_stop<R>(rt: &R, alloc: Global, ports: Ports) -> Result<bool, Fail>
 where
     R: Net<Listener = TcpListener, Stream = TcpStream> + Clock,
 {
     let stream = connected_at_once(rt, ports.client)?;
-    say_stop_unheard(&stream, 200);
+    say_stop_unheard(alloc, &stream, 200)?;
     Ok(has_stopped(rt, ports.client))
 }
 
 /// The same, where the connection is reset, as it is where an answer was not read.
-fn deaf_then_reset<R>(rt: &R, ports: Ports) -> Result<bool, Fail>
+fn deaf_then_reset<R>(rt: &R, alloc: Global, ports: Ports) -> Result<bool, Fail>
 where
     R: Net<Listener = TcpListener, Stream = TcpStream> + Clock,
 {
     let stream = connected_at_once(rt, ports.client)?;
-    say_stop_unheard(&stream, 50);
+    say_stop_unheard(alloc, &stream, 50)?;
     stream.peek(&mut [0u8; 1])?;
     drop(stream);
     Ok(has_stopped(rt, ports.client))
@@ -170,8 +172,8 @@ where
 {
     match trial {
         Trial::SilentPeers => silent_peers(rt, alloc, ports),
-        Trial::DeafThenStop => deaf_then_stop(rt, ports),
-        Trial::DeafThenReset => deaf_then_reset(rt, ports),
+        Trial::DeafThenStop => deaf_then_stop(rt, alloc, ports),
+        Trial::DeafThenReset => deaf_then_reset(rt, alloc, ports),
         Trial::IdleClient => idle_client(rt, alloc, ports),
     }
 }

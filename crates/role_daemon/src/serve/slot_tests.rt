@@ -13,6 +13,9 @@ use std::time::{Clock, Duration};
 /// How many clients leave before their answers come.
 const CLIENTS: u32 = 40;
 
+/// How often a busy client says `LINES` while another leaves.
+const BUSY: u32 = 10;
+
 /// Lines whose answers differ from that to `REACH`.
 const LINES: &[u8] = b"{\"op\":\"open\",\"user\":7}\n{\"op\":\"assign\",\"user\":7,\"role\":2}\n\
     {\"op\":\"open\",\"user\":8}\n{\"op\":\"grant\",\"role\":2,\"operation\":5,\"object\":9}\n";
@@ -23,14 +26,22 @@ const OPEN: &[u8] = b"{\"op\":\"open\",\"user\":7}\n";
 
 const CHECK: &[u8] = b"{\"op\":\"check\",\"session\":1,\"user\":7,\"operation\":5,\"object\":9}\n";
 
-/// Whether each client hears the answers to its own lines, though others left at each place before theirs came.
+/// Whether each client hears the answers to its own lines, though others left at each place before theirs came, some by
+/// a reset, while a busy one has many jobs done.
 fn hears_its_own<R>(rt: &R, alloc: Global, client: u16) -> Result<bool, Fail>
 where
     R: Net<Listener = TcpListener, Stream = TcpStream> + Clock,
 {
     let mut right = true;
     for _ in 0..CLIENTS {
+        let mut busy = connected(rt, client)?;
+        for _ in 0..BUSY {
+            busy.write_all(LINES)?;
+        }
         let mut gone = connected(rt, client)?;
+        gone.write_all(LINES)?;
+        // an answer that was not read makes it a reset
+        gone.peek(&mut [0u8; 1])?;
         gone.write_all(LINES)?;
         drop(gone);
         let stream = connected(rt, client)?;
@@ -98,6 +109,16 @@ where
     Ok(answers.as_str() == "{\"error\":\"J1 NotJson\"}\n")
 }
 
+/// Whether an operator's line is none here.
+fn operator<R>(rt: &R, alloc: Global, client: u16) -> Result<bool, Fail>
+where
+    R: Net<Listener = TcpListener, Stream = TcpStream> + Clock,
+{
+    let stream = connected(rt, client)?;
+    let answer = ask(alloc, &stream, b"{\"op\":\"status\"}\n")?;
+    Ok(answer.as_str() == "{\"error\":\"J4 UnknownOp\"}\n")
+}
+
 /// Whether a node alone does as it should.
 fn is_right<R>(rt: &R, alloc: Global) -> Result<bool, Fail>
 where
@@ -115,9 +136,10 @@ where
         let asked = asks_after_a_while(rt, alloc, client)?;
         let heard = hears_its_own(rt, alloc, client)?;
         let page = web_page(rt, alloc, client)?;
+        let operator = operator(rt, alloc, client)?;
         let next = next_client(rt, alloc, client)?;
         stop(rt, alloc, client);
-        Ok(asked && heard && page && next && server.join(rt) == 0)
+        Ok(asked && heard && page && operator && next && server.join(rt) == 0)
     })
 }
 

@@ -1,8 +1,8 @@
 -- What taking the next line of a script does.
 use Rattle.std.specs.Prelude.{◌≡◌, ℕ, ◌+◌, Bool, true, false, List, ◌++◌, Option, Some, None}
 use Rattle.std.specs.Io.KnownBytes.{IsAtEnd}
-use Rattle.link_frames.specs.Lines.{ended}
-use Rattle.link_frames.specs.LinesAt.{Lines}
+use Rattle.link_frames.specs.lines.Lines.{ended}
+use Rattle.link_frames.specs.lines.LinesAt.{Lines}
 use Rattle.link_frames.proofs.Exported.{RanBetween, EndedBetween}
 use Rattle.role_lab.specs.Scripts.{Script, Unread, next}
 use Rattle.role_lab.specs.Stages.{Follows}

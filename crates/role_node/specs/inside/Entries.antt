@@ -6,10 +6,10 @@ use Rattle.std.specs.Coded.{Coded, code_by, coded×}
 use Rattle.std.proofs.Math.Nat.{add-sub_cancel_left}
 use Rattle.role_commands.specs.declared.command.Command.{Command}
 use Rattle.role_commands.specs.declared.command.Command.TheVariants.{Assign, Deassign, Grant, Revoke, Clear}
-use Rattle.link_frames.specs.Packets.{PacketValue, IsSound}
-use Rattle.link_frames.specs.declared.kind.Kind.{Kind}
-use Rattle.link_frames.specs.declared.kind.Kind.TheVariants.{Send, Echo, Ready}
-use Rattle.link_frames.specs.declared.packet.Message.{Message}
+use Rattle.link_frames.specs.frames.Packets.{PacketValue, IsSound}
+use Rattle.link_frames.specs.declared.frames.kind.Kind.{Kind}
+use Rattle.link_frames.specs.declared.frames.kind.Kind.TheVariants.{Send, Echo, Ready}
+use Rattle.link_frames.specs.declared.frames.packet.Message.{Message}
 use Rattle.owner_streams.specs.declared.steps.StreamStep.{StreamStep}
 use Rattle.role_sessions.specs.declared.event.ClientEvent.TheVariants.{Open, Activate, DropRole, Close}
 use Rattle.role_node.specs.Answers.{EntryValue}

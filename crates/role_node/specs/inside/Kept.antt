@@ -4,7 +4,7 @@ use Rattle.std.specs.Prelude.{◌++◌, map, take, slice_get, Some, Result, Ok, 
 use Rattle.quorum_sizes.specs.Sizes.{Counts}
 use Rattle.role_commands.specs.Tables.{Table}
 use Rattle.role_commands.specs.declared.command.Command.{Command}
-use Rattle.link_frames.specs.Packets.{PacketValue}
+use Rattle.link_frames.specs.frames.Packets.{PacketValue}
 use Rattle.bracha_instance.specs.declared.instance.Effect.TheVariants as effect
 use Rattle.owner_streams.specs.Places.{place_count, stream}
 use Rattle.owner_streams.specs.Steps.{SendsAreOwners}

@@ -1,7 +1,7 @@
 use Rattle.std.proofs.Common.{◌≡◌, ◌-◌, ℕ, List, false, nat_eq, length, drop, take}
 use Rattle.std.proofs.Common.{get_or, ap, sym, ◌∙◌, arith, rules, Err}
 use Rattle.std.proofs.lemmas.List.{take_rest}
-use Rattle.link_frames.specs.Hmac.{hmac}
+use Rattle.link_frames.specs.frames.Hmac.{hmac}
 use Rattle.batch_journal.specs.Batches.{batches_of}
 use Rattle.batch_journal.specs.Heads.{head_of, other_head}
 use Rattle.batch_journal.specs.Readings.{agreeing, behind_head, batch_key}

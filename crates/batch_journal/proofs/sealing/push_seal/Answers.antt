@@ -1,6 +1,6 @@
 use Rattle.std.proofs.Common.{◌≡◌, ◌++◌, [], ◌∷◌, List, ℕ, take, ap, ◌∙◌, append_assoc}
 use Rattle.std.specs.List.{flat_map}
-use Rattle.link_frames.specs.Hmac.{hmac}
+use Rattle.link_frames.specs.frames.Hmac.{hmac}
 use Rattle.batch_journal.specs.Digits.{digits_of}
 use Rattle.batch_journal.specs.Batches.{seal_of}
 use Rattle.batch_journal.proofs.sealing.push_seal.Goals as goal

@@ -1,10 +1,10 @@
 use Rattle.std.proofs.Common.{◌≡◌, ℕ, List, [], ◌∷◌, ◌++◌, length, Result, Err, ap, sym, ◌∙◌, subst, arith}
 use Rattle.std.proofs.lemmas.Grind.{common_steps}
 use Rattle.std.proofs.lemmas.List.FromFn.{map-range_with_len_more, length-map-range_with_len}
-use Rattle.link_frames.specs.KeyRings.{KeyRing}
-use Rattle.link_frames.specs.Keys.{KeysDue}
-use Rattle.link_frames.specs.declared.keys.KeyFault.{KeyFault}
-use Rattle.link_frames.specs.declared.keys.KeyFault.TheVariants.{WrongCount}
+use Rattle.link_frames.specs.frames.KeyRings.{KeyRing}
+use Rattle.link_frames.specs.frames.Keys.{KeysDue}
+use Rattle.link_frames.specs.declared.frames.keys.KeyFault.{KeyFault}
+use Rattle.link_frames.specs.declared.frames.keys.KeyFault.TheVariants.{WrongCount}
 use Rattle.byz_world.specs.LabKeys.{lab_key}
 use Rattle.byz_world.proofs.keys.lab_keys.Goals as goal
 

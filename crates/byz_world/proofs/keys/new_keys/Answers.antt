@@ -1,7 +1,7 @@
 use Rattle.std.proofs.Common.{◌≡◌, ℕ, [], ◌∷◌, ◌++◌, Option, ap, sym, ◌∙◌, arith}
 use Rattle.std.proofs.lemmas.Grind.{common_steps}
 use Rattle.std.proofs.lemmas.List.FromFn.{map-range_with_len_more}
-use Rattle.link_frames.specs.KeyRings.{KeyRing}
+use Rattle.link_frames.specs.frames.KeyRings.{KeyRing}
 use Rattle.byz_world.specs.LabKeys.{ring_due}
 use Rattle.byz_world.proofs.keys.new_keys.Goals as goal
 

@@ -1,6 +1,6 @@
 use Rattle.std.proofs.Common.{◌≡◌, ◌-◌, length, drop, arith, length-take, length-drop}
 use borrow.Rule.Slice.PartMut.{put_mid, same_len_mid}
-use Rattle.link_frames.specs.Watching.{watched_tally}
+use Rattle.link_frames.specs.lines.Watching.{watched_tally}
 use Rattle.cluster_text.proofs.FileLemmas.{filled_more}
 use Rattle.cluster_text.proofs.cluster_file.fill.Goals as goal
 

@@ -1,5 +1,5 @@
 use Rattle.std.proofs.Common.{◌-◌, length}
-use Rattle.link_frames.specs.Watching.{watched_inner, watched_tally}
+use Rattle.link_frames.specs.lines.Watching.{watched_inner, watched_tally}
 use Rattle.cluster_text.proofs.FileLemmas.{Filling}
 use Rattle.cluster_text.proofs.cluster_file.fill.Given as goal
 

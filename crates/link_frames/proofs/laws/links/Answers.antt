@@ -1,5 +1,5 @@
-use Rattle.link_frames.proofs.FrameLaws.{sealed_is_opened}
-use Rattle.link_frames.proofs.OpeningLemmas.{open_takes}
+use Rattle.link_frames.proofs.frame_lemmas.FrameLaws.{sealed_is_opened}
+use Rattle.link_frames.proofs.frame_lemmas.OpeningLemmas.{open_takes}
 use Rattle.link_frames.proofs.laws.links.Goals as goal
 
 pub returns-clause-opened : goal.returns-clause-opened

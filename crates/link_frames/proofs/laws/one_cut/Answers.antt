@@ -1,4 +1,4 @@
-use Rattle.link_frames.proofs.FrameStreamLemmas.{frames_are_one}
+use Rattle.link_frames.proofs.frame_lemmas.FrameStreamLemmas.{frames_are_one}
 use Rattle.link_frames.proofs.laws.one_cut.Goals as goal
 
 pub returns : goal.returns

@@ -1,4 +1,4 @@
-use Rattle.link_frames.proofs.FrameLaws.{one_frame, frames_differ, length-frame}
+use Rattle.link_frames.proofs.frame_lemmas.FrameLaws.{one_frame, frames_differ, length-frame}
 use Rattle.link_frames.proofs.laws.one_frame.Goals as goal
 
 pub returns-clause-one : goal.returns-clause-one

@@ -1,8 +1,8 @@
 use Rattle.std.proofs.Common.{◌≡◌, ℕ, Bool, true, ◌&&◌, get_or, sym, ap, ◌∙◌}
-use Rattle.rbac_state.specs.inside.Blocks.{items_in}
+use Rattle.sorted_pairs.specs.Blocks.{items_in}
 use Rattle.rbac_state.specs.inside.Relations.{relates}
 use Rattle.rbac_state.proofs.FirstLemmas.{find_more, find_here, find_never, and_false}
-use Rattle.rbac_state.proofs.FoundLemmas.{found_among, found_none}
+use Rattle.sorted_pairs.proofs.Exported.{found_among, found_none}
 use Rattle.rbac_state.proofs.select.first_of_many.Goals as goal
 use Rattle.rbac_state.proofs.select.first_of_many.Goals.{else-has-via-then-has+else-has-2, else-has-via-else-has}
 

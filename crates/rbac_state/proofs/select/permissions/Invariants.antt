@@ -1,7 +1,7 @@
 use Rattle.std.proofs.Common.{◌≡◌, map, filter, take}
 use Rattle.std.specs.List.{flat_map}
 use Rattle.std.specs.Ordering.{eq_by_cmp, nat_cmp}
-use Rattle.rbac_state.specs.inside.Blocks.{items_in}
+use Rattle.sorted_pairs.specs.Blocks.{items_in}
 use Rattle.rbac_state.specs.inside.Packed.{permission_of}
 use Rattle.rbac_state.proofs.select.permissions.Given as goal
 

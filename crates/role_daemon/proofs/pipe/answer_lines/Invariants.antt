@@ -1,6 +1,6 @@
-use Rattle.link_frames.specs.Watching.{watched_inner, watched_tally}
-use Rattle.link_frames.specs.Aheads.{pending}
-use Rattle.link_frames.specs.Devices.{WentOn}
+use Rattle.link_frames.specs.lines.Watching.{watched_inner, watched_tally}
+use Rattle.link_frames.specs.lines.Aheads.{pending}
+use Rattle.link_frames.specs.lines.Devices.{WentOn}
 use Rattle.link_frames.proofs.Exported.{Ran}
 use Rattle.role_daemon.specs.Pipes.{going_on}
 use Rattle.role_daemon.proofs.pipe.answer_lines.Given as goal

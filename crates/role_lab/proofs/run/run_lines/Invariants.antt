@@ -1,5 +1,5 @@
-use Rattle.link_frames.specs.LinesAt.{devices_at, lines_at}
-use Rattle.link_frames.specs.Watching.{watched_inner, watched_tally}
+use Rattle.link_frames.specs.lines.LinesAt.{devices_at, lines_at}
+use Rattle.link_frames.specs.lines.Watching.{watched_inner, watched_tally}
 use Rattle.role_lab.proofs.ScriptRunLemmas.{RunsSoFar}
 use Rattle.role_lab.proofs.run.run_lines.Given as goal
 

@@ -1,5 +1,5 @@
 use Rattle.std.proofs.Common.{◌≡◌, ◌+◌, ◌≤◌, List}
-use Rattle.link_frames.specs.Packets.{PacketValue}
+use Rattle.link_frames.specs.frames.Packets.{PacketValue}
 use Rattle.owner_streams.specs.Values.{IsStateOf}
 use Rattle.rbac_state.specs.Policies.{IsPolicyOf}
 use Rattle.role_node.specs.inside.Kept.{obeyed}

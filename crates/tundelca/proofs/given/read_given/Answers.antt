@@ -17,8 +17,8 @@ returns-clause-read g c =
     sym (c.fill.auto.buffer ∙ c.as_mut_slice.ensures.len) in
     let len : length buffer ≡ most_text_bytes + 1 = omega (arith, whole, c.in_ok-buffer.ensures.len) in
     let same = shown_buffer _ buffer _ _ c.deref.ensures.value whole in
-    let given = rw same at c.setup_given.ensures.given in
-    given_read _ _ buffer c.in_ok-count.count len c.in_ok-count.ensures.filled c.setup_given.result given
+    let given = rw same at c.given_in.ensures.given in
+    given_read _ _ buffer c.in_ok-count.count len c.in_ok-count.ensures.filled c.given_in.result given
 
 pub returns-clause-unread : goal.returns-clause-unread
-returns-clause-unread g c = not_unread _ c.setup_given.result _ c.setup_given.ensures.given
+returns-clause-unread g c = not_unread _ c.given_in.result _ c.given_in.ensures.given

@@ -1,5 +1,5 @@
 use Rattle.std.proofs.Common.{sym, ap, ◌∙◌}
-use Rattle.link_frames.specs.declared.kind.Kind.TheVariants.{Echo}
+use Rattle.link_frames.specs.declared.frames.kind.Kind.TheVariants.{Echo}
 use Rattle.bracha_instance.specs.Taking.{has_voted}
 use Rattle.bracha_instance.specs.inside.Next.{after_echo}
 use Rattle.bracha_instance.proofs.KeptInstances.{free_echo, echo_kept, ready_by_support, echo_early}

@@ -1,5 +1,5 @@
 use Rattle.std.proofs.Common.{ap, sym, ◌∙◌}
-use Rattle.link_frames.specs.declared.kind.Kind.TheVariants.{Send, Echo, Ready}
+use Rattle.link_frames.specs.declared.frames.kind.Kind.TheVariants.{Send, Echo, Ready}
 use Rattle.bracha_instance.specs.Taking.{has_voted}
 use Rattle.bracha_instance.proofs.Counting.{voted_at}
 use Rattle.bracha_instance.proofs.record.Record.voted.Goals as goal

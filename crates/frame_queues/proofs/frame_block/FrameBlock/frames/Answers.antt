@@ -1,5 +1,5 @@
 use Rattle.std.proofs.Common.{◌∙◌, ap, subst, take}
-use Rattle.link_frames.specs.FrameStreams.{AreFramesOf}
+use Rattle.link_frames.specs.frames.FrameStreams.{AreFramesOf}
 use Rattle.frame_queues.proofs.frame_block.FrameBlock.frames.Goals as goal
 
 pub returns-clause-frames : goal.returns-clause-frames

@@ -1,6 +1,6 @@
 use Rattle.std.proofs.Common.{◌%◌, ◌∙◌, ap, take}
-use Rattle.link_frames.specs.Layout.{frame_len}
-use Rattle.link_frames.specs.FrameStreams.{rest_of}
+use Rattle.link_frames.specs.frames.Layout.{frame_len}
+use Rattle.link_frames.specs.frames.FrameStreams.{rest_of}
 use Rattle.frame_queues.proofs.BlockLemmas.{rest_is_kept}
 use Rattle.frame_queues.proofs.frame_block.FrameBlock.keep_rest.Goals as goal
 

@@ -2,8 +2,8 @@ use Rattle.std.proofs.Common.{◌≡◌, ◌∙◌, ◌+◌, ◌-◌, ◌*◌, �
 use Rattle.std.proofs.Common.{length-take, length-take-le, length-append}
 use Rattle.std.proofs.lemmas.List.{with_items_is}
 use borrow.Rule.Slice.PartMut.{same_len_mid}
-use Rattle.link_frames.specs.Layout.{frame_len}
-use Rattle.link_frames.specs.FrameStreams.{rest_of}
+use Rattle.link_frames.specs.frames.Layout.{frame_len}
+use Rattle.link_frames.specs.frames.FrameStreams.{rest_of}
 use Rattle.frame_queues.specs.Blocks.{block_end}
 use Rattle.frame_queues.proofs.BlockLemmas.{rest_is_short, reads_on, reads_none, Consumes-none, says_with}
 use Rattle.frame_queues.proofs.frame_block.FrameBlock.read.Goals as goal

@@ -1,7 +1,7 @@
 use Rattle.std.proofs.Common.{◌≡◌, ◌∙◌, ◌-◌, min, ◌++◌, [], refl, sym, ap, subst, take, drop, length, arith}
 use Rattle.std.specs.List.{concat}
 use Rattle.std.proofs.lemmas.List.Elements.{All-from_get_or}
-use Rattle.link_frames.specs.Layout.{frame_len}
+use Rattle.link_frames.specs.frames.Layout.{frame_len}
 use Rattle.frame_queues.specs.Unsent.{UnsentValue, most_frames, unsent}
 use Rattle.frame_queues.proofs.UnsentLemmas.{unsent_with, all_with, unsent_behind}
 use Rattle.frame_queues.proofs.unsent_frames.UnsentFrames.push.Goals as goal

@@ -1,6 +1,6 @@
 use Rattle.std.proofs.Common.{◌≡◌, ◌∙◌, ◌*◌, ap, subst, length, arith}
-use Rattle.link_frames.specs.Layout.{frame_len}
-use Rattle.link_frames.specs.FrameStreams.{AreFrames}
+use Rattle.link_frames.specs.frames.Layout.{frame_len}
+use Rattle.link_frames.specs.frames.FrameStreams.{AreFrames}
 use Rattle.frame_queues.specs.Unsent.{UnsentValue, unsent}
 use Rattle.frame_queues.proofs.UnsentLemmas.{goes_on, part_is_there, taken_of_unsent}
 use Rattle.frame_queues.proofs.unsent_frames.UnsentFrames.write.Goals as goal

@@ -1,6 +1,6 @@
 use Rattle.std.proofs.Common.{◌≡◌, ◌+◌, ◌*◌, ◌<◌, ◌≤◌, ◌∙◌, refl, subst, length, arith}
 use Rattle.std.specs.Prelude.{max}
-use Rattle.link_frames.specs.Packets.{place_count}
+use Rattle.link_frames.specs.frames.Packets.{place_count}
 use Rattle.owner_streams.proofs.VoteEnds.{ends_push, end_read}
 use Rattle.owner_streams.proofs.vote_ends.VoteEnds.count.Goals as goal
 

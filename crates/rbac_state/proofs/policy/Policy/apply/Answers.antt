@@ -1,6 +1,6 @@
 use Rattle.std.proofs.Common.{◌≡◌, true, refl, sym, ap, ◌∙◌, map, arith}
 use Rattle.role_commands.specs.Rules.{role_of}
-use Rattle.rbac_state.specs.inside.Blocks.{items_in}
+use Rattle.sorted_pairs.specs.Blocks.{items_in}
 use Rattle.rbac_state.specs.inside.Packed.{grant_of}
 use Rattle.rbac_state.specs.Assignments.{owns}
 use Rattle.rbac_state.proofs.PairLemmas.{assigned-put, assigned-take_away, assigned-clear}

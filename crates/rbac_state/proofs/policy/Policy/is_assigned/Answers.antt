@@ -1,6 +1,6 @@
 use Rattle.std.proofs.Common.{sym, ap, ◌∙◌}
 use Rattle.std.specs.FinSet as set
-use Rattle.rbac_state.specs.inside.Blocks.{items_in}
+use Rattle.sorted_pairs.specs.Blocks.{items_in}
 use Rattle.rbac_state.specs.Policies.{assigned_in}
 use Rattle.rbac_state.proofs.PairLemmas.{assignments_total}
 use Rattle.rbac_state.proofs.policy.Policy.is_assigned.Goals as goal

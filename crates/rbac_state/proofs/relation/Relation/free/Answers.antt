@@ -1,8 +1,8 @@
 use Rattle.std.proofs.Common.{sym, ap, ◌∙◌, subst, arith}
 use Rattle.std.specs.List.Sorted.{IsStrictlySortedBy}
-use Rattle.rbac_state.specs.inside.Relations.{is_among}
-use Rattle.rbac_state.specs.inside.Pairs.{number_cmp}
-use Rattle.rbac_state.proofs.SplitLemmas.{less_room}
+use Rattle.sorted_pairs.specs.Lists.{is_among}
+use Rattle.sorted_pairs.specs.Pairs.{number_cmp}
+use Rattle.sorted_pairs.proofs.Exported.{less_room}
 use Rattle.rbac_state.proofs.relation.Relation.free.Goals as goal
 
 pub returns-in_err-make_room-clause-kept : goal.returns-in_err-make_room-clause-kept

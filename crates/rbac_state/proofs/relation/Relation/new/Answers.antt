@@ -1,6 +1,6 @@
 use Rattle.std.proofs.Common.{refl}
-use Rattle.rbac_state.proofs.SortedLemmas.{nothing_ascends}
-use Rattle.rbac_state.proofs.SplitLemmas.{no_blocks}
+use Rattle.sorted_pairs.proofs.Exported.{nothing_ascends}
+use Rattle.sorted_pairs.proofs.Exported.{no_blocks}
 use Rattle.rbac_state.proofs.relation.Relation.new.Goals as goal
 
 pub returns-clause-kept : goal.returns-clause-kept

@@ -1,8 +1,8 @@
 use Rattle.std.proofs.Common.{◌||◌, sym, ap, ◌∙◌}
 use Rattle.std.specs.Ordering.{eq_by_cmp, nat_cmp}
-use Rattle.rbac_state.specs.inside.Pairs.{number_cmp}
+use Rattle.sorted_pairs.specs.Pairs.{number_cmp}
 use Rattle.rbac_state.specs.inside.Relations.{relates}
-use Rattle.rbac_state.proofs.RelationLemmas.{pair_tied, turned}
+use Rattle.sorted_pairs.proofs.Exported.{pair_tied, turned}
 use Rattle.rbac_state.proofs.relation.Relation.put.Goals as goal
 
 pub returns-clause-kept : goal.returns-clause-kept

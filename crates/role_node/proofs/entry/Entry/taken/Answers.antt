@@ -1,6 +1,6 @@
 use Rattle.std.proofs.Common.{◌≡◌, ◌-◌, refl, sym, ap, ◌∙◌, subst, arith}
-use Rattle.link_frames.specs.Packets.{PacketValue, IsSound, message_of}
-use Rattle.link_frames.specs.declared.packet.Message.{Message}
+use Rattle.link_frames.specs.frames.Packets.{PacketValue, IsSound, message_of}
+use Rattle.link_frames.specs.declared.frames.packet.Message.{Message}
 use Rattle.role_node.specs.declared.entry.Head.{Head}
 use Rattle.role_node.specs.declared.entry.Kept.{Kept}
 use Rattle.role_node.specs.inside.Entries.{IsKept, kept_value, kept_with, packet_with}

@@ -1,0 +1,293 @@
+"""What gateway.py answers, before nodes and before what plays a node that fails. For run_all."""
+import contextlib
+import http.client
+import json
+import os
+import socket
+import subprocess
+import sys
+import tempfile
+import threading
+import time
+import urllib.error
+import urllib.request
+
+import played
+import tundelca
+
+GATEWAY = os.path.join(os.path.dirname(os.path.dirname(os.path.abspath(__file__))), "examples", "gateway.py")
+PATIENCE = 20  # seconds, for an answer of the gateway
+NODES, MAY_LIE = 4, 1
+TABLE = {
+    "tokens": {"secret": "alice"}, "users": {"alice": 7},
+    "roles": {"editor": 2, "guest": 3, "stranger": 4}, "owners": {"editor": 0, "guest": 1, "stranger": 2},
+    "operations": {"write": 5, "erase": 6}, "objects": {"report": 9, "memo": 10, "secret": 11},
+    "accepted": {"report": [0], "memo": [1]}, "may_lie": MAY_LIE,
+}
+OWNERS = {number: TABLE["owners"][name] for name, number in TABLE["roles"].items()}
+WRITE, ERASE, MEMO, SECRET = ({"operation": operation, "object": object} for operation, object in [
+    ("write", "report"), ("erase", "report"), ("write", "memo"), ("write", "secret")])
+BOTH = {"roles": ["editor", "guest"]}
+DONE, ALLOWED = (200, {"done": True}), (200, {"allow": True})
+NO_NAME = 400, {"allow": False, "why": "no such request or name"}
+CALLERS, EACH = 4, 500  # kept connections, requests on each
+LEAST = 1_000  # requests a second, where the gateway has a processor
+
+
+def judge(well, text):
+    if not well:
+        raise AssertionError(text)
+
+
+def no(why, status=200):
+    return status, {"allow": False, "why": why}
+
+
+def unwell(why):
+    return 503, {"well": False, "why": why}
+
+
+def ask(port, path, body=None, token="secret"):
+    """The status and the answer of a request to the gateway: a GET where it has no body."""
+    data = None if body is None else json.dumps(body).encode()
+    request = urllib.request.Request(
+        f"http://{tundelca.LOOPBACK}:{port}{path}", data, {"Authorization": f"Bearer {token}"})
+    try:
+        with urllib.request.urlopen(request, timeout=PATIENCE) as answer:
+            return answer.status, json.load(answer)
+    except urllib.error.HTTPError as error:
+        return error.code, json.load(error)
+
+
+def judge_all(port, rows):
+    for path, body, due in rows:
+        came = ask(port, path, body)
+        judge(came == due, f"{path} {body}: due {due}, came {came}")
+
+
+class Gateway:
+    """A gateway that runs, with its table beside its sessions."""
+
+    def __init__(self, folder, node_port, stack, table=TABLE):
+        self.port, self.path = tundelca.free_ports(1)[0], os.path.join(folder, "table.json")
+        with open(self.path, "w", encoding="ascii") as file:
+            json.dump(table, file)
+        self.words = [sys.executable, GATEWAY, str(node_port), str(self.port), self.path]
+        self.process = None
+        stack.callback(self.kill)
+
+    def start(self):
+        """Starts it and waits until it answers."""
+        self.process = subprocess.Popen(self.words, stderr=subprocess.DEVNULL)
+        over = time.monotonic() + PATIENCE
+        while time.monotonic() < over:
+            judge(self.process.poll() is None, f"the gateway ended with status {self.process.returncode}")
+            with contextlib.suppress(OSError), socket.create_connection((tundelca.LOOPBACK, self.port)):
+                return
+            time.sleep(0.02)
+        raise AssertionError("the gateway doesn't come")
+
+    def kill(self):
+        if self.process is not None:
+            self.process.kill()
+            self.process.wait()
+
+    def refuses_to_start(self):
+        """What it says where it doesn't start."""
+        ran = subprocess.run(self.words, capture_output=True, text=True, timeout=PATIENCE)
+        judge(ran.returncode == 1 and "Traceback" not in ran.stderr, ran.stderr)
+        return ran.stderr
+
+
+def is_answered(node, op, **members):
+    """Whether the node answers, and doesn't refuse."""
+    try:
+        node.ask(op, **members)
+        return True
+    except tundelca.Refused:
+        return False
+
+
+def is_open(node, session):
+    """Whether the session is open at the node."""
+    return is_answered(node, "session_roles", session=session)
+
+
+def processor_time(process):
+    """How many seconds of a processor the process has had."""
+    with open(f"/proc/{process.pid}/stat", encoding="ascii") as file:
+        return sum(map(int, file.read().rpartition(")")[2].split()[11:13])) / os.sysconf("SC_CLK_TCK")
+
+
+def requests_a_second(port):
+    """So many checks a second are allowed on kept connections, in the best of three rounds."""
+    body, wrong = json.dumps(WRITE), []
+    head = f"POST /check HTTP/1.1\r\nAuthorization: Bearer secret\r\nContent-Length: {len(body)}\r\n\r\n"
+
+    def call():
+        with socket.create_connection((tundelca.LOOPBACK, port), timeout=PATIENCE) as connection:
+            connection.setsockopt(socket.IPPROTO_TCP, socket.TCP_NODELAY, 1)
+            for _ in range(EACH):
+                connection.sendall((head + body).encode())
+                came = b""
+                while not came.endswith(b"}"):
+                    came += connection.recv(4_096) or b"}"
+                if not came.startswith(b"HTTP/1.1 200") or not came.endswith(b'{"allow": true}'):
+                    wrong.append(came)
+
+    best = 0.0
+    for _ in range(3):
+        callers = [threading.Thread(target=call) for _ in range(CALLERS)]
+        begun = time.monotonic()
+        for caller in callers:
+            caller.start()
+        for caller in callers:
+            caller.join()
+        best = max(best, CALLERS * EACH / (time.monotonic() - begun))
+    judge(not wrong, f"a check isn't allowed: {wrong[:1]}")
+    return best
+
+
+def kept_connection(port):
+    """Good and bad requests on one connection, which is kept where it is known where the next one begins."""
+    caller = http.client.HTTPConnection(tundelca.LOOPBACK, port, timeout=PATIENCE)
+    headers = {"Authorization": "Bearer secret"}
+    for body, due in [("{}", 400), ("[" * 4_000, 400), ("nothing", 400), (json.dumps(WRITE), 200)]:
+        caller.request("POST", "/check", body, headers)
+        answer = caller.getresponse()
+        answer.read()
+        judge(answer.status == due, f"{body[:20]}: due {due}, came {answer.status}")
+    caller.request("POST", "/check", "x" * 5_000, headers)
+    answer = caller.getresponse()
+    judge((answer.status, answer.will_close) == (400, True), f"too long a body: {answer.status}")
+    caller.close()
+
+
+def start_nodes(program, folder, stack):
+    """A cluster of four, in which user 7 has each role, and each role may do something. Client ports and processes."""
+    ports = tundelca.free_ports(2 * NODES)
+    clients, running = ports[NODES:], []
+    for path in tundelca.cluster_files(folder, OWNERS.items(), ports[:NODES], clients, MAY_LIE):
+        running.append(tundelca.start(program, path))
+        stack.callback(running[-1].wait)
+        stack.callback(running[-1].kill)
+    for role, owner in OWNERS.items():
+        with tundelca.Client(clients[owner]) as node:
+            node.ask("assign", user=7, role=role)
+            node.ask("grant", role=role, operation=5, object=8 + role - 1)
+            node.ask("grant", role=role, operation=6 if owner else 7, object=9)  # not its object, save the first
+    with tundelca.Client(clients[0]) as node:
+        node.ask("grant", role=2, operation=5, object=9)
+        for owner in OWNERS.values():
+            node.wait_for_reach(owner, 3 + (owner == 0))
+    return clients, running
+
+
+def before_nodes(program):
+    """Logins, decisions, owners, a gateway that is killed, many requests, nodes that go away and come again."""
+    with tempfile.TemporaryDirectory(prefix="tundelca-") as folder, contextlib.ExitStack() as stack:
+        clients, running = start_nodes(program, folder, stack)
+        gateway, node = Gateway(folder, clients[0], stack), stack.enter_context(tundelca.Client(clients[0]))
+        gateway.start()
+        port = gateway.port
+        judge(ask(port, "/check", WRITE, "guess") == no("unknown token", 401), "a guessed token")
+        judge_all(port, [
+            ("/health", None, (200, {"well": True})),
+            ("/check", WRITE, no("logged out")),
+            ("/login", BOTH, DONE),
+            ("/check", WRITE, ALLOWED),
+            ("/check", MEMO, ALLOWED),
+            ("/check", ERASE, no("N5")),  # the owner of guest grants it, and isn't accepted for the report
+            ("/check", SECRET, no("owner not accepted")),
+            ("/check", {"operation": "fly"}, NO_NAME),
+            ("/fly", {}, NO_NAME),
+            ("/login", {"roles": ["stranger"]}, no("owner not accepted", 403)),
+            ("/login", {"roles": ["king"]}, NO_NAME),
+            ("/check", WRITE, ALLOWED),
+            ("/login", {"roles": ["guest"]}, DONE),
+            ("/check", WRITE, no("owner not accepted")),
+            ("/check", MEMO, ALLOWED),
+            ("/logout", {}, DONE),
+            ("/check", WRITE, no("logged out")),
+        ])
+        judge(not any(is_open(node, session) for session in range(1, 4)), "a session is left open")
+        judge_all(port, [("/login", BOTH, DONE), ("/check", WRITE, ALLOWED)])
+        judge(is_open(node, 4) and is_open(node, 5), "there are no two sessions")
+        judge("another gateway" in gateway.refuses_to_start(), "two gateways have one file")
+        gateway.kill()
+        gateway.start()
+        judge(not is_open(node, 4) and not is_open(node, 5), "a killed gateway left sessions open")
+        judge_all(port, [("/check", WRITE, no("logged out")), ("/login", BOTH, DONE)])
+        kept_connection(port)
+        before = processor_time(gateway.process)
+        rate = requests_a_second(port)
+        spent = processor_time(gateway.process) - before
+        said = f"{rate:,.0f} requests a second, {3 * CALLERS * EACH / spent:,.0f} in a second of its processor"
+        judge(max(rate, 3 * CALLERS * EACH / spent) >= LEAST, said)
+        if is_answered(node, "status"):
+            for process in running[2:]:
+                process.kill()
+                process.wait()
+            time.sleep(1.5)
+            judge_all(port, [("/check", WRITE, no("the node hears too few", 503)),
+                             ("/health", None, unwell("the node hears too few"))])
+        judge(tundelca.stop(clients[0], running[0]) == 0, "the node didn't stop")
+        time.sleep(1.1)
+        judge_all(port, [("/check", WRITE, no("the node doesn't answer", 503)),
+                         ("/login", BOTH, no("the node doesn't answer", 503)),
+                         ("/health", None, unwell("the node doesn't answer"))])
+        stack.enter_context(allowing([clients[0], *tundelca.free_ports(NODES - 1)]))
+        time.sleep(1.1)
+        judge_all(port, [("/health", None, (200, {"well": True})), ("/login", BOTH, DONE), ("/check", WRITE, ALLOWED)])
+    return said
+
+
+def allowing(ports):
+    """Nodes that a script plays. The first allows everything."""
+    cluster = played.Played(ports, OWNERS)
+    cluster.nodes[0].on_activate = lambda _: {"done": True}
+    cluster.nodes[0].on_check = lambda _: {"allow": True, "at": 1, "role": 2}
+    return cluster
+
+
+def peer(heard=True, connected=True):
+    """What a node tells of a peer."""
+    return {"heard": heard, "connected": connected}
+
+
+def before_a_node_that_fails():
+    """It denies where the node is full, hears too few, has lost its disk, speaks nonsense or is silent."""
+    with tempfile.TemporaryDirectory(prefix="tundelca-") as folder, contextlib.ExitStack() as stack:
+        node, asked = stack.enter_context(allowing(tundelca.free_ports(NODES))).nodes[0], []
+        well = node.on_status
+        node.on_status = lambda line: asked.append(line) or well(line)
+        gateway = Gateway(folder, node.port, stack)
+        gateway.start()
+        judge_all(gateway.port, [("/login", BOTH, DONE), ("/check", WRITE, ALLOWED), ("/check", WRITE, ALLOWED)])
+        judge(len(asked) <= 3, f"status was asked {len(asked)} times")
+        rows = [
+            ({"at": 8, "limit": 8}, "the node is full"),
+            ({"peers": [None, peer(), peer(heard=False), peer(heard=False)]}, "the node hears too few"),
+            ({"peers": [None, peer(), peer(heard=False), peer(connected=False)]}, "the node hears too few"),
+            ({"peers": [None, peer(), peer(), peer(heard=False, connected=False)]}, None),
+            ({"journal": {"sound": False}}, "the node's disk has failed"),
+            ({"peers": None}, "the node doesn't answer"),
+            ({"journal": {"sound": True}, "more": 1}, None),
+        ]
+        for changed, why in rows:
+            node.changed = changed
+            time.sleep(1.1)
+            judge_all(gateway.port, [("/check", WRITE, ALLOWED if why is None else no(why, 503))])
+        node.mute = True
+        begun = time.monotonic()
+        judge_all(gateway.port, [("/check", WRITE, no("the node doesn't answer", 503))])
+        judge(time.monotonic() - begun < 5.0, "a silent node is waited for too long")
+        node.mute = False
+        time.sleep(1.1)
+        judge_all(gateway.port, [("/check", WRITE, ALLOWED)])
+        for name, value in [("owners", {"king": 0}), ("accepted", {"castle": [0]})]:
+            wrong = Gateway(folder, node.port, stack, {**TABLE, name: value})
+            wrong.path = wrong.words[-1] = wrong.path + "." + name
+            os.rename(gateway.path, wrong.path)
+            judge("isn't there" in wrong.refuses_to_start(), f"a table with wrong {name} is taken")
+    return f"{len(rows) + 1} failures"

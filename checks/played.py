@@ -1,0 +1,144 @@
+"""Nodes that a script plays: they answer clients by what they are told to be, so also as no correct node would.
+
+For the trials of tools (tools_tried.py). What is published at a played node is delivered at once at all that stand.
+"""
+import contextlib
+import json
+import socket
+import socketserver
+import threading
+import time
+
+import tundelca
+
+SIZE = 100  # of a page of sessions
+
+
+class Played:
+    """A cluster whose nodes a script plays. Role r belongs to node `owners[r]`."""
+
+    def __init__(self, ports, owners):
+        self.streams = [[] for _ in ports]
+        self.lock, self.owners = threading.Lock(), owners
+        self.nodes = [Node(self, me, port) for me, port in enumerate(ports)]
+
+    def __enter__(self):
+        return self
+
+    def __exit__(self, *_):
+        for node in self.nodes:
+            node.end()
+
+
+class Node:
+    """A played node. `lacks` commands of each owner it hasn't; `changed` are members of its status that it says so.
+
+    Where `mute`, it takes lines and answers none; `garbage` is said in place of each answer; `drips` is how many
+    seconds go by before each byte of an answer.
+    """
+
+    def __init__(self, cluster, me, port):
+        self.cluster, self.me, self.port = cluster, me, port
+        self.lacks, self.changed, self.sessions, self.newest = {}, {}, {}, 0
+        self.mute, self.garbage, self.drips, self.connections = False, None, None, []
+        node = self
+
+        class Handler(socketserver.StreamRequestHandler):
+            def handle(self):
+                node.connections.append(self.connection)
+                for line in self.rfile:
+                    answer = node.answer(line) or b""
+                    if node.drips is None:
+                        self.wfile.write(answer)
+                        continue
+                    for byte in answer:
+                        time.sleep(node.drips)
+                        self.wfile.write(bytes([byte]))
+
+        class Server(socketserver.ThreadingTCPServer):
+            allow_reuse_address, daemon_threads = True, True
+
+            def handle_error(self, *_):
+                pass
+
+        self.server = Server((tundelca.LOOPBACK, port), Handler)
+        threading.Thread(target=self.server.serve_forever, kwargs={"poll_interval": 0.02}, daemon=True).start()
+
+    def end(self):
+        """Ends it, and all its connections."""
+        self.server.shutdown()
+        self.server.server_close()
+        for connection in self.connections:
+            with contextlib.suppress(OSError):
+                connection.shutdown(socket.SHUT_RDWR)
+
+    def answer(self, line):
+        if self.mute:
+            return None
+        if self.garbage is not None:
+            return self.garbage
+        with self.cluster.lock:
+            return json.dumps(self.said(json.loads(line)), separators=(",", ":")).encode() + b"\n"
+
+    def said(self, asked):
+        """What is answered."""
+        call = getattr(self, f"on_{asked['op']}", None)
+        if asked["op"] in tundelca.PUBLISHED:
+            return self.publish(asked)
+        return {"error": "J4 UnknownOp"} if call is None else call(asked)
+
+    def reach(self, owner):
+        return len(self.cluster.streams[owner]) - self.lacks.get(owner, 0)
+
+    def publish(self, asked):
+        if self.cluster.owners.get(asked["role"]) != self.me:
+            return {"error": "F1 NotMine"}
+        names = [name for name in ("object", "operation", "role", "user") if name in asked]
+        self.cluster.streams[self.me].append({"op": asked["op"], **{name: asked[name] for name in names}})
+        return {"issued": len(self.cluster.streams[self.me]) - 1, "reach": self.reach(self.me)}
+
+    def on_status(self, _):
+        count = len(self.cluster.nodes)
+        peer = {"again": 0, "connected": True, "heard": True, "lost": 0, "unopened": 0, "waiting": 0}
+        said = {"at": sum(map(len, self.cluster.streams)) * (2 * count + 1), "journal": None, "limit": 4_194_304,
+                "peers": [None if name == self.me else dict(peer) for name in range(count)],
+                "published": len(self.cluster.streams[self.me]), "reaches": [self.reach(o) for o in range(count)],
+                "sessions": len(self.sessions), "unopened": 0}
+        return {**said, **self.changed}
+
+    def on_reach(self, asked):
+        if asked["owner"] >= len(self.cluster.streams):
+            return {"error": "J6 OutOfRange", "name": "owner"}
+        return {"reach": self.reach(asked["owner"])}
+
+    def on_command(self, asked):
+        owner, place = asked["owner"], asked["place"]
+        return {"command": self.cluster.streams[owner][place] if place < self.reach(owner) else None}
+
+    def on_sessions(self, asked):
+        found = sorted(pair for pair in self.sessions.items() if pair[0] >= asked["from"])
+        return {"at": 1, "sessions": [list(pair) for pair in found[:SIZE]]}
+
+    def on_open(self, asked):
+        self.newest += 1
+        self.sessions[self.newest] = asked["user"]
+        return {"session": self.newest}
+
+    def on_close(self, asked):
+        if self.sessions.get(asked["session"]) != asked["user"]:
+            return {"error": "N1 NoSession"}
+        del self.sessions[asked["session"]]
+        return {"done": True}
+
+    def on_assigned_users(self, asked):
+        users = set()
+        for command in self.cluster.streams[self.cluster.owners.get(asked["role"], 0)]:
+            if command["role"] == asked["role"] and command["op"] == "assign":
+                users.add(command["user"])
+            elif command["role"] == asked["role"] and command["op"] == "deassign":
+                users.discard(command["user"])
+        return {"at": 1, "users": sorted(users)}
+
+    def on_role_permissions(self, asked):
+        return {"at": 1, "permissions": sorted({(row["operation"], row["object"]) for row in self.cluster.streams[
+            self.cluster.owners.get(asked["role"], 0)] if row["op"] == "grant" and row["role"] == asked["role"]})}

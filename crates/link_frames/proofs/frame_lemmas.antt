@@ -1,0 +1,14 @@
+pub mod BlockWords
+pub mod Choices
+pub mod FourLanes
+pub mod FrameLaws
+pub mod FrameReadLemmas
+pub mod FrameStreamLemmas
+pub mod OpeningLemmas
+pub mod PacketReading
+pub mod Rotations
+pub mod Rounds
+pub mod SameTags
+pub mod ScheduleWords
+pub mod TagLemmas
+pub mod Turns

@@ -1,0 +1,10 @@
+pub mod AheadLemmas
+pub mod CallLemmas
+pub mod LineEndLemmas
+pub mod LineLemmas
+pub mod ListTextLemmas
+pub mod PassedLineLemmas
+pub mod ProgramEndLemmas
+pub mod ProgramRunLemmas
+pub mod TextLemmas
+pub mod WriteLemmas

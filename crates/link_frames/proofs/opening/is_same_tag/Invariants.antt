@@ -1,5 +1,0 @@
-use Rattle.link_frames.proofs.SameTags.{Compared}
-use Rattle.link_frames.proofs.opening.is_same_tag.Given as goal
-
-abbrev pub invariant-loop-i : goal.invariant-loop-i
-invariant-loop-i l = Compared l.a l.b l.i l.differences

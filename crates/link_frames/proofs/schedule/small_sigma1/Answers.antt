@@ -1,6 +1,0 @@
-use Rattle.std.proofs.Common.{refl}
-use Rattle.link_frames.proofs.FourLanes.{four}
-use Rattle.link_frames.proofs.schedule.small_sigma1.Goals as goal
-
-pub returns : goal.returns
-returns c = rw (four c.args.words c.fits-words.0) refl

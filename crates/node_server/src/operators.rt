@@ -1,0 +1,108 @@
+//! What an operator hears of the node.
+
+ghost use Rattle.std.specs.Prelude.{◌≡◌, IfSome};
+ghost use Rattle.node_server.specs.Told.{IsAnswerOf};
+
+use crate::behind::HeldNode;
+use crate::server::{Server, millis};
+use frame_queues::FrameKeys;
+use operator_lines::{
+    JournalStanding, OperatorAnswer, OperatorRequest, PeerStanding, Status, command_at,
+    sessions_of, standing_of,
+};
+use role_commands::Items;
+use role_node::Node;
+use std::alloc::{AllocError, Global};
+use std::sync::Wait;
+use std::time::Clock;
+
+impl<N: HeldNode, K: FrameKeys, R: Wait + Clock> Server<'_, N, K, R> {
+    /// What an operator hears, of what is kept. Nothing is said for want of memory, and where something is not kept.
+    pub fn operator_answer(&self, request: OperatorRequest) -> Option<OperatorAnswer> {
+        let answer = self.kept_answer(request)?;
+        match answer {
+            OperatorAnswer::Status(status) => Some(OperatorAnswer::Status(self.with_links(
+                status,
+            )?)),
+            answer => Some(answer),
+        }
+    }
+
+    /// What the node itself answers, under the lock, once all that it recorded is kept.
+    fn kept_answer(&self, request: OperatorRequest) -> Option<OperatorAnswer> {
+        let has_turn = self.begin_turn();
+        let mut node = self.node.lock(self.rt);
+        // where that fails nothing is said, and the next batch ends the node
+        let _ = self.keep(&mut *node);
+        let answer = node
+            .kept()
+            .and_then(|node| node_answer(self.alloc, node, request));
+        drop(node);
+        self.end_turn(has_turn);
+        answer
+    }
+
+    /// How the node stands, with its journal and its peers.
+    fn with_links(&self, status: Status) -> Option<Status>
+        ensures { IfSome result (λ s. s.node ≡ status.node) }
+    {
+        let mut peers = self.peer_standings().ok()?;
+        let heard = self.heard.lock(self.rt);
+        heard.add_to(&mut peers, millis(self.rt));
+        let unopened = heard.unopened;
+        drop(heard);
+        Some(Status {
+            node: status.node,
+            journal: self.journal_standing(),
+            peers: Items::new(peers),
+            unopened,
+        })
+    }
+
+    /// How the connections to the peers stand, by the peers' indices; none to the node itself.
+    fn peer_standings(&self) -> Result<Vec<Option<PeerStanding>>, AllocError> {
+        let nodes = usize::from(self.keys.sizes().n());
+        let mut peers = Vec::from_elem(self.alloc, None, nodes)?;
+        for outbox in &self.outboxes {
+            if let Some(peer) = peers.get_mut(usize::from(outbox.to.index())) {
+                *peer = Some(outbox.standing(self.rt));
+            }
+        }
+        Ok(peers)
+    }
+
+    /// How the journal stands, where there is one.
+    fn journal_standing(&self) -> Option<JournalStanding> {
+        if !N::may_sync_long() {
+            return None;
+        }
+        let times = self.syncs.lock(self.rt).times();
+        let sound = !self.crew.lock(self.rt).failed;
+        Some(JournalStanding { times, sound })
+    }
+}
+
+/// What a node answers to an operator; its links are left out. Nothing for want of memory, and where the owner is no
+/// node of its sizes.
+fn node_answer(alloc: Global, node: &Node, request: OperatorRequest) -> Option<OperatorAnswer>
+    ensures { IfSome result (IsAnswerOf node.now request) }
+{
+    match request {
+        OperatorRequest::Status => Some(OperatorAnswer::Status(Status {
+            node: standing_of(alloc, node).ok()?,
+            journal: None,
+            peers: Items::new(Vec::new(alloc)),
+            unopened: 0,
+        })),
+        OperatorRequest::Command { owner, place } => {
+            if !node.config().roles().sizes().has(owner) {
+                return None;
+            }
+            Some(OperatorAnswer::Command(command_at(node, owner, place)))
+        }
+        OperatorRequest::Sessions { from } => Some(OperatorAnswer::Sessions {
+            at: node.events(),
+            sessions: sessions_of(node, from).ok()?,
+        }),
+    }
+}

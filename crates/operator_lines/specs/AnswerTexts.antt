@@ -1,0 +1,85 @@
+-- How an answer is written: a compact JSON object, with its names in ascending order.
+use Rattle.std.specs.Prelude.{ℕ, Bool, true, false, List, ◌++◌, codes, Option, Some, None}
+use Rattle.std.specs.Fmt.{decimal}
+use Rattle.std.specs.List.{join_by}
+use Rattle.role_commands.specs.declared.command.Command as commands
+use Rattle.role_commands.specs.declared.command.Command.TheVariants as command
+use Rattle.operator_lines.specs.Members.{member_name}
+use Rattle.operator_lines.specs.Faults.{operator_fault_text, named_member}
+use Rattle.operator_lines.specs.declared.member.OperatorMember.{OperatorMember}
+use Rattle.operator_lines.specs.declared.answer.JournalStanding as journals
+use Rattle.operator_lines.specs.declared.answer.PeerStanding as peers
+use Rattle.operator_lines.specs.declared.answer.Status as statuses
+use Rattle.operator_lines.specs.declared.answer.OperatorAnswer.{OperatorAnswer}
+use Rattle.operator_lines.specs.declared.answer.OperatorAnswer.TheVariants.{Status, Command, Sessions, BadLine}
+
+abbrev pub flag_text : Bool → List ℕ
+flag_text true = codes "true"
+flag_text false = codes "false"
+
+abbrev pub or_null : {A : Type 0} → (A → List ℕ) → Option A → List ℕ
+or_null text None = codes "null"
+or_null text (Some x) = text x
+
+abbrev pub journal_text : journals.JournalStanding → List ℕ
+journal_text j =
+    codes "{\"last\":" ++ decimal j.times.last ++ codes ",\"mean\":" ++ decimal j.times.mean
+    ++ codes ",\"sound\":" ++ flag_text j.sound ++ codes ",\"syncs\":" ++ decimal j.times.syncs
+    ++ codes ",\"worst\":" ++ decimal j.times.worst ++ codes "}"
+
+abbrev pub peer_text : peers.PeerStanding → List ℕ
+peer_text p =
+    codes "{\"again\":" ++ decimal p.again ++ codes ",\"connected\":" ++ flag_text p.connected
+    ++ codes ",\"heard\":" ++ flag_text p.heard ++ codes ",\"lost\":" ++ decimal p.lost
+    ++ codes ",\"unopened\":" ++ decimal p.unopened ++ codes ",\"waiting\":" ++ decimal p.waiting ++ codes "}"
+
+abbrev pub status_text : statuses.Status → List ℕ
+status_text s =
+    codes "{\"at\":" ++ decimal s.node.at
+    ++ codes ",\"journal\":" ++ or_null journal_text s.journal
+    ++ codes ",\"limit\":" ++ decimal s.node.limit
+    ++ codes ",\"peers\":[" ++ join_by (or_null peer_text) (codes ",") s.peers
+    ++ codes "],\"published\":" ++ decimal s.node.published
+    ++ codes ",\"reaches\":[" ++ join_by decimal (codes ",") s.node.reaches
+    ++ codes "],\"sessions\":" ++ decimal s.node.sessions
+    ++ codes ",\"unopened\":" ++ decimal s.unopened ++ codes "}"
+
+abbrev pub user_text : List ℕ → ℕ → ℕ → List ℕ
+user_text op user role =
+    codes "{\"op\":\"" ++ op ++ codes "\",\"role\":" ++ decimal role ++ codes ",\"user\":" ++ decimal user
+    ++ codes "}"
+
+abbrev pub permission_text : List ℕ → ℕ → ℕ → ℕ → List ℕ
+permission_text op role operation object =
+    codes "{\"object\":" ++ decimal object ++ codes ",\"op\":\"" ++ op ++ codes "\",\"operation\":"
+    ++ decimal operation ++ codes ",\"role\":" ++ decimal role ++ codes "}"
+
+abbrev pub clear_text : ℕ → List ℕ
+clear_text role = codes "{\"op\":\"clear\",\"role\":" ++ decimal role ++ codes "}"
+
+abbrev pub command_text : commands.Command → List ℕ
+command_text (command.Assign user role) = user_text (codes "assign") user role
+command_text (command.Deassign user role) = user_text (codes "deassign") user role
+command_text (command.Grant role operation object) = permission_text (codes "grant") role operation object
+command_text (command.Revoke role operation object) = permission_text (codes "revoke") role operation object
+command_text (command.Clear role) = clear_text role
+
+-- a session and its user
+abbrev pub session_text : ℕ × ℕ → List ℕ
+session_text s = codes "[" ++ decimal s.0 ++ codes "," ++ decimal s.1 ++ codes "]"
+
+abbrev pub sessions_text : ℕ → List (ℕ × ℕ) → List ℕ
+sessions_text at sessions =
+    codes "{\"at\":" ++ decimal at ++ codes ",\"sessions\":[" ++ join_by session_text (codes ",") sessions ++ codes "]}"
+
+-- a fault, and the member that it names
+abbrev pub error_text : List ℕ → Option OperatorMember → List ℕ
+error_text fault None = codes "{\"error\":\"" ++ fault ++ codes "\"}"
+error_text fault (Some member) =
+    codes "{\"error\":\"" ++ fault ++ codes "\",\"name\":\"" ++ member_name member ++ codes "\"}"
+
+abbrev pub operator_text : OperatorAnswer → List ℕ
+operator_text (Status status) = status_text status
+operator_text (Command command) = codes "{\"command\":" ++ or_null command_text command ++ codes "}"
+operator_text (Sessions at sessions) = sessions_text at sessions
+operator_text (BadLine fault) = error_text (operator_fault_text fault) (named_member fault)

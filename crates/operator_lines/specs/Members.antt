@@ -1,0 +1,9 @@
+-- The members of operators' lines.
+use Rattle.std.specs.Prelude.{ℕ, List, codes}
+use Rattle.operator_lines.specs.declared.member.OperatorMember.{OperatorMember}
+use Rattle.operator_lines.specs.declared.member.OperatorMember.TheVariants.{Owner, Place, From}
+
+abbrev pub member_name : OperatorMember → List ℕ
+member_name Owner = codes "owner"
+member_name Place = codes "place"
+member_name From = codes "from"

@@ -1,0 +1,74 @@
+-- What an operator's line asks, beside the clients' table: an object whose `op` is one of three names. An operation
+-- reads its members in their order, and the first that is absent or out of its range is the fault.
+use Rattle.std.specs.Prelude.{ℕ, ◌-◌, ◌^◌, ◌<◌, ⊤, nat_lt, if◌then◌else◌, List, length, codes}
+use Rattle.std.specs.Prelude.{Option, Some, None, option_and_then, Result, Ok, Err}
+use Rattle.std.specs.Str.{bytes_eq}
+use Rattle.serde_json.specs.Data.{Data}
+use Rattle.serde_json.specs.Find.{get, as_str}
+use Rattle.quorum_sizes.specs.Sizes.{Counts}
+use Rattle.client_lines.specs.Results.{◌>>=◌}
+use Rattle.client_lines.specs.Members.{member_of, number_in}
+use Rattle.client_lines.specs.Json.{json_of}
+use Rattle.client_lines.specs.Requests.{most_line_bytes}
+use Rattle.client_lines.specs.declared.member.Member.TheVariants.{Op}
+use Rattle.client_lines.specs.declared.member.MemberFault.{MemberFault}
+use Rattle.client_lines.specs.declared.member.MemberFault.TheVariants as member
+use Rattle.operator_lines.specs.Members.{member_name}
+use Rattle.operator_lines.specs.declared.member.OperatorMember.{OperatorMember}
+use Rattle.operator_lines.specs.declared.member.OperatorMember.TheVariants.{Owner, Place, From}
+use Rattle.operator_lines.specs.declared.fault.OperatorFault.{OperatorFault}
+use Rattle.operator_lines.specs.declared.fault.OperatorFault.TheVariants.{Missing, OutOfRange}
+use Rattle.operator_lines.specs.declared.request.OperatorRequest.{OperatorRequest}
+use Rattle.operator_lines.specs.declared.request.OperatorRequest.TheVariants.{Status, Command, Sessions}
+
+-- the greatest number that a line may name as a place
+abbrev pub most_place : ℕ
+most_place = 2 ^ 53
+
+-- a line's fault names the member
+abbrev pub or_fault : OperatorMember → Result ℕ MemberFault → Result ℕ OperatorFault
+or_fault m (Ok n) = Ok n
+or_fault m (Err member.Missing) = Err (Missing m)
+or_fault m (Err member.OutOfRange) = Err (OutOfRange m)
+
+-- the whole number of the member, where it is no more than `most`
+unfoldable pub number_of : OperatorMember → ℕ → Data → Result ℕ OperatorFault
+number_of m most line = or_fault m (number_in most (get (member_name m) line))
+
+-- an owner is one of the nodes
+abbrev pub owner_of : Counts → Data → Result ℕ OperatorFault
+owner_of s = number_of Owner (s.nodes - 1)
+
+unfoldable pub command_of : Counts → Data → Result OperatorRequest OperatorFault
+command_of s line = do
+  owner ← owner_of s line
+  place ← number_of Place most_place line
+  Ok (Command owner place)
+
+unfoldable pub sessions_of : Data → Result OperatorRequest OperatorFault
+sessions_of line = do
+  from ← number_of From (2 ^ 64 - 1) line
+  Ok (Sessions from)
+
+-- what a line asks whose `op` is this name
+abbrev pub request_named : Counts → Data → List ℕ → Option (Result OperatorRequest OperatorFault)
+request_named s line name =
+    if bytes_eq name (codes "status") then Some (Ok Status)
+    else (if bytes_eq name (codes "command") then Some (command_of s line)
+    else (if bytes_eq name (codes "sessions") then Some (sessions_of line)
+    else None))
+
+-- what a line asks that is this value
+unfoldable pub request_in : Counts → Data → Option (Result OperatorRequest OperatorFault)
+request_in s line = option_and_then (request_named s line) (option_and_then as_str (member_of Op line))
+
+-- what a line of these bytes asks of a node of these sizes, or the first fault that holds; none, if it is no operator's
+unfoldable pub operator_due : Counts → List ℕ → Option (Result OperatorRequest OperatorFault)
+operator_due s bytes =
+    if nat_lt most_line_bytes (length bytes) then None else option_and_then (request_in s) (json_of bytes)
+
+-- an owner that it names is a node
+abbrev pub NamesNode : Counts → OperatorRequest → Type 0
+NamesNode s Status = ⊤
+NamesNode s (Command owner place) = owner < s.nodes
+NamesNode s (Sessions from) = ⊤

@@ -1,0 +1,32 @@
+-- What is told of a node.
+use Rattle.std.specs.Prelude.{ℕ, List, length, map}
+use Rattle.std.specs.List.{range_with_len}
+use Rattle.std.specs.FinMap as finite
+use Rattle.role_sessions.specs.Listed.{listed_from}
+use Rattle.role_node.specs.Nodes.{NodeValue}
+use Rattle.role_node.specs.Histories.{issued}
+use Rattle.role_node.specs.Access.{reach_at, sessions_at}
+use Rattle.operator_lines.specs.declared.standing.NodeStanding.{NodeStanding}
+
+-- so many sessions are listed at once
+abbrev pub most_sessions : ℕ
+most_sessions = 100
+
+-- how far the stream of each node of the sizes reaches, by its index
+abbrev pub reaches_at : NodeValue → List ℕ
+reaches_at node =
+    map (reach_at node.config.roles.sizes node.history) (range_with_len 0 node.config.roles.sizes.nodes)
+
+abbrev pub standing_at : NodeValue → NodeStanding
+standing_at node =
+    record {
+      at = length node.history;
+      limit = node.config.limit;
+      published = length (issued node.history);
+      sessions = finite.len (sessions_at node.history).open_sessions;
+      reaches = reaches_at node;
+    }
+
+-- the open sessions from an id on, each with its user
+abbrev pub sessions_from : NodeValue → ℕ → List (ℕ × ℕ)
+sessions_from node from = listed_from (sessions_at node.history).open_sessions from most_sessions

@@ -1,0 +1,41 @@
+//! The members of operators' lines.
+
+ghost use Rattle.std.specs.Prelude.{◌≡◌};
+ghost use Rattle.operator_lines.specs.Members.{member_name};
+
+use std::fmt;
+
+/// A member of an operator's line. Written as its name.
+#[derive(Clone, Copy, Debug, PartialEq, Eq)]
+pub enum OperatorMember {
+    /// The owner of a stream.
+    Owner,
+    /// A place of it.
+    Place,
+    /// The least id of a session.
+    From,
+}
+
+impl OperatorMember {
+    /// The name that it has in the line.
+    pub fn name(&self) -> &'static str
+        ensures { result.now ≡ member_name self.now }
+    {
+        match self {
+            OperatorMember::Owner => "owner",
+            OperatorMember::Place => "place",
+            OperatorMember::From => "from",
+        }
+    }
+}
+
+impl fmt::Display for OperatorMember {
+    ghost use Rattle.std.specs.Prelude.{Some};
+    ghost use Rattle.operator_lines.specs.Members.{member_name};
+
+    ghost output = { λ member. Some (member_name member) };
+
+    fn fmt<W: fmt::Write>(&self, f: &mut fmt::Formatter<W>) -> fmt::Result {
+        f.write_str(self.name())
+    }
+}

@@ -1,9 +1,0 @@
-use Rattle.std.proofs.Common.{drop, ap, ◌∙◌}
-use Rattle.std.proofs.lemmas.List.{take_rest}
-use Rattle.rbac_state.proofs.BlockLemmas.{drop_first}
-use Rattle.rbac_state.proofs.blocks.later.Goals as goal
-
-pub returns : goal.returns
-returns g c =
-    take_rest c.args.blocks.now c.min.result ∙ ap (λ k. drop k c.args.blocks.now) c.min.ensures
-    ∙ drop_first c.args.blocks.now

@@ -1,9 +1,0 @@
-use Rattle.std.proofs.Common.{◌-◌, ◌<◌}
-use Rattle.rbac_state.specs.inside.Searches.{IsSearching}
-use Rattle.rbac_state.proofs.search.place.Given as goal
-
-abbrev pub invariant-loop-size : goal.invariant-loop-size
-invariant-loop-size g l = (64 < l.size) × IsSearching (g.P.Predicate.passes l.test) l.base l.size l.items
-
-abbrev pub decreases-loop-size : goal.decreases-loop-size
-decreases-loop-size g l = l.size - 512

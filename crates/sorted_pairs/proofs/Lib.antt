@@ -1,0 +1,16 @@
+pub mod Members
+pub mod NumberLemmas
+pub mod PairLemmas
+pub mod SearchLemmas
+pub mod SortedLemmas
+pub mod RangeLemmas
+pub mod EachLemmas
+pub mod BlockLemmas
+pub mod PlaceLemmas
+pub mod SplitLemmas
+pub mod KeepLemmas
+pub mod PickLemmas
+pub mod KeyRangeLemmas
+pub mod TurnedLemmas
+pub mod FoundLemmas
+pub mod Exported

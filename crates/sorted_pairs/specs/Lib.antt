@@ -1,0 +1,5 @@
+pub mod Lists
+pub mod Pairs
+pub mod Blocks
+pub mod KeyRanges
+pub mod inside

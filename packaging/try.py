@@ -1,0 +1,212 @@
+#!/usr/bin/env python3
+"""Makes the package, unpacks it into a scratch root, and runs a cluster from it: packaging/try.py [TUNDELCA ROLE_LAB]
+
+Nothing is installed, no service manager is started and nothing runs as another user: the programs are started directly,
+with the words of the unit, which is otherwise judged by reading it. Prints a line for each part and last
+`packaging: N passed, M failed`.
+"""
+import configparser
+import contextlib
+import gzip
+import hashlib
+import json
+import os
+import re
+import shutil
+import subprocess
+import sys
+import tempfile
+import time
+
+HERE = os.path.dirname(os.path.abspath(__file__))
+PATIENCE = 120  # seconds, for a program
+NODES, ROLE = 4, "2=0"
+HARDENED = {
+    "User": "tundelca", "UMask": "0077", "NoNewPrivileges": "yes", "ProtectSystem": "strict", "Restart": "on-failure",
+    "RestartPreventExitStatus": "2 3 6", "StateDirectory": "tundelca/%i", "StateDirectoryMode": "0700",
+}
+SERVE = ["serve", "--cluster", "/etc/tundelca/%i.json", "--journal", "/var/lib/tundelca/%i/node.journal"]
+LIBC = {"libc.so.6", "libm.so.6", "libpthread.so.0", "ld-linux-x86-64.so.2", "linux-vdso.so.1"}
+
+
+def judge(well, text):
+    if not well:
+        raise AssertionError(text)
+
+
+def said(*words, due=(0,), **more):
+    """What a program says, standard error included. Its status has to be one that is due."""
+    ran = subprocess.run(words, stdout=subprocess.PIPE, stderr=subprocess.STDOUT, text=True, timeout=PATIENCE, **more)
+    judge(ran.returncode in due, f"{' '.join(words)} ended with status {ran.returncode}: {ran.stdout[-500:]}")
+    return ran.stdout
+
+
+class Unpacked:
+    """The package in a scratch root."""
+
+    def __init__(self, folder, programs):
+        package = said(os.path.join(HERE, "deb.py"), "--to", folder, *programs).strip()
+        self.package, self.root, self.control = package, os.path.join(folder, "root"), os.path.join(folder, "control")
+        said("dpkg-deb", "--extract", package, self.root)
+        said("dpkg-deb", "--control", package, self.control)
+
+    def path(self, name):
+        return os.path.join(self.root, name)
+
+    def read(self, name):
+        with open(self.path(name), "rb") as file:
+            return file.read()
+
+    def run(self, program, *words, due=(0,)):
+        """What a program of the package says, run from the scratch root."""
+        path = self.path("usr/bin") + os.pathsep + os.environ["PATH"]
+        return said(self.path(f"usr/bin/{program}"), *map(str, words), due=due, env={**os.environ, "PATH": path})
+
+
+def checksums(one):
+    """Each file is as the package's sums say, and the package as its own."""
+    with open(one.package, "rb") as package, open(one.package + ".sha256", encoding="ascii") as sums:
+        judge(sums.read().split()[0] == hashlib.sha256(package.read()).hexdigest(), "the package's checksum")
+    with open(os.path.join(one.control, "md5sums"), encoding="ascii") as file:
+        rows = [line.split("  ", 1) for line in file.read().splitlines()]
+    for total, name in rows:
+        judge(hashlib.md5(one.read(name)).hexdigest() == total, f"the checksum of {name}")
+    built = one.read("usr/share/doc/tundelca/BUILT").decode()
+    for program in ("tundelca", "role_lab"):
+        judge(hashlib.sha256(one.read(f"usr/bin/{program}")).hexdigest() in built, f"BUILT doesn't know {program}")
+    judge(re.search(r"^commit [0-9a-f]{40}", built) and re.search(r"^kit rattle-", built, re.MULTILINE), built)
+    said("sh", "-n", os.path.join(one.control, "postinst"))
+    return f"{len(rows)} files"
+
+
+def programs(one):
+    """The programs want the C library alone, the tool Python, and nothing is writable or set to run as another."""
+    told = one.run("tundelca", "--version")
+    with open(os.path.join(one.control, "control"), encoding="utf-8") as file:
+        version = re.search(r"^Version: (.*)$", file.read(), re.MULTILINE).group(1)
+    judge(version in told, f"version {version} and {told}")
+    for program in ("tundelca", "role_lab"):
+        asked = {os.path.basename(line.split()[0]) for line in said("ldd", one.path(f"usr/bin/{program}")).splitlines()}
+        judge(asked <= LIBC, f"{program} wants {asked - LIBC}")
+    judge("status" in one.run("tundelca-ctl", "--help"), "tundelca-ctl has no status")
+    for folder, folders, names in os.walk(one.root):
+        for path in (os.path.join(folder, name) for name in folders + names):
+            mode = os.lstat(path).st_mode
+            judge(os.path.islink(path) or mode & 0o7022 == 0, f"the mode of {path} is {mode:o}")
+    return told.splitlines()[0]
+
+
+def manuals(one):
+    """Each man page is one that troff takes without a word, and has what its page has."""
+    found = [os.path.join(folder, name) for folder, _, names in os.walk(one.path("usr/share/man")) for name in names]
+    judge(len(found) >= 7, f"man pages: {found}")
+    for path in found:
+        with gzip.open(path) as file:
+            text = file.read()
+        judge(text.count(b"\n.SH ") + text.count(b"\n.SS ") >= 2, f"{path} has no parts")
+        if shutil.which("groff"):
+            ran = subprocess.run(["groff", "-K", "utf8", "-t", "-man", "-T", "utf8", "-rLL=120n"], input=text,
+                                 capture_output=True, timeout=PATIENCE)
+            judge(ran.returncode == 0 and b"error" not in ran.stderr, f"{path}: {ran.stderr.decode()[:500]}")
+    return f"{len(found)} pages"
+
+
+def unit(one):
+    """The unit, by reading: its user, what it may not, when it is started again, and that what it starts is there."""
+    name = "usr/lib/systemd/system/tundelca@.service"
+    parts = configparser.ConfigParser(interpolation=None, comment_prefixes=("#",), delimiters=("=",))
+    parts.optionxform = str
+    parts.read_string(one.read(name).decode())
+    service = parts["Service"]
+    for key, due in HARDENED.items():
+        judge(service.get(key) == due, f"{key} is {service.get(key)}")
+    words = service["ExecStart"].split()
+    judge(os.access(one.path(words[0].lstrip("/")), os.X_OK), f"{words[0]} is not in the package")
+    judge(words[1:] == SERVE, f"the words are {words[1:]}")
+    if shutil.which("systemd-analyze"):  # it reads the unit, and starts nothing
+        ran = subprocess.run(["systemd-analyze", "verify", "--recursive-errors=no", "--man=no", one.path(name)],
+                             capture_output=True, text=True, timeout=PATIENCE)
+        told = [line for line in ran.stderr.splitlines() if "tundelca" in line and "not executable" not in line]
+        judge(not told, "\n".join(told))
+        return f"{len(parts['Service'])} settings, read by systemd-analyze too"
+    return f"{len(parts['Service'])} settings"
+
+
+def cluster(one):
+    """Four nodes with journals and the tool, all from the scratch root; one is killed and started again."""
+    etc, var = one.path("etc/tundelca"), one.path("var/lib/tundelca")
+    sys.path.insert(0, one.path("usr/lib/tundelca"))
+    sys.dont_write_bytecode = True
+    import tundelca
+    ports = tundelca.free_ports(2 * NODES)
+    clients, running = ports[NODES:], {}
+    os.umask(0o077)  # as in the unit
+    files = one.run("tundelca-ctl", "files", etc, "--nodes", *ports[:NODES], "--clients", *clients, "--roles", ROLE,
+                    "--may-lie", 1)
+    judge(files.count(".json") == NODES, files)
+    with contextlib.ExitStack() as stack:
+        def start(me):
+            words = ["serve", "--cluster", os.path.join(etc, f"node{me}.json"), "--journal",
+                     os.path.join(var, str(me), "node.journal")]
+            running[me] = subprocess.Popen([one.path("usr/bin/tundelca"), *words], stdin=subprocess.DEVNULL)
+            stack.callback(running[me].wait)
+            stack.callback(running[me].kill)
+
+        def wait(me):
+            over = time.monotonic() + PATIENCE
+            while time.monotonic() < over:
+                judge(running[me].poll() is None, f"node {me} ended with status {running[me].returncode}")
+                with contextlib.suppress(tundelca.Unreachable):
+                    return tundelca.Client(clients[me]).close()
+                time.sleep(0.05)
+            raise AssertionError(f"node {me} doesn't come")
+
+        for me in range(NODES):
+            os.makedirs(os.path.join(var, str(me)), 0o700)
+            one.run("tundelca", "journal", "--cluster", os.path.join(etc, f"node{me}.json"), "--journal",
+                    os.path.join(var, str(me), "node.journal"))
+            start(me)
+        for me in range(NODES):
+            wait(me)
+        one.run("tundelca-ctl", "ask", clients[0], "assign", "user=7", "role=2")
+        running[3].kill()
+        running[3].wait()
+        one.run("tundelca-ctl", "ask", clients[0], "grant", "role=2", "operation=5", "object=9")
+        start(3)
+        wait(3)
+        with tundelca.Client(clients[3]) as node:
+            node.wait_for_reach(0, 2, PATIENCE)
+            session = node.open(7)
+            node.ask("activate", session=session, user=7, role=2)
+            judge(node.check(session, 7, 5, 9).allow, "it isn't allowed")
+        for name in ("node.journal", "node.journal-wal"):
+            mode = os.stat(os.path.join(var, "3", name)).st_mode & 0o777
+            judge(mode & 0o077 == 0, f"{name} has mode {mode:o}")
+        table = one.run("tundelca-ctl", "status", *clients, due=(0, 1))  # 1: something is to be seen to
+        judge(all(str(port) in table for port in clients), table)
+        statuses = [tundelca.stop(port, running[me]) for me, port in enumerate(clients)]
+        judge(statuses == [0] * NODES, f"statuses {statuses}")
+    return "four nodes, one killed and started again"
+
+
+def main():
+    failed, parts = 0, [checksums, programs, manuals, unit, cluster]
+    if shutil.which("dpkg-deb") is None:
+        return print("packaging: SKIPPED: there is no dpkg-deb here")
+    with tempfile.TemporaryDirectory(prefix="tundelca-") as folder:
+        try:
+            one = Unpacked(folder, sys.argv[1:])
+        except (AssertionError, OSError, subprocess.TimeoutExpired) as fault:
+            sys.exit(f"packaging: FAILED: {fault}")
+        for part in parts:
+            try:
+                print(f"packaging: {part.__name__}: {part(one)}", flush=True)
+            except (AssertionError, OSError, ImportError, subprocess.TimeoutExpired, json.JSONDecodeError) as fault:
+                print(f"packaging: {part.__name__}: FAILED: {fault}", flush=True)
+                failed += 1
+    print(f"packaging: {len(parts) - failed} passed, {failed} failed")
+    sys.exit(1 if failed else 0)
+
+
+if __name__ == "__main__":
+    main()

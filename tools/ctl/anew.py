@@ -1,0 +1,168 @@
+"""`begin-anew`: what a cluster's roles hold, carried over to the next cluster: keep, compare, files, publish."""
+import json
+import os
+import sys
+
+import tundelca
+from ctl import DONE, NO, WORDS, Fault, files, nodes
+from ctl.nodes import Nodes, read_json
+from ctl.publishing import issue, pace
+from ctl.terminal import counted
+from ctl.words import Steps
+
+
+def add(steps):
+    """The words of this command, which has commands of its own."""
+    one = steps.add_parser("begin-anew", "keep what roles hold, compare, new files, publish", example="""
+  tundelca-ctl begin-anew keep node*.json > kept.json        what the roles hold; the nodes must agree
+  tundelca-ctl begin-anew compare kept0.json kept1.json      whether two owners kept the same
+  tundelca-ctl begin-anew files new node*.json               all files of the next cluster, where one may see all
+  tundelca-ctl begin-anew publish kept.json new/node*.json   each role's holdings, at its owner
+
+Between the first and the last the old nodes are stopped and the new ones started. Where no owner may see another's
+file, each makes its own by `file --like OLD`, with a key for each pair of owners and the number that all agreed on,
+keeps by its own node and publishes at its own node; a role that is in no named file is left to its owner.""")
+    steps = Steps(one, "step")
+    one = steps.add_parser("keep", "what the roles hold, as JSON", example="""
+  tundelca-ctl begin-anew keep node1.json node2.json node3.json > kept.json
+  tundelca-ctl begin-anew keep node0.json 7401 7402 > kept.json
+
+One of the nodes may lie, so ask as many as can be reached; where they differ the status is 1.""")
+    one.add_argument("nodes", nargs="+", type=nodes.node, metavar="NODE",
+                     help="a client port, or a cluster file; one file at least")
+    one.patience(30.0)
+    one.set_defaults(run=keep)
+    one = steps.add_parser("compare", "whether files of `keep` are the same", example="""
+  tundelca-ctl begin-anew compare kept0.json kept1.json kept2.json
+
+The status is 1 where they differ; it is told in which roles.""")
+    one.add_argument("kept", nargs="+", metavar="KEPT")
+    one.set_defaults(run=compare)
+    one = steps.add_parser("files", "all cluster files of the next cluster, with new keys and the next number",
+                           example="""
+  tundelca-ctl begin-anew files new node0.json node1.json node2.json node3.json""")
+    one.add_argument("folder", metavar="FOLDER")
+    one.add_argument("nodes", nargs="+", type=nodes.cluster_file, metavar="FILE", help="the old file of every node")
+    one.add_argument("--cluster", type=int, metavar="NUMBER", help="another number than the next")
+    one.set_defaults(run=next_files)
+    one = steps.add_parser("publish", "what was kept, at the owners of the roles", example="""
+  tundelca-ctl begin-anew publish kept.json new/node0.json new/node1.json new/node2.json new/node3.json
+  tundelca-ctl begin-anew publish kept.json new/node0.json 7401 7402 --deadline 60
+
+Name all nodes whose client ports can be reached: it waits for all but F of them, as the files say. 20,000
+assignments take some seconds.""")
+    one.add_argument("kept", metavar="KEPT")
+    one.add_argument("nodes", nargs="+", type=nodes.node, metavar="NODE",
+                     help="a new cluster file, or a client port by which it is paced")
+    pace(one)
+    one.set_defaults(run=publish)
+
+
+def holdings(port, roles, patience):
+    """For each role its users and its permissions, as the node at this port has them."""
+    with tundelca.Client(port, patience) as client:
+        return {str(role): {"users": client.listing("assigned_users", role=role),
+                            "permissions": client.listing("role_permissions", role=role)} for role in roles}
+
+
+def keep(given):
+    """Prints what all the nodes say that the roles hold."""
+    files_of_some = [one for one in given.nodes if one.text is not None]
+    if not files_of_some:
+        raise Fault(WORDS, "one cluster file at least is wanted: ports alone don't tell the roles")
+    roles = sorted(role for role, _ in files_of_some[0].text["roles"])
+    with Nodes(given.nodes, given.patience) as watched:
+        heard = list(watched.pool.map(lambda one: holdings(one.port, roles, given.patience), watched.named))
+    for one, other in zip(watched.named[1:], heard[1:]):
+        for role in heard[0]:
+            if other[role] != heard[0][role]:
+                raise Fault(NO, f"{watched.named[0]} and {one} differ in role {role}: wait, or ask others")
+    json.dump(heard[0], sys.stdout)
+    print()
+    return DONE
+
+
+def read_kept(path):
+    """What a file of `keep` holds: for each role its users and its permissions."""
+    try:
+        held = read_json(path)
+    except ValueError as error:
+        raise Fault(WORDS, str(error)) from None
+    try:
+        return {int(role): {"users": [int(user) for user in rows["users"]],
+                            "permissions": [(int(operation), int(object)) for operation, object in rows["permissions"]]}
+                for role, rows in held.items()}
+    except (AttributeError, KeyError, TypeError, ValueError):
+        raise Fault(WORDS, f"{path}: not what `begin-anew keep` writes") from None
+
+
+def compare(given):
+    """Says in which roles files of `keep` differ."""
+    kept = [read_kept(path) for path in given.kept]
+    status = DONE
+    for path, other in zip(given.kept[1:], kept[1:]):
+        for role in sorted({*kept[0], *other}):
+            here, there = kept[0].get(role), other.get(role)
+            if here != there:
+                status = NO
+                print(f"role {role}: {given.kept[0]} and {path} differ{difference(here, there)}")
+    if status == DONE:
+        pairs = sum(len(rows["users"]) + len(rows["permissions"]) for rows in kept[0].values())
+        print(f"the same: {counted(len(kept[0]), 'role')}, {counted(pairs, 'pair')}")
+    return status
+
+
+def difference(here, there):
+    """In what two holdings of a role differ."""
+    if here is None or there is None:
+        return ": one hasn't it"
+    parts = []
+    for kind in ("users", "permissions"):
+        for which, more in (("first", set(here[kind]) - set(there[kind])),
+                            ("second", set(there[kind]) - set(here[kind]))):
+            if more:
+                some = ", ".join(str(item) if kind == "users" else f"{item[0]}:{item[1]}" for item in sorted(more)[:5])
+                rest = "" if len(more) <= 5 else f" and {len(more) - 5:,} more"
+                parts.append(f"{kind} of the {which} alone {some}{rest}")
+    return ": " + "; ".join(parts)
+
+
+def next_files(given):
+    """Writes the files of the next cluster, on the same ports."""
+    texts = sorted((one.text for one in given.nodes), key=lambda text: text["me"])
+    first = texts[0]
+    if [text["me"] for text in texts] != list(range(first["n"])):
+        raise Fault(WORDS, f"the files of all {first['n']} nodes are wanted, each once")
+    if len({files.fingerprint_of_all(text) for text in texts}) > 1:
+        raise Fault(WORDS, "the files are not of one cluster: `check` says where they differ")
+    os.makedirs(given.folder, mode=0o700, exist_ok=True)
+    number = first["cluster"] + 1 if given.cluster is None else given.cluster
+    paths = tundelca.cluster_files(given.folder, first["roles"], first["nodes"], [text["client"] for text in texts],
+                                   first["f"], number, first.get("hosts"))
+    print("\n".join(paths))
+    return DONE
+
+
+def publish(given):
+    """Publishes what was kept, each pair once, at the owner of its role."""
+    held, parts, published = read_kept(given.kept), [], set()
+    files_of_some = [one for one in given.nodes if one.text is not None]
+    if not files_of_some:
+        raise Fault(WORDS, "the new cluster file of one owner at least is wanted")
+    for one in files_of_some:
+        mine = [role for role, owner in one.text["roles"] if owner == one.text["me"] and role in held]
+        published.update(mine)
+        commands = [command for role in mine for command in commands_of(role, held[role])]
+        parts.append((one.text["me"], one, commands))
+    issue(parts, given.nodes, nodes.may_lie_of(given.nodes, None) or 0, given)
+    for role in sorted(set(held) - published):
+        print(f"role {role}: left out, no node of these files owns it")
+    return DONE
+
+
+def commands_of(role, rows):
+    """The commands after which the role holds what it held."""
+    for user in rows["users"]:
+        yield {"op": "assign", "user": user, "role": role}
+    for operation, object in rows["permissions"]:
+        yield {"op": "grant", "role": role, "operation": operation, "object": object}

@@ -1,0 +1,131 @@
+"""What is not well with nodes, in words, by what they say of themselves."""
+from dataclasses import dataclass
+
+from ctl.nodes import behind, furthest
+from ctl.terminal import counted, microseconds, percent
+
+READY, BEHIND, AWAY, NOTE = "ready", "behind", "away", "note"
+MOST_SESSIONS, MANY_SESSIONS = 4_096, 3_500  # of a node
+SLOW_SYNC = 50_000  # microseconds
+WINDOW = 64  # commands of an owner on their way
+SOON = 0.9  # of a limit
+FEW = 32  # commands that a node may be behind, and is called level: they are on their way
+
+
+@dataclass(frozen=True)
+class Finding:
+    """Something to be seen to: of what kind, and in words."""
+
+    kind: str
+    text: str
+
+
+class Sight:
+    """Nodes as they were seen, and what is to be thought of them.
+
+    `may_lie` is how many of them may; None where nobody said it. `most` is how far each owner's stream is.
+    """
+
+    def __init__(self, seen, may_lie):
+        self.seen, self.may_lie = seen, may_lie
+        self.most = furthest(seen, may_lie or 0)
+
+    def lacks(self, one):
+        """How many commands a node that answers is behind."""
+        return behind(one.standing, self.most)
+
+    def state(self, one, most_behind=FEW):
+        """Whether the node is `ready`, `behind` or `away`, and what is not well with it."""
+        found = findings_of(one, self.most, self.may_lie, most_behind)
+        kinds = {finding.kind for finding in found}
+        return AWAY if AWAY in kinds else BEHIND if BEHIND in kinds else READY, found
+
+    def findings(self):
+        """What is not well with the nodes, and between them."""
+        found = [finding for one in self.seen for finding in self.state(one)[1]]
+        return found + list(between([one.standing for one in self.seen if one.standing is not None]))
+
+
+def needed_peers(standing, may_lie):
+    """How many peers a node has to hear for what is published to come to it: two for each that may lie."""
+    others = len(standing.peers) - 1
+    return min(others, 2 * (others // 3 if may_lie is None else may_lie))
+
+
+def findings_of(one, most, may_lie, most_behind):
+    """What is not well with a node. `most` is how far each owner's stream is, `may_lie` is None where nobody said."""
+    if one.standing is None:
+        return [Finding(AWAY, one.why)]
+    it, found = one.standing, []
+    lacks = behind(it, most)
+    if lacks > most_behind:
+        owner = max(range(len(it.reaches)), key=lambda owner: most[owner] - it.reaches[owner])
+        found.append(Finding(BEHIND, f"{one} is {counted(lacks, 'command')} behind "
+                                     f"(of owner {owner} it has {it.reaches[owner]:,} of {most[owner]:,})"))
+    if it.at >= it.limit:
+        found.append(Finding(BEHIND, f"{one} has a full history and takes nothing new: begin the cluster anew"))
+    elif it.used() >= SOON:
+        found.append(Finding(NOTE, f"{one} has used {percent(it.used())} of its life span: begin anew in time"))
+    if it.journal is not None and not it.journal.sound:
+        found.append(Finding(BEHIND, f"{one} can't write its journal: see to its disk, and start it again"))
+    if it.peers is not None and any(it.reaches) and it.hears() < needed_peers(it, may_lie):
+        found.append(Finding(BEHIND, f"{one} hears {it.hears()} of its {len(it.others())} peers, too few: what is "
+                                     f"published doesn't come to it"))
+    return found + notes_of(one)
+
+
+def notes_of(one):
+    """What to know of a node that answers."""
+    it, found = one.standing, []
+    if it.sessions is not None and it.sessions >= MANY_SESSIONS:
+        found.append(Finding(NOTE, f"{one} has {it.sessions:,} of {MOST_SESSIONS:,} open sessions: `sessions` lists "
+                                   f"them and closes those of a user"))
+    if it.journal is not None and it.journal.mean >= SLOW_SYNC:
+        found.append(Finding(NOTE, f"{one} waits for its disk: a sync takes {microseconds(it.journal.mean)}"))
+    if it.me is not None and it.me < len(it.reaches) and it.published - it.reaches[it.me] >= WINDOW:
+        on_way = it.published - it.reaches[it.me]
+        found.append(Finding(NOTE, f"{one} is busy: {on_way:,} of its commands are on their way"))
+    for name, peer in enumerate(it.peers or []):
+        if peer is not None and peer.unopened:
+            found.append(Finding(NOTE, f"{counted(peer.unopened, 'frame')} of node {name} didn't open at {one}: "
+                                       f"compare their key and the cluster's number"))
+    return found
+
+
+def between(standings):
+    """What is not well between nodes that answer."""
+    names = [it.me for it in standings if it.me is not None]
+    for name in sorted({name for name in names if names.count(name) > 1}):
+        yield Finding(NOTE, f"{names.count(name)} of these ports say that they are node {name}")
+    if len({len(it.peers) for it in standings if it.peers is not None}) > 1:
+        yield Finding(NOTE, "the nodes are of clusters of different sizes")
+    yield from unheard(standings)
+
+
+def unheard(standings):
+    """Who isn't heard by whom, and who can't connect to whom though it hears it, a line for each that isn't.
+
+    Where nothing was ever published no frames go, and nobody is heard.
+    """
+    tell = [it for it in standings if it.peers is not None and it.me is not None and any(it.reaches)]
+    for name in range(max((len(it.peers) for it in tell), default=0)):
+        others = [it for it in tell if name < len(it.peers) and it.peers[name] is not None]
+        deaf = [it.me for it in others if not it.peers[name].heard]
+        cut = [it.me for it in others if it.peers[name].heard and not it.peers[name].connected]
+        if deaf:
+            yield Finding(NOTE, f"{whom(deaf, others)} node {name}")
+        if cut:
+            yield Finding(NOTE, f"node {name} reaches {listed(cut)}, and is not reached from there: compare its "
+                                f"address and port in their files")
+
+
+def whom(deaf, others):
+    """Who does not hear, and the word for it."""
+    if len(deaf) == len(others) > 1:
+        return "nobody here hears"
+    return f"node {deaf[0]} doesn't hear" if len(deaf) == 1 else f"nodes {listed(deaf)} don't hear"
+
+
+def listed(names):
+    """Names for a person: 0, 1 and 3."""
+    return " and ".join(filter(None, [", ".join(map(str, names[:-1])), str(names[-1])]))

@@ -1,0 +1,114 @@
+"""What nodes say of themselves, in the text that Prometheus reads."""
+import sys
+import threading
+import time
+
+from ctl import AWAY, DONE, nodes
+from ctl.nodes import Nodes, behind, furthest
+
+KIND = "text/plain; version=0.0.4; charset=utf-8"
+
+
+def add(steps):
+    """The words of this command."""
+    one = steps.add_parser("metrics", "what Prometheus reads, on a port or once", example="""
+  tundelca-ctl metrics --port 9464 7400      serves http://127.0.0.1:9464/metrics until it is interrupted
+  tundelca-ctl metrics 7400 > node.prom      says it once
+
+Nodes are asked at each scrape, for so long as --patience says. One that is away has tundelca_up 0, and
+nothing else.""")
+    one.add_argument("nodes", nargs="+", type=nodes.node, metavar="NODE", help="a client port, or a cluster file")
+    one.add_argument("--port", type=int, metavar="P", help="serve it at this port of 127.0.0.1; 0 takes a free one")
+    one.patience(2.0)
+    one.set_defaults(run=run)
+
+
+def run(given):
+    with Nodes(given.nodes, given.patience) as watched:
+        if given.port is None:
+            begun = time.monotonic()
+            seen = watched.look()
+            sys.stdout.write(text(seen, time.monotonic() - begun))
+            return DONE if all(one.standing is not None for one in seen) else AWAY
+        from ctl.web import Pages  # which takes a while to read
+
+        lock = threading.Lock()
+
+        def scrape(_):
+            begun = time.monotonic()
+            with lock:
+                seen = watched.look()
+            return KIND, text(seen, time.monotonic() - begun).encode("ascii")
+
+        pages = Pages(given.port, {"/metrics": scrape})
+        print(f"http://127.0.0.1:{pages.server_address[1]}/metrics", flush=True)
+        pages.serve_forever()
+    return DONE
+
+
+# Each is its name, its kind, its help, and what makes its samples of a node: pairs of further labels and a number.
+NODE_METRICS = [
+    ("history_events", "gauge", "Events that the node has recorded.", lambda it: [({}, it.at)]),
+    ("history_limit_events", "gauge", "Events that the node records at most.", lambda it: [({}, it.limit)]),
+    ("reach_commands", "gauge", "Commands of the owner that the node has delivered without a gap.",
+     lambda it: [({"owner": owner}, reach) for owner, reach in enumerate(it.reaches)]),
+    ("published_commands_total", "counter", "Commands that the node has issued.", lambda it: of(it.published)),
+    ("open_sessions", "gauge", "Open sessions of the node.", lambda it: of(it.sessions)),
+    ("journal_sound", "gauge", "1 where the node's journal takes what is written.",
+     lambda it: of(it.journal and int(it.journal.sound))),
+    ("journal_syncs_total", "counter", "Syncs of the journal since the node started.",
+     lambda it: of(it.journal and it.journal.syncs)),
+    ("journal_sync_seconds", "gauge", "How long a sync took: the last, the mean and the worst since the node started.",
+     lambda it: [({"of": name}, getattr(it.journal, name) / 1e6) for name in ("last", "mean", "worst")]
+     if it.journal else []),
+    ("peer_connected", "gauge", "1 where the node's own connection to the peer stands.",
+     lambda it: peers(it, lambda peer: int(peer.connected))),
+    ("peer_heard", "gauge", "1 where a connection stands on which frames of the peer open.",
+     lambda it: peers(it, lambda peer: int(peer.heard))),
+    ("peer_waiting_frames", "gauge", "Frames that wait for the peer.", lambda it: peers(it, lambda peer: peer.waiting)),
+    ("peer_again_messages_total", "counter", "Messages that were sent again to the peer alone.",
+     lambda it: peers(it, lambda peer: peer.again)),
+    ("peer_lost_frames_total", "counter", "Frames for the peer for which there was no room.",
+     lambda it: peers(it, lambda peer: peer.lost)),
+    ("peer_unopened_frames_total", "counter", "Frames that did not open on connections of the peer.",
+     lambda it: peers(it, lambda peer: peer.unopened)),
+    ("unopened_frames_total", "counter", "Frames that did not open on connections of nobody known.",
+     lambda it: of(it.unopened if it.peers is not None else None)),
+]
+
+
+def of(number):
+    """One sample, or none where the node doesn't say it."""
+    return [] if number is None else [({}, number)]
+
+
+def peers(it, number):
+    return [({"peer": name}, number(peer)) for name, peer in enumerate(it.peers or []) if peer is not None]
+
+
+def text(seen, took):
+    """All samples, each below its help and its kind."""
+    most = furthest(seen)
+    answer = [(one.node.port, one.standing) for one in seen if one.standing is not None]
+    lines = family("up", "gauge", "1 where the node answers.", [({"port": one.node.port}, int(one.standing is not None))
+                                                               for one in seen])
+    names = [({"port": one.node.port, "node": one.me()}, 1) for one in seen if one.me() is not None]
+    lines += family("node_info", "gauge", "The name of the node at a client port.", names)
+    lines += family("behind_commands", "gauge", "Commands that the node lacks and another of these has.",
+                    [({"port": port}, behind(it, most)) for port, it in answer])
+    for name, kind, help, samples in NODE_METRICS:
+        lines += family(name, kind, help, [({"port": port, **labels}, number)
+                                           for port, it in answer for labels, number in samples(it)])
+    lines += family("look_seconds", "gauge", "How long it took to ask the nodes.", [({}, round(took, 6))])
+    return "\n".join(lines) + "\n"
+
+
+def family(name, kind, help, samples):
+    """The lines of a metric, none where there are no samples."""
+    if not samples:
+        return []
+    lines = [f"# HELP tundelca_{name} {help}", f"# TYPE tundelca_{name} {kind}"]
+    for labels, number in samples:
+        inside = ",".join(f'{label}="{value}"' for label, value in labels.items())
+        lines.append(f"tundelca_{name}{'{' + inside + '}' if inside else ''} {number}")
+    return lines

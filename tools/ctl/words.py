@@ -1,0 +1,33 @@
+"""How the program's words are read."""
+import argparse
+
+from ctl import WORDS, nodes
+
+NAME = "tundelca-ctl"
+
+
+class Words(argparse.ArgumentParser):
+    """Words that are wrong are told in a line, and the exit status is 3."""
+
+    def error(self, message):
+        self.exit(WORDS, f"{self.prog}: {message}; --help says more\n")
+
+    def patience(self, default):
+        """How long an answer may take."""
+        self.add_argument("--patience", type=nodes.seconds, default=default, metavar="S",
+                          help="how long an answer may take (%(default)g s)")
+
+
+class Steps:
+    """The sub-commands of a command. Each says what it does in a line, and how it is used."""
+
+    def __init__(self, parser, title="command"):
+        self.steps = parser.add_subparsers(dest=title, required=True, metavar=title.upper(), parser_class=Words,
+                                           prog=parser.prog)
+        self.helps = {}
+
+    def add_parser(self, name, help, example):
+        self.helps[name] = help
+        return self.steps.add_parser(name, help=help, description=help[0].upper() + help[1:] + ".",
+                                     epilog="examples:" + example,
+                                     formatter_class=argparse.RawDescriptionHelpFormatter)
