@@ -1,5 +1,2 @@
-pub mod Answers
 pub mod Counts
-pub mod Sent
-pub mod Served
-pub mod Told
+pub mod Jobs

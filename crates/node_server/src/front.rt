@@ -2,12 +2,10 @@
 
 ghost use Rattle.std.specs.Prelude.{◌≡◌, ◌+◌, ◌≤◌, None, false, true, is_some};
 ghost use Rattle.peer_windows.specs.Pauses.{most_time};
-ghost use Rattle.node_server.specs.Served.{grows};
+ghost use Rattle.served_node.specs.Served.{grows};
 
-use crate::behind::HeldNode;
 use crate::job_queue::JobQueue;
 use crate::outbox::Outbox;
-use crate::owed::owed_to;
 use crate::workers::MOST_BATCH;
 use frame_queues::{Caller, FirstPackets};
 use link_frames::{Message, Packet};
@@ -16,6 +14,7 @@ use owner_streams::WINDOW;
 use peer_windows::{ENOUGH_ROOM, NEVER, Owed, Pairs, Share};
 use quorum_sizes::{NodeName, Sizes};
 use role_node::{Event, NodeFault, Reply};
+use served_node::{HeldNode, owed_to};
 use std::alloc::{AllocError, Global};
 use std::collections::VecDeque;
 use std::mem;

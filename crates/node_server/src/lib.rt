@@ -7,50 +7,41 @@
 //! threads that wait for it.
 //!
 //! The server does not know what is behind the lock (`HeldNode`), nor by which keys frames open (`FrameKeys`).
-//! `specs/Served.antt` says what a client hears and what the node sends, `specs/Told.antt` which answers it reads,
-//! and `frame_queues` who waits for a job, which frame a message gets, which bytes that come are frames, which
-//! connections have a place, and which bytes go over a connection.
+//! `served_node` says what a client hears and what the node sends, and `frame_queues` who waits for a job, which frame
+//! a message gets, which bytes that come are frames, which connections have a place, and which bytes go over one.
 #![tactic(auto)]
 
 ghost use denote.Param.Send.{IsSend, IsSync};
 
-pub mod answers;
-mod behind;
 mod client_stream;
 mod clients;
 mod crew;
 mod fault;
 mod front;
-mod heard;
 mod job_queue;
 mod operators;
 mod outbox;
-mod owed;
 mod peers;
 mod ports;
-mod said;
 mod server;
 mod slot;
-mod tally;
 mod tickets;
-mod told;
 mod workers;
 
-pub use behind::{HeldNode, NotKept};
 use clients::answer_client;
 use crew::Crew;
 pub use fault::ServerFault;
 use frame_queues::MOST_CLIENTS;
 pub use frame_queues::{ClusterKeys, FrameKeys, PeerName};
 use front::Front;
-use heard::Heard;
 use job_queue::{JobQueue, job_queues};
 use mio::Waker;
 use node_lock::{Inbox, Seat};
 use outbox::Outbox;
 use peers::{PLACES, Peers};
 use ports::{Ports, poll_of};
-pub use said::Said;
+use served_node::{Heard, SyncTally};
+pub use served_node::{HeldNode, NotKept, Said};
 use server::{Server, millis};
 use slot::Slot;
 use std::alloc::{AllocError, Global};
@@ -59,7 +50,6 @@ use std::sync::{Condvar, Mutex, Wait};
 use std::thread::Threads;
 use std::time::{Clock, Duration};
 use std::{io, thread};
-use tally::SyncTally;
 use tickets::TicketLock;
 use workers::Worker;
 

@@ -1,18 +1,13 @@
 //! What an operator hears of the node.
 
 ghost use Rattle.std.specs.Prelude.{◌≡◌, IfSome};
-ghost use Rattle.node_server.specs.Told.{IsAnswerOf};
 
-use crate::behind::HeldNode;
 use crate::server::{Server, millis};
 use frame_queues::FrameKeys;
-use operator_lines::{
-    JournalStanding, OperatorAnswer, OperatorRequest, PeerStanding, Status, command_at,
-    sessions_of, standing_of,
-};
+use operator_lines::{JournalStanding, OperatorAnswer, OperatorRequest, PeerStanding, Status};
 use role_commands::Items;
-use role_node::Node;
-use std::alloc::{AllocError, Global};
+use served_node::{HeldNode, node_answer};
+use std::alloc::AllocError;
 use std::sync::Wait;
 use std::time::Clock;
 
@@ -79,30 +74,5 @@ impl<N: HeldNode, K: FrameKeys, R: Wait + Clock> Server<'_, N, K, R> {
         let times = self.syncs.lock(self.rt).times();
         let sound = !self.crew.lock(self.rt).failed;
         Some(JournalStanding { times, sound })
-    }
-}
-
-/// What a node answers to an operator; its links are left out. Nothing for want of memory, and where the owner is no
-/// node of its sizes.
-fn node_answer(alloc: Global, node: &Node, request: OperatorRequest) -> Option<OperatorAnswer>
-    ensures { IfSome result (IsAnswerOf node.now request) }
-{
-    match request {
-        OperatorRequest::Status => Some(OperatorAnswer::Status(Status {
-            node: standing_of(alloc, node).ok()?,
-            journal: None,
-            peers: Items::new(Vec::new(alloc)),
-            unopened: 0,
-        })),
-        OperatorRequest::Command { owner, place } => {
-            if !node.config().roles().sizes().has(owner) {
-                return None;
-            }
-            Some(OperatorAnswer::Command(command_at(node, owner, place)))
-        }
-        OperatorRequest::Sessions { from } => Some(OperatorAnswer::Sessions {
-            at: node.events(),
-            sessions: sessions_of(node, from).ok()?,
-        }),
     }
 }

@@ -2,7 +2,8 @@
 
 ghost use Rattle.std.specs.Prelude.{◌≡◌, ◌≤◌};
 ghost use Rattle.frame_queues.specs.Unsent.{restarted};
-ghost use Rattle.node_server.specs.Counts.{grown, lost_of, is_stuck};
+ghost use Rattle.node_server.specs.Counts.{lost_of, is_stuck};
+ghost use Rattle.served_node.specs.Counts.{grown};
 
 use frame_queues::{MOST_FRAMES, UnsentFrames};
 use link_frames::{FRAME_LEN, Frame};

@@ -2,11 +2,9 @@
 
 ghost use Rattle.std.specs.Prelude.{◌≡◌, IsTrue, IsFalse};
 ghost use Rattle.node_lock.specs.Inboxes.{after_put};
-ghost use Rattle.node_server.specs.Sent.{peer_job};
+ghost use Rattle.node_server.specs.Jobs.{peer_job};
 
-use crate::behind::HeldNode;
 use crate::crew::REFUSED;
-use crate::heard::Heard;
 use crate::job_queue::JobQueue;
 use crate::server::{Server, millis};
 use frame_queues::{
@@ -18,6 +16,7 @@ use mio::unix::SourceFd;
 use mio::{Interest, Registry, Token};
 use node_lock::{Call, Job};
 use role_node::Event;
+use served_node::{Heard, HeldNode};
 use std::alloc::AllocError;
 use std::net::TcpStream;
 use std::os::fd::AsRawFd;

@@ -3,14 +3,9 @@
 ghost use Rattle.std.specs.Prelude.{◌≤◌};
 ghost use Rattle.peer_windows.specs.Pauses.{most_time};
 
-use crate::behind::HeldNode;
 use crate::crew::Crew;
-use crate::heard::Heard;
 use crate::outbox::Outbox;
-use crate::owed::frames_to;
-use crate::said::Said;
 use crate::slot::Slot;
-use crate::tally::SyncTally;
 use crate::tickets::TicketLock;
 use frame_queues::FrameKeys;
 use link_frames::{Frame, Message, Place};
@@ -19,6 +14,7 @@ use node_lock::{Call, Seat};
 use peer_windows::{MOST_TIME, Share};
 use quorum_sizes::NodeName;
 use role_node::Question;
+use served_node::{Heard, HeldNode, Said, SyncTally, frames_to};
 use std::alloc::Global;
 use std::sync::{Condvar, Mutex, Wait};
 use std::time::{Clock, Duration};

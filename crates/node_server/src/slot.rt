@@ -1,11 +1,10 @@
 //! Places for the clients' connections that are open at once.
 
 ghost use Rattle.std.specs.Prelude.{◌≡◌, ◌+◌, ◌-◌, ◌^◌, min, nat_le, slice_set, option_and_then, true, false, Some};
-ghost use Rattle.node_server.specs.Served.{served_said};
+ghost use Rattle.served_node.specs.Served.{served_said};
 
 use crate::job_queue::JobQueue;
-use crate::said::Said;
-use crate::told::Told;
+use served_node::{Said, Told};
 use std::alloc::{AllocError, Global};
 use std::net::{Shutdown, TcpStream};
 use std::sync::{Arc, Condvar, Mutex, MutexGuard, Wait};

@@ -14,7 +14,7 @@ use Rattle.role_node.specs.declared.question.Answer.{Answer}
 use Rattle.role_node.specs.declared.question.Question.{Question}
 use Rattle.role_node.proofs.Exported.{one_answer}
 use Rattle.client_lines.specs.declared.answer.ClientAnswer.TheVariants.{Refused}
-use Rattle.node_server.specs.Answers.{listed}
+use Rattle.served_node.specs.Answers.{listed}
 use Rattle.role_daemon.specs.Answers.{after_answer, after_event, asked}
 
 -- the event was answered

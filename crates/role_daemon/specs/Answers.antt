@@ -26,7 +26,7 @@ use Rattle.client_lines.specs.declared.answer.ClientAnswer.TheVariants.{Issued, 
 use Rattle.client_lines.specs.declared.answer.ClientAnswer.TheVariants.{Roles, Permissions, Operations, Reach}
 use Rattle.client_lines.specs.declared.answer.ClientAnswer.TheVariants.{Again, Stopped, Refused}
 use Rattle.client_lines.specs.declared.request.Request.{Request}
-use Rattle.node_server.specs.Answers.{listed, sent_count}
+use Rattle.served_node.specs.Answers.{listed, sent_count}
 use Rattle.client_lines.specs.declared.request.Request.TheVariants as request
 
 -- the node after it gave this answer to the event

@@ -20,9 +20,9 @@ use crate::cluster::{MOST_TEXT_BYTES, Mode, read_cluster};
 use crate::fault::{ClusterFault, PipeFault};
 use client_lines::{ClientAnswer, LineFault, MOST_LINE_BYTES, Request, RequestReader};
 use link_frames::{Ahead, Held, Next, Watched};
-use node_server::answers::hold_answer;
 use requests::answer;
 use role_node::Node;
+use served_node::answers::hold_answer;
 use std::alloc::{AllocError, Global};
 use std::io::{Read, Write};
 

@@ -1,7 +1,7 @@
 -- A node with its journal, as a server sees it.
 use Rattle.std.specs.Prelude.{ℕ, ◌≤◌, option_map}
 use Rattle.kept_node.specs.Telling.{UntoldValue}
-use Rattle.node_server.specs.declared.said.Said.{Said}
+use Rattle.served_node.specs.declared.said.Said.{Said}
 
 -- what a hold said, as the server hears it
 abbrev pub said_of : UntoldValue → Said

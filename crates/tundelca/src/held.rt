@@ -3,10 +3,10 @@
 use kept_node::{Kept, Untold};
 use link_frames::{Packet, Place};
 use node_lock::{Call, Outcome, Seat, StepFault};
-use node_server::{HeldNode, NotKept, Said};
 use peer_windows::{Owed, Pairs};
 use quorum_sizes::NodeName;
 use role_node::Node;
+use served_node::{HeldNode, NotKept, Said};
 use sqlite_disk::Disk;
 use std::sync::ledger::Ledger;
 

@@ -11,9 +11,9 @@ ghost use Rattle.role_daemon.specs.Answers.{answer_to, after_request, after_even
 
 use client_lines::{ClientAnswer, Request};
 use link_frames::{Message, Packet};
-use node_server::answers::{listed, sent_count};
 use role_node::{AskFault, Event, Node, NodeFault, Question, Reply};
 use role_sessions::SessionFault;
+use served_node::answers::{listed, sent_count};
 use std::alloc::AllocError;
 
 /// The answer of the node to a request, whose owner must be a node. A command that is published is taken by the node

@@ -1,5 +1,5 @@
 use Rattle.std.proofs.Common.{ap, ◌∙◌}
-use Rattle.node_server.specs.Answers.{listed}
+use Rattle.served_node.specs.Answers.{listed}
 use Rattle.role_daemon.proofs.AnswerLemmas.{asked-answer}
 use Rattle.role_daemon.proofs.pipe.requests.ask.Goals as goal
 

@@ -14,8 +14,8 @@ use Rattle.node_lock.specs.declared.receipt.Outcome.TheVariants as outcome
 use Rattle.node_lock.specs.declared.view.View.{View}
 use Rattle.client_lines.specs.declared.answer.ClientAnswer.{ClientAnswer}
 use Rattle.client_lines.specs.declared.answer.ClientAnswer.TheVariants.{Issued, Session, Done, Refused}
-use Rattle.node_server.specs.Answers.{listed}
-use Rattle.node_server.specs.declared.said.Said.{Said}
+use Rattle.served_node.specs.Answers.{listed}
+use Rattle.served_node.specs.declared.said.Said.{Said}
 
 -- a reply, with the reach that was read after the call
 abbrev pub reply_served : View → Reply → ClientAnswer

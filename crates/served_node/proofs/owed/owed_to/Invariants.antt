@@ -1,6 +1,6 @@
 use Rattle.std.specs.Prelude.{◌≡◌, ◌++◌, drop}
-use Rattle.node_server.specs.Sent.{owed_to}
-use Rattle.node_server.proofs.owed.owed_to.Given as goal
+use Rattle.served_node.specs.Sent.{owed_to}
+use Rattle.served_node.proofs.owed.owed_to.Given as goal
 
 abbrev pub invariant-loop-share : goal.invariant-loop-share
 invariant-loop-share l =

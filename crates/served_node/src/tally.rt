@@ -1,7 +1,7 @@
 //! How long it took to keep what was recorded.
 
 ghost use Rattle.std.specs.Prelude.{◌≡◌};
-ghost use Rattle.node_server.specs.Counts.{tallied, times_of, new_tally, are_long};
+ghost use Rattle.served_node.specs.Counts.{tallied, times_of, new_tally, are_long};
 
 use operator_lines::SyncTimes;
 use std::time::Clock;

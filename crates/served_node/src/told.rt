@@ -3,8 +3,8 @@
 ghost use Rattle.std.specs.Prelude.{◌≡◌, ◌++◌, None, replicate, take, slice_set, option_and_then, All, IfOk};
 ghost use Rattle.std.specs.Prelude.{OnOk};
 ghost use Rattle.frame_queues.specs.Callers.{client_numbers};
-ghost use Rattle.node_server.specs.Served.{served_said};
-ghost use Rattle.node_server.specs.Told.{lines_due, IsWrittenIfAny};
+ghost use Rattle.served_node.specs.Served.{served_said};
+ghost use Rattle.served_node.specs.Told.{lines_due, IsWrittenIfAny};
 
 use crate::answers::hold_answer;
 use crate::said::Said;
@@ -23,7 +23,7 @@ pub struct Told {
 impl Model for Told {
     ghost use Rattle.std.specs.Prelude.{List, Option, All};
     ghost use Rattle.client_lines.specs.declared.answer.ClientAnswer.{ClientAnswer};
-    ghost use Rattle.node_server.specs.Told.{IsWrittenIfAny};
+    ghost use Rattle.served_node.specs.Told.{IsWrittenIfAny};
 
     ghost Value = { List (Option ClientAnswer) };
 

@@ -1,7 +1,7 @@
 //! What a node sends to a single peer.
 
 ghost use Rattle.std.specs.Prelude.{◌≡◌, ◌++◌, length, IfOk, OnOk};
-ghost use Rattle.node_server.specs.Sent as sent;
+ghost use Rattle.served_node.specs.Sent as sent;
 
 use frame_queues::FrameKeys;
 use link_frames::{Frame, Message};

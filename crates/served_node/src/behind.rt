@@ -7,8 +7,8 @@ ghost use Rattle.node_lock.specs.Receipts.{outcome_due};
 ghost use Rattle.node_lock.specs.Views.{node_count, view_of, held_after_hold, seat_after_hold, IsHoldFault};
 ghost use Rattle.peer_windows.specs.Owed.{IsGathered};
 ghost use Rattle.peer_windows.specs.Pauses.{most_time};
-ghost use Rattle.node_server.specs.Served.{own_packet};
-ghost use Rattle.node_server.specs.declared.said.Said.{Said};
+ghost use Rattle.served_node.specs.Served.{own_packet};
+ghost use Rattle.served_node.specs.declared.said.Said.{Said};
 
 use crate::said::Said;
 use link_frames::{Packet, Place};

@@ -1,6 +1,6 @@
 use Rattle.std.specs.Prelude.{◌≡◌, ◌++◌, take}
-use Rattle.node_server.specs.Told.{lines_due}
-use Rattle.node_server.proofs.told.Told.hold_answers.Given as goal
+use Rattle.served_node.specs.Told.{lines_due}
+use Rattle.served_node.proofs.told.Told.hold_answers.Given as goal
 
 abbrev pub invariant-loop-answer : goal.invariant-loop-answer
 invariant-loop-answer l = l.held ≡ l.initial.held ++ lines_due (take l.answer-index l.answers)

@@ -1,8 +1,8 @@
 //! What is heard of each peer.
 
 ghost use Rattle.std.specs.Prelude.{◌≡◌, position};
-ghost use Rattle.node_server.specs.Counts as counts;
-ghost use Rattle.node_server.specs.Counts.{is_heard};
+ghost use Rattle.served_node.specs.Counts as counts;
+ghost use Rattle.served_node.specs.Counts.{is_heard};
 
 use frame_queues::{Connected, PeerName};
 use operator_lines::PeerStanding;

@@ -5,7 +5,7 @@ ghost use Rattle.link_frames.specs.lines.Lines.{ended};
 ghost use Rattle.client_lines.specs.AnswerTexts as texts;
 ghost use Rattle.client_lines.specs.AnswerTexts.{IsWritten};
 ghost use Rattle.operator_lines.specs.AnswerTexts as operator_texts;
-ghost use Rattle.node_server.specs.Answers as answers;
+ghost use Rattle.served_node.specs.Answers as answers;
 
 use client_lines::{ClientAnswer, answer_text};
 use link_frames::Held;

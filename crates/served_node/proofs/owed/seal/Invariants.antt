@@ -1,6 +1,6 @@
 use Rattle.std.specs.Prelude.{◌≡◌, ◌++◌, take}
-use Rattle.node_server.specs.Sent.{frames_of}
-use Rattle.node_server.proofs.owed.seal.Given as goal
+use Rattle.served_node.specs.Sent.{frames_of}
+use Rattle.served_node.proofs.owed.seal.Given as goal
 
 abbrev pub invariant-loop-message : goal.invariant-loop-message
 invariant-loop-message g l =

@@ -1,7 +1,7 @@
 use Rattle.std.specs.Prelude.{ℕ, List, Option, All, slice_set}
 use Rattle.std.proofs.lemmas.List.Elements.{All-set}
 use Rattle.client_lines.specs.declared.answer.ClientAnswer.{ClientAnswer}
-use Rattle.node_server.specs.Told.{IsWrittenIfAny}
+use Rattle.served_node.specs.Told.{IsWrittenIfAny}
 
 -- a write of an answer that can be written leaves only such
 pub written_set : (answers : List (Option ClientAnswer)) (at : ℕ) (answer : Option ClientAnswer)

@@ -3,7 +3,7 @@ use Rattle.std.specs.Prelude.{List, [], ◌∷◌, length, take, drop, get_or}
 use Rattle.std.proofs.Common.{arith, refl}
 use Rattle.link_frames.specs.declared.frames.packet.Message.{Message}
 use Rattle.peer_windows.specs.declared.owed.Share.{Share}
-use Rattle.node_server.specs.Sent.{owed_to}
+use Rattle.served_node.specs.Sent.{owed_to}
 
 -- what is owed of the shares from one on is of that share, and of those behind it
 pub owed_next : (peer : ℕ) (shares : List Share) (i : ℕ) (d : Share) (messages : List Message) → i < length shares

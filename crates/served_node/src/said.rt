@@ -2,7 +2,7 @@
 
 ghost use Rattle.std.specs.Prelude.{◌≡◌, IfSome, option_and_then};
 ghost use Rattle.client_lines.specs.AnswerTexts.{IsWritten};
-ghost use Rattle.node_server.specs.Served.{served, sent_outcome, sent_said, served_said};
+ghost use Rattle.served_node.specs.Served.{served, sent_outcome, sent_said, served_said};
 
 use crate::answers::listed;
 use client_lines::ClientAnswer;

@@ -1,0 +1,5 @@
+pub mod Answers
+pub mod Counts
+pub mod Sent
+pub mod Served
+pub mod Told
