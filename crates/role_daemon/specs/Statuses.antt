@@ -1,11 +1,11 @@
 -- The exit status of the program at each fault.
 use Rattle.std.specs.Prelude.{ℕ, Bool, true, false}
-use Rattle.cluster_text.specs.Statuses.{cluster_status, file_status}
+use Rattle.cluster_text.specs.Statuses.{file_status}
+use Rattle.line_pipe.specs.Statuses.{pipe_status}
 use Rattle.role_daemon.specs.declared.fault.DaemonFault.{DaemonFault}
 use Rattle.role_daemon.specs.declared.fault.DaemonFault.TheVariants as daemon
 use Rattle.cluster_text.specs.declared.fault.FileFault.TheVariants as file
-use Rattle.role_daemon.specs.declared.fault.PipeFault.{PipeFault}
-use Rattle.role_daemon.specs.declared.fault.PipeFault.TheVariants as pipe
+use Rattle.line_pipe.specs.declared.fault.PipeFault.TheVariants as pipe
 use Rattle.role_daemon.specs.declared.fault.ServeFault.{ServeFault}
 use Rattle.role_daemon.specs.declared.fault.ServeFault.TheVariants as serve
 use Rattle.role_daemon.specs.declared.fault.WordsFault.{WordsFault}
@@ -14,11 +14,6 @@ use Rattle.role_daemon.specs.declared.fault.WordsFault.TheVariants as words
 abbrev pub words_status : WordsFault → ℕ
 words_status words.Refused = 2
 words_status words.Memory = 5
-
-abbrev pub pipe_status : PipeFault → ℕ
-pipe_status (pipe.Cluster fault) = cluster_status fault
-pipe_status pipe.Device = 4
-pipe_status pipe.Memory = 5
 
 abbrev pub serve_status : ServeFault → ℕ
 serve_status serve.Device = 4

@@ -1,15 +1,13 @@
 //! A node of the registry. Without words it is a pipe: the first line on standard input is a cluster text of one
 //! node, and each later one is a client's line, with one line of answer on standard output.
 //!
-//! `cluster_text` says what a cluster text sets up, `specs/Answers.antt` what the node answers, `specs/Pipes.antt`
-//! which text is due for an input, and `specs/Runs.antt` what running the pipe does.
+//! `cluster_text` says what a cluster text sets up, `line_pipe` what running the pipe does, and `node_server` serves.
 #![tactic(auto)]
 
 ghost use Rattle.std.specs.Prelude.{IfOk};
 ghost use Rattle.cluster_text.specs.Setups.{IsNodeSetup, IsServerSetup};
 
 pub mod fault;
-pub mod pipe;
 pub mod serve;
 pub mod words;
 
@@ -17,6 +15,7 @@ use cluster::Setup;
 use cluster_file::read_setup;
 pub use cluster_text::{cluster, cluster_file};
 use fault::{DaemonFault, FileFault, WordsFault};
+pub use line_pipe::pipe;
 use link_frames::Watched;
 use pipe::run_pipe;
 use serve::serve;

@@ -1,23 +1,11 @@
 //! A laboratory for the registry. It reads a script on standard input, of one instance of the broadcast or of a
 //! cluster, and writes one line for each line of it.
 //!
-//! `specs/Scripts.antt` says what a script means, and `specs/Runs.antt` what running it does.
+//! `lab_scripts` says what a script means, and what running it does.
 #![tactic(auto)]
 
-pub mod fault;
-mod fields;
-mod given;
-mod grammar;
-mod lab;
-pub mod laws;
-mod order_texts;
-mod orders;
-mod questions;
-pub mod run;
-mod stage;
-mod texts;
-
 use fault::ScriptFault;
+pub use lab_scripts::{fault, laws, run};
 use link_frames::Watched;
 use run::run_script;
 use std::io;

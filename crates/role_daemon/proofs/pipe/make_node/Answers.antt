@@ -1,5 +1,0 @@
-use Rattle.role_daemon.proofs.OpenLemmas.{made_node}
-use Rattle.role_daemon.proofs.pipe.make_node.Goals as goal
-
-pub returns-in_ok-new-in-Ok-clause-ok : goal.returns-in_ok-new-in-Ok-clause-ok
-returns-in_ok-new-in-Ok-clause-ok c = made_node _ c.in-Ok.setup _ c.in-Ok.ensures.due c.in_ok-new-in-Ok.ensures
