@@ -31,7 +31,7 @@ sys.dont_write_bytecode = True
 from cluster import PATIENCE, ROLE, TOP, program_of, tundelca  # noqa: E402
 from lives import Failed, Lives, compiled  # noqa: E402
 
-RESTART = 1.0  # seconds from a start to the first answer
+RESTART = 1.0  # seconds from a start to the first answer, beside what two syncs take meanwhile
 SOON = 15  # seconds in which all reaches agree after the last crash
 COMMANDS = 1_000  # that are answered in a case with crashes
 LONGEST = 40  # seconds of crashes, however few commands came through

@@ -13,6 +13,7 @@ import socket
 import struct
 import subprocess
 import sys
+import tempfile
 import threading
 import time
 
@@ -22,6 +23,7 @@ from forwarders import FRAME  # noqa: E402
 
 MOST_SESSIONS = 300  # of a node
 AHEAD = 16  # places for which the liar offers two stories
+SYNCS = 2  # that a node makes at its start, at most
 PACE = 0.03  # seconds between two commands of an owner, and two looks at sessions
 
 
@@ -128,6 +130,30 @@ class Liar(threading.Thread):
         self.join()
 
 
+class Probe:
+    """How many seconds a sync of a small file in a folder takes at most meanwhile: what a busy disk costs a node."""
+
+    def __init__(self, folder):
+        self.folder, self.longest, self.is_over = folder, 0.0, threading.Event()
+        self.thread = threading.Thread(target=self.look, daemon=True)
+
+    def __enter__(self):
+        self.thread.start()
+        return self
+
+    def __exit__(self, *_):
+        self.is_over.set()
+        self.thread.join()
+
+    def look(self):
+        with tempfile.TemporaryFile(dir=self.folder, buffering=0) as file:
+            while not self.is_over.wait(0.005):
+                began = time.monotonic()
+                file.write(bytes(4096))
+                os.fdatasync(file.fileno())
+                self.longest = max(self.longest, time.monotonic() - began)
+
+
 class Lives(Cluster):
     """Nodes with journals, all but the last, which is the liar."""
 
@@ -159,20 +185,21 @@ class Lives(Cluster):
         super().start(me)
 
     def await_start(self, me, most):
-        """Waits until a node that was started answers, which takes so many seconds at most."""
-        while True:
-            try:
-                self.client(me).close()
-                break
-            except tundelca.Unreachable:
-                took = time.monotonic() - self.started[me]
-                if self.running[me].poll() is not None or took > PATIENCE:
-                    raise Failed(f"node {me} doesn't start: {self.running[me].poll()} after {took:.1f} s") from None
-                time.sleep(0.002)
+        """Waits until a node that was started answers, which takes so many seconds at most, beside its syncs."""
+        with Probe(os.path.dirname(self.journals[me])) as probe:
+            while True:
+                try:
+                    self.client(me).close()
+                    break
+                except tundelca.Unreachable:
+                    took = time.monotonic() - self.started[me]
+                    if self.running[me].poll() is not None or took > PATIENCE:
+                        raise Failed(f"node {me} doesn't start: {self.running[me].poll()} after {took:.1f} s") from None
+                    time.sleep(0.002)
         took = time.monotonic() - self.started[me]
         self.longest = max(self.longest, took)
-        if took > most:
-            raise Failed(f"the start of node {me} took {took:.2f} s")
+        if took > most + SYNCS * probe.longest:
+            raise Failed(f"the start of node {me} took {took:.2f} s, where a sync took {probe.longest:.2f}")
 
     def kill(self, me, number):
         process = self.running[me]
