@@ -27,8 +27,8 @@ use Rattle.bracha_instance.specs.States.{Votes, State, votes, kept, state}
 use Rattle.bracha_instance.specs.Taking.{has_voted}
 use Rattle.bracha_instance.specs.inside.FirstVotes.{is_noted, noted, none_noted, VotersFit}
 use Rattle.bracha_instance.specs.inside.Kept.{names_of}
-use Rattle.bracha_instance.specs.inside.Next.{supporters_in, ready_now, deliver_now, only_if}
-use Rattle.bracha_instance.specs.inside.Next.{after_echo, after_ready, after_kind}
+use Rattle.bracha_instance.specs.inside.Next.{supporters_in, ready_now, deliver_now, only_if, by_vote, kind_of}
+use Rattle.bracha_instance.specs.inside.Next.{with_its_vote, delivers_now, settled, after_vote, after_kind}
 use Rattle.bracha_instance.specs.declared.tallies.Vote.{Vote}
 use Rattle.bracha_instance.specs.declared.tallies.Vote.TheVariants.{Echo as EchoVote, Ready as ReadyVote}
 use Rattle.bracha_instance.specs.inside.Tallies.{Tallied, no_votes, votes_of, with_command, with_vote, support_of}
@@ -75,28 +75,6 @@ is_noted-has_voted st Send p = refl
 is_noted-has_voted st Echo p = refl
 is_noted-has_voted st Ready p = refl
 
--- What keeps no vote.
-
-pub send_kept : (a : Inside) (p : ℕ) (c : Command) (f : FirstVotes) → IsInstance a → f ≡ noted a.first_votes Send p c
-    → (VotersFit a.first_votes → VotersFit f) → IsInstance (record a { first_votes = f })
-send_kept a p c f h is fit = record {
-  echoers = λ none. h.echoers none ∙ sym (λ i. (is i).echoers);
-  readiers = λ none. h.readiers none ∙ sym (λ i. (is i).readiers);
-  forgotten = h.forgotten;
-  few = subst (λ (g : FirstVotes). length a.votes.commands ≤ sets.len g.echoers + sets.len g.readiers) (sym is) h.few;
-  fit = fit h.fit;
-}
-
-pub late_kept : (a : Inside) (f : FirstVotes) → IsInstance a → is_some a.delivered ≡ true
-    → (VotersFit a.first_votes → VotersFit f) → IsInstance (record a { first_votes = f })
-late_kept a f h late fit = record {
-  echoers = λ none. absurd (no_some a.delivered none late);
-  readiers = λ none. absurd (no_some a.delivered none late);
-  forgotten = h.forgotten;
-  few = let e : length a.votes.commands ≡ 0 = ap (λ (w : Tallied). length w.commands) (h.forgotten late) in omega arith;
-  fit = fit h.fit;
-}
-
 pub record_noted : (s : Counts) (a : record_of.Inside) (kind : Kind) (p : ℕ) (c : Command)
     → record_state (record a { first_votes = noted a.first_votes kind p c }) ≡ after_kind s (record_state a) kind p c
 record_noted s a Send p c = refl
@@ -105,30 +83,28 @@ record_noted s a Ready p c = refl
 
 -- A first vote, before a delivery.
 
-abbrev kind_of : Vote → Kind
-kind_of EchoVote = Echo
-kind_of ReadyVote = Ready
-
 no_vote : (v : Votes) (names : Names) (p : ℕ) → names_of v ≡ names → sets.contains names p ≡ false → maps.get v p ≡ None
 no_vote v names p same is =
     none_of (maps.get v p) (sym (contains-names_of v p) ∙ ap (λ s. sets.contains s p) same ∙ is)
 
 pub free_vote : (vote : Vote) (a : Inside) (p : ℕ) → IsInstance a → is_some a.delivered ≡ false
-    → is_noted a.first_votes (kind_of vote) p ≡ false → maps.get (votes_of vote a.votes) p ≡ None
+    → has_voted (instance_state a) (kind_of vote) p ≡ false → maps.get (votes_of vote a.votes) p ≡ None
 free_vote EchoVote a p h early is = no_vote _ _ p (h.echoers (none_of a.delivered early)) is
 free_vote ReadyVote a p h early is = no_vote _ _ p (h.readiers (none_of a.delivered early)) is
 
-pub vote_kept : (vote : Vote) (a : Inside) (p : ℕ) (c : Command) (now : Option Command) (f : FirstVotes) (v : Tallied) →
-    IsInstance a → is_some a.delivered ≡ false → is_noted a.first_votes (kind_of vote) p ≡ false →
-    f ≡ noted a.first_votes (kind_of vote) p c → (VotersFit a.first_votes → VotersFit f)
+pub vote_kept : (vote : Vote) (a : Inside) (p : ℕ) (c : Command) {kind : Kind} {now : Option Command}
+    {f : FirstVotes} {v : Tallied} → IsInstance a → is_some a.delivered ≡ false
+    → has_voted (instance_state a) (kind_of vote) p ≡ false →
+    kind ≡ kind_of vote → f ≡ noted a.first_votes kind p c → (VotersFit a.first_votes → VotersFit f)
     → v ≡ with_vote vote a.votes p c →
     IsInstance (record a { first_votes = f; readied = now; votes = v })
-vote_kept vote a p c now f v h early new is fit more =
+vote_kept vote a p c {v = v} h early new k first fit more =
+    let is = first ∙ ap (λ kind. noted a.first_votes kind p c) k in
     let none = none_of a.delivered early in
     let names = names_more vote a p c h none in
     let before : length a.votes.commands ≤ sets.len a.first_votes.echoers + sets.len a.first_votes.readiers = h.few in
     let after = ap (λ (w : Tallied). length w.commands) more ∙ commands_more vote a.votes p c in
-    let count = ap voters_in is ∙ voter_more vote a.first_votes p c new in record {
+    let count = ap voters_in is ∙ voter_more vote a p c new in record {
       echoers = λ _. (λ i. names_of (more i).echoes) ∙ names.0 ∙ sym (λ i. (is i).echoers);
       readiers = λ _. (λ i. names_of (more i).readies) ∙ names.1 ∙ sym (λ i. (is i).readiers);
       forgotten = λ some. absurd (no_some a.delivered none some);
@@ -152,72 +128,70 @@ vote_kept vote a p c now f v h early new is fit more =
     commands_more EchoVote v p c = refl
     commands_more ReadyVote v p c = refl
 
-    voter_more : (vote : Vote) (f : FirstVotes) (p : ℕ) (c : Command) → is_noted f (kind_of vote) p ≡ false
-        → voters_in (noted f (kind_of vote) p c) ≡ voters_in f + 1
-    voter_more EchoVote f p c new = let more = one_more_name f.echoers p new in omega arith
-    voter_more ReadyVote f p c new = let more = one_more_name f.readiers p new in omega arith
+    voter_more : (vote : Vote) (a : Inside) (p : ℕ) (c : Command)
+        → has_voted (instance_state a) (kind_of vote) p ≡ false
+        → voters_in (noted a.first_votes (kind_of vote) p c) ≡ voters_in a.first_votes + 1
+    voter_more EchoVote a p c new = let more = one_more_name a.first_votes.echoers p new in omega arith
+    voter_more ReadyVote a p c new = let more = one_more_name a.first_votes.readiers p new in omega arith
 
--- What may be readied or delivered with some support.
+-- What is readied and delivered with some support.
 
-pub ready_by_support : (s : Counts) (c : Command) (due : Bool) (n : Support) (v : Tallied)
+ready_by_support : (s : Counts) (c : Command) (due : Bool) (n : Support) (v : Tallied)
     → due ≡ (nat_le (echo_quorum_of s) n.echoes || nat_le (amplify_of s) n.readies) → n ≡ support_of v c
     → due ≡ ready_now s c v.echoes v.readies
 unfolding ready_now
 ready_by_support s c due n v is support =
     is ∙ ap (λ (m : Support). nat_le (echo_quorum_of s) m.echoes || nat_le (amplify_of s) m.readies) support
 
-pub deliver_by_support : (s : Counts) (c : Command) (due : Bool) (n : Support) (v : Tallied)
-    → due ≡ nat_le (deliver_of s) n.readies → n ≡ support_of v c
-    → due ≡ deliver_now s c v.readies
+deliver_by_support : (s : Counts) (vote : Vote) (c : Command) (due : Bool) (n : Support) (v : Tallied)
+    → due ≡ by_vote vote false (nat_le (deliver_of s) n.readies) → n ≡ support_of v c
+    → due ≡ delivers_now s vote c v.readies
 unfolding deliver_now
-deliver_by_support s c due n v is support = is ∙ ap (λ (m : Support). nat_le (deliver_of s) m.readies) support
+deliver_by_support s vote c due n v is support =
+    is ∙ ap (λ (m : Support). by_vote vote false (nat_le (deliver_of s) m.readies)) support
 
--- what is readied then, by the votes with one more
-readied_now : (s : Counts) (a : Inside) (c : Command) (due : Bool) (now : Option Command) (v w : Tallied) → v ≡ w
-    → due ≡ ready_now s c v.echoes v.readies → now ≡ option_or a.readied (only_if due c)
-    → now ≡ option_or a.readied (only_if (ready_now s c w.echoes w.readies) c)
-readied_now s a c due now v w more is_due is_now =
-    is_now ∙ ap (λ b. option_or a.readied (only_if b c)) (is_due ∙ (λ i. ready_now s c (more i).echoes (more i).readies))
+abbrev more_of : Vote → Inside → ℕ → Command → Inside
+more_of vote a p c =
+    record a { first_votes = noted a.first_votes (kind_of vote) p c; votes = with_vote vote a.votes p c }
 
-pub echo_early : (s : Counts) (p : ℕ) (c : Command) (a : Inside) (due : Bool) (now : Option Command) (f : FirstVotes)
-    (v : Tallied) → is_some a.delivered ≡ false → f ≡ noted a.first_votes Echo p c
-    → v ≡ with_vote EchoVote a.votes p c →
-    due ≡ ready_now s c v.echoes v.readies → now ≡ option_or a.readied (only_if due c) →
-    instance_state (record a { first_votes = f; readied = now; votes = v })
-    ≡ after_echo s (instance_state a) p c a.delivered
-echo_early s p c a due now f v early is more is_due is_now =
-    let ready = readied_now s a c due now v _ more is_due is_now in
-    let step : instance_state (record a { first_votes = f; readied = now; votes = v })
-    ≡ after_echo s (instance_state a) p c None = λ i.
-    instance_state (record a { first_votes = is i; readied = ready i; votes = more i }) in
-    step ∙ ap (after_echo s (instance_state a) p c) (sym (none_of a.delivered early))
+more_is : (vote : Vote) (a : Inside) (p : ℕ) (c : Command)
+    → instance_state (more_of vote a p c) ≡ with_its_vote (instance_state a) vote p c
+more_is EchoVote a p c = refl
+more_is ReadyVote a p c = refl
 
--- with what is delivered then, and the votes that are kept then
-pub ready_early : (s : Counts) (p : ℕ) (c : Command) (a : Inside) (due delivers : Bool) (now d : Option Command)
-    (f : FirstVotes) (v w : Tallied) → is_some a.delivered ≡ false → f ≡ noted a.first_votes Ready p c
-    → v ≡ with_vote ReadyVote a.votes p c →
-    due ≡ ready_now s c v.echoes v.readies → now ≡ option_or a.readied (only_if due c) →
-    delivers ≡ deliver_now s c v.readies → d ≡ only_if delivers c →
+-- with `d` delivered then, and the votes `w` kept
+pub vote_early : (s : Counts) (vote : Vote) (p : ℕ) (c : Command) (a : Inside) {kind : Kind} {due delivers : Bool}
+    {now d : Option Command} {f : FirstVotes} {v : Tallied} {n : Support} (w : Tallied)
+    → is_some a.delivered ≡ false → kind ≡ kind_of vote
+    → f ≡ noted a.first_votes kind p c → v ≡ with_vote vote a.votes p c → n ≡ support_of v c →
+    due ≡ (nat_le (echo_quorum_of s) n.echoes || nat_le (amplify_of s) n.readies) →
+    now ≡ option_or a.readied (only_if due c) →
+    delivers ≡ by_vote vote false (nat_le (deliver_of s) n.readies) → d ≡ only_if delivers c →
     w.echoes ≡ kept d v.echoes → w.readies ≡ kept d v.readies →
     instance_state (record a { first_votes = f; readied = now; delivered = d; votes = w })
-    ≡ after_ready s (instance_state a) p c a.delivered
-ready_early s p c a due delivers now d f v w early is more is_due is_now is_deliver is_d echoes readies =
-    let ready = readied_now s a c due now v _ more is_due is_now in
-    let deliver = is_d ∙ ap (λ b. only_if b c) (is_deliver ∙ (λ i. deliver_now s c (more i).readies)) in
+    ≡ after_vote s (instance_state a) vote p c a.delivered
+vote_early s vote p c a {v = v} {n = n} w early k is more support is_due is_now is_deliver is_d echoes readies =
+    let first = is ∙ ap (λ k. noted a.first_votes k p c) k in
+    let due = ready_by_support s c _ n v is_due support ∙ (λ i. ready_now s c (more i).echoes (more i).readies) in
+    let ready = is_now ∙ ap (λ b. option_or a.readied (only_if b c)) due in
+    let delivers = deliver_by_support s vote c _ n v is_deliver support
+    ∙ (λ i. delivers_now s vote c (more i).readies) in
+    let deliver = is_d ∙ ap (λ b. only_if b c) delivers in
     let echo_votes = echoes ∙ (λ i. kept (deliver i) (more i).echoes) in
     let ready_votes = readies ∙ (λ i. kept (deliver i) (more i).readies) in
-    let step : instance_state (record a { first_votes = f; readied = now; delivered = d; votes = w })
-    ≡ after_ready s (instance_state a) p c None = λ i.
+    let settle : State → State = λ st. settled s c (delivers_now s vote c st.ready_votes) st in
+    let step : _ ≡ settle (instance_state (more_of vote a p c)) = λ i.
     record {
-      echoed = (is i).echoed;
+      echoed = (first i).echoed;
       readied = ready i;
       delivered = deliver i;
-      echoers = (is i).echoers;
-      readiers = (is i).readiers;
+      echoers = (first i).echoers;
+      readiers = (first i).readiers;
       echo_votes = echo_votes i;
       ready_votes = ready_votes i;
     } in
-    step ∙ ap (after_ready s (instance_state a) p c) (sym (none_of a.delivered early))
+    step ∙ ap settle (more_is vote a p c)
+    ∙ ap (after_vote s (instance_state a) vote p c) (sym (none_of a.delivered early))
 
 -- How many commands have a supporter.
 

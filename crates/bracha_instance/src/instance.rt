@@ -10,7 +10,7 @@ ghost use Rattle.bracha_instance.specs.States.{state};
 ghost use Rattle.bracha_instance.specs.NewTakes.{kind_due, taken_for};
 ghost use Rattle.bracha_instance.specs.Taking.{SendsAreFrom, has_voted, effect_of, newly};
 ghost use Rattle.bracha_instance.specs.Taking.{newly_sent, newly_delivered};
-ghost use Rattle.bracha_instance.specs.inside.Next.{only_if, after_echo, after_ready, after_kind};
+ghost use Rattle.bracha_instance.specs.inside.Next.{only_if, by_vote, kind_of, after_vote, after_kind};
 ghost use Rattle.bracha_instance.specs.Supported.{CountsSupported};
 
 use crate::first_votes::FirstVotes;
@@ -135,11 +135,15 @@ fn may_ready(sizes: &Sizes, support: Support) -> bool
         || usize::from(sizes.amplify()) <= support.readies
 }
 
-/// Whether a command with this support may be delivered.
-fn may_deliver(sizes: &Sizes, support: Support) -> bool
-    ensures { result ≡ nat_le (deliver_of sizes.now) support.readies }
+/// Whether a command with this support may be delivered by this vote. An ECHO gives it no READY more.
+#[inline(always)]
+fn may_deliver(sizes: &Sizes, vote: Vote, support: Support) -> bool
+    ensures { result ≡ by_vote vote false (nat_le (deliver_of sizes.now) support.readies) }
 {
-    usize::from(sizes.deliver()) <= support.readies
+    match vote {
+        Vote::Echo => false,
+        Vote::Ready => usize::from(sizes.deliver()) <= support.readies,
+    }
 }
 
 impl Instance {
@@ -257,53 +261,33 @@ impl Instance {
                 self.first_votes.note(Kind::Send, from, command);
                 Ok(())
             }
-            Kind::Echo => self.count_echo(sizes, from, command),
-            Kind::Ready => self.count_ready(sizes, from, command),
+            Kind::Echo => self.count_vote(sizes, Vote::Echo, from, command),
+            Kind::Ready => self.count_vote(sizes, Vote::Ready, from, command),
         }
     }
 
-    /// Counts a node's first ECHO. After a delivery it can make nothing ready.
+    /// Counts a node's first ECHO or READY. After a delivery it can cause nothing.
     #[inline(always)]
-    fn count_echo(
+    fn count_vote(
         &mut self,
         sizes: &Sizes,
+        vote: Vote,
         from: NodeName,
         command: Command,
     ) -> Result<(), AllocError>
-        requires { has_voted self.old Kind.Echo from ≡ false }
-        ensures ok { OnOk result (self.new ≡ after_echo sizes.now self.old from command self.old.delivered) }
+        requires { has_voted self.old (kind_of vote) from ≡ false }
+        ensures ok { OnOk result (self.new ≡ after_vote sizes.now self.old vote from command self.old.delivered) }
         ensures err { OnErr result (self.new ≡ self.old) }
     {
+        let kind = vote.kind();
         if self.delivered.is_some() {
-            self.first_votes.note(Kind::Echo, from, command);
+            self.first_votes.note(kind, from, command);
             return Ok(());
         }
-        let support = self.votes.count(Vote::Echo, from, command)?;
-        self.first_votes.note(Kind::Echo, from, command);
+        let support = self.votes.count(vote, from, command)?;
+        self.first_votes.note(kind, from, command);
         keep_first(&mut self.readied, may_ready(sizes, support), command);
-        Ok(())
-    }
-
-    /// Counts a node's first READY. After a delivery it can cause nothing.
-    #[inline(always)]
-    fn count_ready(
-        &mut self,
-        sizes: &Sizes,
-        from: NodeName,
-        command: Command,
-    ) -> Result<(), AllocError>
-        requires { has_voted self.old Kind.Ready from ≡ false }
-        ensures ok { OnOk result (self.new ≡ after_ready sizes.now self.old from command self.old.delivered) }
-        ensures err { OnErr result (self.new ≡ self.old) }
-    {
-        if self.delivered.is_some() {
-            self.first_votes.note(Kind::Ready, from, command);
-            return Ok(());
-        }
-        let support = self.votes.count(Vote::Ready, from, command)?;
-        self.first_votes.note(Kind::Ready, from, command);
-        keep_first(&mut self.readied, may_ready(sizes, support), command);
-        if may_deliver(sizes, support) {
+        if may_deliver(sizes, vote, support) {
             self.delivered = Some(command);
             self.votes.forget();
             return Ok(());

@@ -3,10 +3,12 @@
 ghost use Rattle.std.specs.Prelude.{◌≡◌, length, None, Some, position, IfOk, IfSome, IfNone, OnOk, OnErr};
 ghost use Rattle.std.specs.FinMap as maps;
 ghost use Rattle.std.specs.FinSet as sets;
+ghost use Rattle.bracha_instance.specs.inside.Next.{kind_of};
 ghost use Rattle.bracha_instance.specs.inside.Tallies.{no_votes, votes_of, with_vote, support_of, AreVoted};
 ghost use Rattle.bracha_instance.specs.inside.Tallies.{is_tally_of, IsFirst, with_tally, voted_by, support_in};
 ghost use Rattle.bracha_instance.specs.inside.Tallies.{no_names, names_in_tally, IsFirstChanged, IsOther};
 
+use link_frames::Kind;
 use quorum_sizes::{NodeName, NodeSet};
 use role_commands::Command;
 use std::alloc::{AllocError, Global};
@@ -17,6 +19,19 @@ use std::marker::Model;
 pub enum Vote {
     Echo,
     Ready,
+}
+
+impl Vote {
+    /// The kind of message that it is.
+    #[inline(always)]
+    pub fn kind(self) -> Kind
+        ensures { result ≡ kind_of self }
+    {
+        match self {
+            Vote::Echo => Kind::Echo,
+            Vote::Ready => Kind::Ready,
+        }
+    }
 }
 
 /// The names of the nodes whose vote is for a command, and how many these are.
