@@ -9,7 +9,9 @@ use Rattle.link_frames.specs.declared.frames.kind.Kind.TheVariants.{Send, Echo, 
 use Rattle.bracha_instance.specs.States.{State}
 use Rattle.bracha_instance.specs.Taking.{newly, sent_for}
 use Rattle.bracha_instance.specs.NewTakes.{kind_due}
-use Rattle.bracha_instance.specs.inside.Next.{only_if, after_echo, after_ready, after_kind}
+use Rattle.bracha_instance.specs.declared.tallies.Vote.{Vote}
+use Rattle.bracha_instance.specs.declared.tallies.Vote.TheVariants.{Echo as EchoVote, Ready as ReadyVote}
+use Rattle.bracha_instance.specs.inside.Next.{only_if, after_vote, after_kind}
 
 -- if there is a command, it is this one
 abbrev pub IsThis : Command → Option Command → Type 0
@@ -35,30 +37,15 @@ pub record AreThis (c : Command) (before after : State) : Type 0 where
   pub readied : IsThis c (newly before.readied after.readied)
   pub delivered : IsThis c (newly before.delivered after.delivered)
 
-are_this-echo : (s : Counts) (st : State) (name : ℕ) (c : Command) (delivered : Option Command)
-    → AreThis c st (after_echo s st name c delivered)
-are_this-echo s st name c None =
-    record {
-      echoed = is_this-same c st.echoed;
-      readied = is_this-first c st.readied _;
-      delivered = is_this-same c st.delivered;
-    }
-are_this-echo s st name c (Some d) =
-    record {
-      echoed = is_this-same c st.echoed;
-      readied = is_this-same c st.readied;
-      delivered = is_this-same c st.delivered;
-    }
-
-are_this-ready : (s : Counts) (st : State) (name : ℕ) (c : Command) (delivered : Option Command)
-    → AreThis c st (after_ready s st name c delivered)
-are_this-ready s st name c None =
+are_this-vote : (s : Counts) (st : State) (vote : Vote) (name : ℕ) (c : Command) (delivered : Option Command)
+    → AreThis c st (after_vote s st vote name c delivered)
+are_this-vote s st vote name c None =
     record {
       echoed = is_this-same c st.echoed;
       readied = is_this-first c st.readied _;
       delivered = is_this-due c st.delivered _;
     }
-are_this-ready s st name c (Some d) =
+are_this-vote s st vote name c (Some d) =
     record {
       echoed = is_this-same c st.echoed;
       readied = is_this-same c st.readied;
@@ -73,8 +60,8 @@ are_this s st Send name c =
       readied = is_this-same c st.readied;
       delivered = is_this-same c st.delivered;
     }
-are_this s st Echo name c = are_this-echo s st name c st.delivered
-are_this s st Ready name c = are_this-ready s st name c st.delivered
+are_this s st Echo name c = are_this-vote s st EchoVote name c st.delivered
+are_this s st Ready name c = are_this-vote s st ReadyVote name c st.delivered
 
 -- the flags say which message is sent ..
 sent_flags : (c : Command) (echoed readied : Option Command) → IsThis c echoed → IsThis c readied

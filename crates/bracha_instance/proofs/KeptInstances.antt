@@ -9,24 +9,31 @@ use Rattle.std.specs.FinMap as maps
 use Rattle.std.specs.FinSet as sets
 use Rattle.std.specs.Ordering.{nat_cmp}
 use Rattle.std.proofs.lemmas.List.Elements.{All-head, All-tail}
-use Rattle.quorum_sizes.specs.Sizes.{Counts, most_nodes, echo_quorum_of, amplify_of, deliver_of}
+use Rattle.quorum_sizes.specs.Sizes.{Counts, echo_quorum_of, amplify_of, deliver_of}
 use Rattle.quorum_sizes.proofs.Exported.{len_below}
 use Rattle.role_commands.specs.declared.command.Command.{Command}
 use Rattle.role_commands.specs.Same.{same_command}
 use Rattle.link_frames.specs.declared.frames.kind.Kind.{Kind}
-use Rattle.link_frames.specs.declared.frames.kind.Kind.TheVariants.{Echo, Ready}
+use Rattle.link_frames.specs.declared.frames.kind.Kind.TheVariants.{Send, Echo, Ready}
+use Rattle.bracha_instance.specs.declared.first_votes.FirstVotes.{FirstVotes}
 use Rattle.bracha_instance.specs.declared.instance.Instance.TheInside.{Inside}
+use Rattle.bracha_instance.specs.declared.record.Record.TheInside as record_of
 use Rattle.bracha_instance.specs.declared.tallies.Support.{Support}
 use Rattle.bracha_instance.specs.Prefixes.{at_first_prefix}
 use Rattle.link_frames.specs.frames.Kinds.{same_kind}
 use Rattle.bracha_instance.specs.Broadcast.{Take, Names, command_of, vote, voters, supporters}
 use Rattle.bracha_instance.specs.Broadcast.{is_vote_of, echoed, readied, delivered}
 use Rattle.bracha_instance.specs.States.{Votes, State, votes, kept, state}
+use Rattle.bracha_instance.specs.Taking.{has_voted}
+use Rattle.bracha_instance.specs.inside.FirstVotes.{is_noted, noted, none_noted, VotersFit}
 use Rattle.bracha_instance.specs.inside.Kept.{names_of}
-use Rattle.bracha_instance.specs.inside.Next.{supporters_in, ready_now, deliver_now, only_if, after_echo, after_ready}
-use Rattle.bracha_instance.specs.declared.tallies.Vote.TheVariants as vote_kind
-use Rattle.bracha_instance.specs.inside.Tallies.{Tallied, no_votes, with_vote, support_of, HasVote, AreVoted}
-use Rattle.bracha_instance.specs.inside.Instances.{instance_state, IsInstance}
+use Rattle.bracha_instance.specs.inside.Next.{supporters_in, ready_now, deliver_now, only_if, by_vote, kind_of}
+use Rattle.bracha_instance.specs.inside.Next.{with_its_vote, delivers_now, settled, after_vote, after_kind}
+use Rattle.bracha_instance.specs.declared.tallies.Vote.{Vote}
+use Rattle.bracha_instance.specs.declared.tallies.Vote.TheVariants.{Echo as EchoVote, Ready as ReadyVote}
+use Rattle.bracha_instance.specs.inside.Tallies.{Tallied, no_votes, votes_of, with_command, with_vote, support_of}
+use Rattle.bracha_instance.specs.inside.Tallies.{HasVote, AreVoted}
+use Rattle.bracha_instance.specs.inside.Instances.{instance_state, IsInstance, record_state}
 use Rattle.bracha_instance.specs.Supported.{CountsSupported}
 use Rattle.bracha_instance.proofs.Same.{same_command-true}
 use Rattle.bracha_instance.proofs.VoteMaps.{contains-names_of, names_of-insert, names_of-empty}
@@ -38,47 +45,41 @@ use Rattle.bracha_instance.proofs.StateOf.{none_of, state-echoers, state-readier
 
 -- Nothing was taken.
 
-pub new_instance : (echoers readiers : Names) (v : Tallied) → echoers ≡ sets.empty → readiers ≡ sets.empty → v
-    ≡ no_votes
-    → IsInstance (record {
-      echoed = None;
-      readied = None;
-      delivered = None;
-      echoers = echoers;
-      readiers = readiers;
-      votes = v;
+pub new_instance : (f : FirstVotes) (v : Tallied) → f ≡ none_noted → v ≡ no_votes
+    → IsInstance (record { first_votes = f; readied = None; delivered = None; votes = v })
+new_instance f v no_first none =
+    let same : none_noted ≡ f = sym no_first in
+    let votes : no_votes ≡ v = sym none in
+    let empty = sets.len-empty nat_cmp in
+    subst IsInstance (λ i. record { first_votes = same i; readied = None; delivered = None; votes = votes i }) (record {
+      echoers = λ _. names_of-empty;
+      readiers = λ _. names_of-empty;
+      forgotten = λ _. refl;
+      few = zero-le;
+      fit = record { echoers = omega (arith, empty); readiers = omega (arith, empty) };
     })
-new_instance echoers readiers v no_echoers no_readiers none = record {
-  echoers = λ _. ap (λ (w : Tallied). names_of w.echoes) none ∙ names_of-empty ∙ sym no_echoers;
-  readiers = λ _. ap (λ (w : Tallied). names_of w.readies) none ∙ names_of-empty ∙ sym no_readiers;
-  forgotten = λ _. none;
-  few = let e : length v.commands ≡ 0 = ap (λ (w : Tallied). length w.commands) none in omega arith;
-  echoers_fit = let e = ap sets.len no_echoers ∙ sets.len-empty nat_cmp in omega (arith, e);
-  readiers_fit = let e = ap sets.len no_readiers ∙ sets.len-empty nat_cmp in omega (arith, e);
-}
 
-pub state-empty : (s : Counts) (echoers readiers : Names) (v : Tallied) → echoers ≡ sets.empty → readiers ≡ sets.empty
-    → v ≡ no_votes
-    → instance_state (record {
-      echoed = None;
-      readied = None;
-      delivered = None;
-      echoers = echoers;
-      readiers = readiers;
-      votes = v;
-    })
-    ≡ state s []
+pub state-empty : (s : Counts) (f : FirstVotes) (v : Tallied) → f ≡ none_noted → v ≡ no_votes
+    → instance_state (record { first_votes = f; readied = None; delivered = None; votes = v }) ≡ state s []
 unfolding state echoed readied delivered voters votes at_first_prefix
-state-empty s echoers readiers v no_echoers no_readiers none = λ i.
-    record {
-      echoed = None;
-      readied = None;
-      delivered = None;
-      echoers = no_echoers i;
-      readiers = no_readiers i;
-      echo_votes = (none i).echoes;
-      ready_votes = (none i).readies;
-    }
+state-empty s f v no_first none = λ i.
+    instance_state (record { first_votes = no_first i; readied = None; delivered = None; votes = none i })
+
+-- What is noted is what contracts see.
+
+abbrev first_of : State → FirstVotes
+first_of st = record { echoed = st.echoed; echoers = st.echoers; readiers = st.readiers }
+
+pub is_noted-has_voted : (st : State) (kind : Kind) (p : ℕ) → is_noted (first_of st) kind p ≡ has_voted st kind p
+is_noted-has_voted st Send p = refl
+is_noted-has_voted st Echo p = refl
+is_noted-has_voted st Ready p = refl
+
+pub record_noted : (s : Counts) (a : record_of.Inside) (kind : Kind) (p : ℕ) (c : Command)
+    → record_state (record a { first_votes = noted a.first_votes kind p c }) ≡ after_kind s (record_state a) kind p c
+record_noted s a Send p c = refl
+record_noted s a Echo p c = refl
+record_noted s a Ready p c = refl
 
 -- A first vote, before a delivery.
 
@@ -86,165 +87,111 @@ no_vote : (v : Votes) (names : Names) (p : ℕ) → names_of v ≡ names → set
 no_vote v names p same is =
     none_of (maps.get v p) (sym (contains-names_of v p) ∙ ap (λ s. sets.contains s p) same ∙ is)
 
-pub free_echo : (a : Inside) (p : ℕ) → IsInstance a → is_some a.delivered ≡ false → sets.contains a.echoers p ≡ false
-    → maps.get a.votes.echoes p ≡ None
-free_echo a p h early is = no_vote a.votes.echoes a.echoers p (h.echoers (none_of a.delivered early)) is
+pub free_vote : (vote : Vote) (a : Inside) (p : ℕ) → IsInstance a → is_some a.delivered ≡ false
+    → has_voted (instance_state a) (kind_of vote) p ≡ false → maps.get (votes_of vote a.votes) p ≡ None
+free_vote EchoVote a p h early is = no_vote _ _ p (h.echoers (none_of a.delivered early)) is
+free_vote ReadyVote a p h early is = no_vote _ _ p (h.readiers (none_of a.delivered early)) is
 
-pub free_ready : (a : Inside) (p : ℕ) → IsInstance a → is_some a.delivered ≡ false → sets.contains a.readiers p ≡ false
-    → maps.get a.votes.readies p ≡ None
-free_ready a p h early is = no_vote a.votes.readies a.readiers p (h.readiers (none_of a.delivered early)) is
-
-pub echo_kept : (a : Inside) (p : ℕ) (c : Command) (now : Option Command) (echoers : Names) (v : Tallied) →
-    IsInstance a → is_some a.delivered ≡ false → sets.contains a.echoers p ≡ false →
-    echoers ≡ sets.insert a.echoers p → sets.len echoers ≤ most_nodes
-    → v ≡ with_vote vote_kind.Echo a.votes p c →
-    IsInstance (record a { readied = now; echoers = echoers; votes = v })
-echo_kept a p c now echoers v h early new is fit more =
-    let none = none_of a.delivered early in record {
-      echoers = λ _.
-          ap (λ (w : Tallied). names_of w.echoes) more
-          ∙ names_of-insert a.votes.echoes p c
-          ∙ ap (λ s. sets.insert s p) (h.echoers none)
-          ∙ sym is;
-      readiers = λ _. ap (λ (w : Tallied). names_of w.readies) more ∙ h.readiers none;
+pub vote_kept : (vote : Vote) (a : Inside) (p : ℕ) (c : Command) {kind : Kind} {now : Option Command}
+    {f : FirstVotes} {v : Tallied} → IsInstance a → is_some a.delivered ≡ false
+    → has_voted (instance_state a) (kind_of vote) p ≡ false →
+    kind ≡ kind_of vote → f ≡ noted a.first_votes kind p c → (VotersFit a.first_votes → VotersFit f)
+    → v ≡ with_vote vote a.votes p c →
+    IsInstance (record a { first_votes = f; readied = now; votes = v })
+vote_kept vote a p c {v = v} h early new k first fit more =
+    let is = first ∙ ap (λ kind. noted a.first_votes kind p c) k in
+    let none = none_of a.delivered early in
+    let names = names_more vote a p c h none in
+    let before : length a.votes.commands ≤ sets.len a.first_votes.echoers + sets.len a.first_votes.readiers = h.few in
+    let after = ap (λ (w : Tallied). length w.commands) more ∙ commands_more vote a.votes p c in
+    let count = ap voters_in is ∙ voter_more vote a p c new in record {
+      echoers = λ _. (λ i. names_of (more i).echoes) ∙ names.0 ∙ sym (λ i. (is i).echoers);
+      readiers = λ _. (λ i. names_of (more i).readies) ∙ names.1 ∙ sym (λ i. (is i).readiers);
       forgotten = λ some. absurd (no_some a.delivered none some);
-      few =
-          let before : length a.votes.commands ≤ sets.len a.echoers + sets.len a.readiers = h.few in
-          let after = ap (λ (w : Tallied). length w.commands) more in
-          let names = ap sets.len is ∙ one_more_name a.echoers p new in
-          omega (arith, length-with_command c a.votes.commands, after, names);
-      echoers_fit = fit;
-      readiers_fit = h.readiers_fit;
+      few = omega (arith, length-with_command c a.votes.commands, after, count);
+      fit = fit h.fit;
     }
+  where
+    voters_in : FirstVotes → ℕ
+    voters_in f = sets.len f.echoers + sets.len f.readiers
 
-pub ready_kept : (a : Inside) (p : ℕ) (c : Command) (now : Option Command) (readiers : Names) (v : Tallied) →
-    IsInstance a → is_some a.delivered ≡ false → sets.contains a.readiers p ≡ false →
-    readiers ≡ sets.insert a.readiers p → sets.len readiers ≤ most_nodes
-    → v ≡ with_vote vote_kind.Ready a.votes p c →
-    IsInstance (record a { readied = now; readiers = readiers; votes = v })
-ready_kept a p c now readiers v h early new is fit more =
-    let none = none_of a.delivered early in record {
-      echoers = λ _. ap (λ (w : Tallied). names_of w.echoes) more ∙ h.echoers none;
-      readiers = λ _.
-          ap (λ (w : Tallied). names_of w.readies) more
-          ∙ names_of-insert a.votes.readies p c
-          ∙ ap (λ s. sets.insert s p) (h.readiers none)
-          ∙ sym is;
-      forgotten = λ some. absurd (no_some a.delivered none some);
-      few =
-          let before : length a.votes.commands ≤ sets.len a.echoers + sets.len a.readiers = h.few in
-          let after = ap (λ (w : Tallied). length w.commands) more in
-          let names = ap sets.len is ∙ one_more_name a.readiers p new in
-          omega (arith, length-with_command c a.votes.commands, after, names);
-      echoers_fit = h.echoers_fit;
-      readiers_fit = fit;
-    }
+    names_more : (vote : Vote) (a : Inside) (p : ℕ) (c : Command) → IsInstance a → a.delivered ≡ None
+        → (names_of (with_vote vote a.votes p c).echoes ≡ (noted a.first_votes (kind_of vote) p c).echoers)
+        × (names_of (with_vote vote a.votes p c).readies ≡ (noted a.first_votes (kind_of vote) p c).readiers)
+    names_more EchoVote a p c h none =
+        (names_of-insert a.votes.echoes p c ∙ ap (λ s. sets.insert s p) (h.echoers none), h.readiers none)
+    names_more ReadyVote a p c h none =
+        (h.echoers none, names_of-insert a.votes.readies p c ∙ ap (λ s. sets.insert s p) (h.readiers none))
 
--- What may be readied or delivered with some support.
+    commands_more : (vote : Vote) (v : Tallied) (p : ℕ) (c : Command)
+        → length (with_vote vote v p c).commands ≡ length (with_command c v.commands)
+    commands_more EchoVote v p c = refl
+    commands_more ReadyVote v p c = refl
 
-pub ready_by_support : (s : Counts) (c : Command) (due : Bool) (n : Support) (v : Tallied)
+    voter_more : (vote : Vote) (a : Inside) (p : ℕ) (c : Command)
+        → has_voted (instance_state a) (kind_of vote) p ≡ false
+        → voters_in (noted a.first_votes (kind_of vote) p c) ≡ voters_in a.first_votes + 1
+    voter_more EchoVote a p c new = let more = one_more_name a.first_votes.echoers p new in omega arith
+    voter_more ReadyVote a p c new = let more = one_more_name a.first_votes.readiers p new in omega arith
+
+-- What is readied and delivered with some support.
+
+ready_by_support : (s : Counts) (c : Command) (due : Bool) (n : Support) (v : Tallied)
     → due ≡ (nat_le (echo_quorum_of s) n.echoes || nat_le (amplify_of s) n.readies) → n ≡ support_of v c
     → due ≡ ready_now s c v.echoes v.readies
 unfolding ready_now
 ready_by_support s c due n v is support =
     is ∙ ap (λ (m : Support). nat_le (echo_quorum_of s) m.echoes || nat_le (amplify_of s) m.readies) support
 
-pub deliver_by_support : (s : Counts) (c : Command) (due : Bool) (n : Support) (v : Tallied)
-    → due ≡ nat_le (deliver_of s) n.readies → n ≡ support_of v c
-    → due ≡ deliver_now s c v.readies
+deliver_by_support : (s : Counts) (vote : Vote) (c : Command) (due : Bool) (n : Support) (v : Tallied)
+    → due ≡ by_vote vote false (nat_le (deliver_of s) n.readies) → n ≡ support_of v c
+    → due ≡ delivers_now s vote c v.readies
 unfolding deliver_now
-deliver_by_support s c due n v is support = is ∙ ap (λ (m : Support). nat_le (deliver_of s) m.readies) support
+deliver_by_support s vote c due n v is support =
+    is ∙ ap (λ (m : Support). by_vote vote false (nat_le (deliver_of s) m.readies)) support
 
-pub echo_early : (s : Counts) (p : ℕ) (c : Command) (a : Inside) (due : Bool) (now : Option Command) (echoers : Names)
-    (v : Tallied) → is_some a.delivered ≡ false → echoers ≡ sets.insert a.echoers p
-    → v ≡ with_vote vote_kind.Echo a.votes p c →
-    due ≡ ready_now s c v.echoes v.readies → now ≡ option_or a.readied (only_if due c) →
-    instance_state (record a { readied = now; echoers = echoers; votes = v })
-    ≡ after_echo s (instance_state a) p c a.delivered
-echo_early s p c a due now echoers v early is more is_due is_now =
-    let ready = is_now ∙ ap (λ b. option_or a.readied (only_if b c))
-    (is_due ∙ ap (λ (w : Tallied). ready_now s c w.echoes w.readies) more) in
-    let step : instance_state (record a { readied = now; echoers = echoers; votes = v })
-    ≡ after_echo s (instance_state a) p c None = λ i.
+abbrev more_of : Vote → Inside → ℕ → Command → Inside
+more_of vote a p c =
+    record a { first_votes = noted a.first_votes (kind_of vote) p c; votes = with_vote vote a.votes p c }
+
+more_is : (vote : Vote) (a : Inside) (p : ℕ) (c : Command)
+    → instance_state (more_of vote a p c) ≡ with_its_vote (instance_state a) vote p c
+more_is EchoVote a p c = refl
+more_is ReadyVote a p c = refl
+
+-- with `d` delivered then, and the votes `w` kept
+pub vote_early : (s : Counts) (vote : Vote) (p : ℕ) (c : Command) (a : Inside) {kind : Kind} {due delivers : Bool}
+    {now d : Option Command} {f : FirstVotes} {v : Tallied} {n : Support} (w : Tallied)
+    → is_some a.delivered ≡ false → kind ≡ kind_of vote
+    → f ≡ noted a.first_votes kind p c → v ≡ with_vote vote a.votes p c → n ≡ support_of v c →
+    due ≡ (nat_le (echo_quorum_of s) n.echoes || nat_le (amplify_of s) n.readies) →
+    now ≡ option_or a.readied (only_if due c) →
+    delivers ≡ by_vote vote false (nat_le (deliver_of s) n.readies) → d ≡ only_if delivers c →
+    w.echoes ≡ kept d v.echoes → w.readies ≡ kept d v.readies →
+    instance_state (record a { first_votes = f; readied = now; delivered = d; votes = w })
+    ≡ after_vote s (instance_state a) vote p c a.delivered
+vote_early s vote p c a {v = v} {n = n} w early k is more support is_due is_now is_deliver is_d echoes readies =
+    let first = is ∙ ap (λ k. noted a.first_votes k p c) k in
+    let due = ready_by_support s c _ n v is_due support ∙ (λ i. ready_now s c (more i).echoes (more i).readies) in
+    let ready = is_now ∙ ap (λ b. option_or a.readied (only_if b c)) due in
+    let delivers = deliver_by_support s vote c _ n v is_deliver support
+    ∙ (λ i. delivers_now s vote c (more i).readies) in
+    let deliver = is_d ∙ ap (λ b. only_if b c) delivers in
+    let echo_votes = echoes ∙ (λ i. kept (deliver i) (more i).echoes) in
+    let ready_votes = readies ∙ (λ i. kept (deliver i) (more i).readies) in
+    let settle : State → State = λ st. settled s c (delivers_now s vote c st.ready_votes) st in
+    let step : _ ≡ settle (instance_state (more_of vote a p c)) = λ i.
     record {
-      echoed = a.echoed;
+      echoed = (first i).echoed;
       readied = ready i;
-      delivered = a.delivered;
-      echoers = is i;
-      readiers = a.readiers;
-      echo_votes = (more i).echoes;
-      ready_votes = (more i).readies;
+      delivered = deliver i;
+      echoers = (first i).echoers;
+      readiers = (first i).readiers;
+      echo_votes = echo_votes i;
+      ready_votes = ready_votes i;
     } in
-    step ∙ ap (after_echo s (instance_state a) p c) (sym (none_of a.delivered early))
-
-pub ready_early : (s : Counts) (p : ℕ) (c : Command) (a : Inside) (due : Bool) (now : Option Command) (readiers : Names)
-    (v : Tallied) → is_some a.delivered ≡ false → readiers ≡ sets.insert a.readiers p
-    → v ≡ with_vote vote_kind.Ready a.votes p c →
-    due ≡ ready_now s c v.echoes v.readies → now ≡ option_or a.readied (only_if due c) →
-    false ≡ deliver_now s c v.readies →
-    instance_state (record a { readied = now; readiers = readiers; votes = v })
-    ≡ after_ready s (instance_state a) p c a.delivered
-ready_early s p c a due now readiers v early is more is_due is_now not_yet =
-    let ready = is_now ∙ ap (λ b. option_or a.readied (only_if b c))
-    (is_due ∙ ap (λ (w : Tallied). ready_now s c w.echoes w.readies) more) in
-    let deliver = not_yet ∙ ap (λ (w : Tallied). deliver_now s c w.readies) more in
-    let none = none_of a.delivered early in
-    let step : instance_state (record a { readied = now; readiers = readiers; votes = v })
-    ≡ after_ready s (instance_state a) p c None =
-    (λ i. record {
-      echoed = a.echoed;
-      readied = ready i;
-      delivered = none i;
-      echoers = a.echoers;
-      readiers = is i;
-      echo_votes = (more i).echoes;
-      ready_votes = (more i).readies;
-    })
-    ∙ (λ i. record {
-      echoed = a.echoed;
-      readied = option_or a.readied (only_if (ready_now s c a.votes.echoes (maps.insert a.votes.readies p c)) c);
-      delivered = only_if (deliver i) c;
-      echoers = a.echoers;
-      readiers = sets.insert a.readiers p;
-      echo_votes = kept (only_if (deliver i) c) a.votes.echoes;
-      ready_votes = kept (only_if (deliver i) c) (maps.insert a.votes.readies p c);
-    }) in
-    step ∙ ap (after_ready s (instance_state a) p c) (sym none)
-
-pub deliver_early : (s : Counts) (p : ℕ) (c : Command) (a : Inside) (due : Bool) (now : Option Command)
-    (readiers : Names)
-    (v w : Tallied) → is_some a.delivered ≡ false → readiers ≡ sets.insert a.readiers p
-    → v ≡ with_vote vote_kind.Ready a.votes p c →
-    due ≡ ready_now s c v.echoes v.readies → now ≡ option_or a.readied (only_if due c) →
-    true ≡ deliver_now s c v.readies → w ≡ no_votes →
-    instance_state (record a { readied = now; delivered = Some c; readiers = readiers; votes = w })
-    ≡ after_ready s (instance_state a) p c a.delivered
-deliver_early s p c a due now readiers v w early is more is_due is_now is_deliver forgotten =
-    let ready = is_now ∙ ap (λ b. option_or a.readied (only_if b c))
-    (is_due ∙ ap (λ (w : Tallied). ready_now s c w.echoes w.readies) more) in
-    let deliver = is_deliver ∙ ap (λ (w : Tallied). deliver_now s c w.readies) more in
-    let none = none_of a.delivered early in
-    let step : instance_state (record a { readied = now; delivered = Some c; readiers = readiers; votes = w })
-    ≡ after_ready s (instance_state a) p c None =
-    (λ i. record {
-      echoed = a.echoed;
-      readied = ready i;
-      delivered = Some c;
-      echoers = a.echoers;
-      readiers = is i;
-      echo_votes = (forgotten i).echoes;
-      ready_votes = (forgotten i).readies;
-    })
-    ∙ (λ i. record {
-      echoed = a.echoed;
-      readied = option_or a.readied (only_if (ready_now s c a.votes.echoes (maps.insert a.votes.readies p c)) c);
-      delivered = only_if (deliver i) c;
-      echoers = a.echoers;
-      readiers = sets.insert a.readiers p;
-      echo_votes = kept (only_if (deliver i) c) a.votes.echoes;
-      ready_votes = kept (only_if (deliver i) c) (maps.insert a.votes.readies p c);
-    }) in
-    step ∙ ap (after_ready s (instance_state a) p c) (sym none)
+    step ∙ ap settle (more_is vote a p c)
+    ∙ ap (after_vote s (instance_state a) vote p c) (sym (none_of a.delivered early))
 
 -- How many commands have a supporter.
 
@@ -313,7 +260,7 @@ voter_below n kind (t ∷ takes) below q is =
     at false b same is rest = rest is
 
 pub kept_few : (s : Counts) (takes : List Take) (a : Inside)
-    → length a.votes.commands ≤ sets.len a.echoers + sets.len a.readiers
+    → length a.votes.commands ≤ sets.len a.first_votes.echoers + sets.len a.first_votes.readiers
     → instance_state a ≡ state s takes → All (λ (t : Take). t.from < s.nodes) takes
     → length a.votes.commands ≤ 2 * s.nodes
 kept_few s takes a few is below =

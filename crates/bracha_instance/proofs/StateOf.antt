@@ -14,8 +14,10 @@ use Rattle.bracha_instance.specs.Broadcast.{Take, command_of, is_of_kind, is_vot
 use Rattle.bracha_instance.specs.Broadcast.{supporters, echoed, readied, delivered, may_ready, may_deliver}
 use Rattle.bracha_instance.specs.States.{State, votes, kept, state}
 use Rattle.bracha_instance.specs.Laws.{or_else_if, RepeatChangesNothing}
-use Rattle.bracha_instance.specs.inside.Next.{ready_now, deliver_now, only_if, after_send}
-use Rattle.bracha_instance.specs.inside.Next.{after_echo, after_ready, after_kind, after}
+use Rattle.bracha_instance.specs.declared.tallies.Vote.{Vote}
+use Rattle.bracha_instance.specs.declared.tallies.Vote.TheVariants.{Echo as EchoVote, Ready as ReadyVote}
+use Rattle.bracha_instance.specs.inside.Next.{ready_now, deliver_now, only_if, by_vote, kind_of, delivers_now}
+use Rattle.bracha_instance.specs.inside.Next.{after_send, after_vote, after_kind, after}
 use Rattle.bracha_instance.specs.Taking.{has_voted}
 use Rattle.bracha_instance.proofs.Voting.{or_nothing, vote_push-other, vote_push-again, echoed_push}
 use Rattle.bracha_instance.proofs.Voting.{some_stays, contains-voters, supporters_alike}
@@ -23,7 +25,7 @@ use Rattle.bracha_instance.proofs.Voting.{voters_alike, votes_alike, votes_push-
 use Rattle.bracha_instance.proofs.Due.{may_ready-votes, may_deliver-votes, may_ready-alike}
 use Rattle.bracha_instance.proofs.Due.{may_deliver-alike, readies_its_own, delivers_its_own}
 use Rattle.bracha_instance.proofs.Due.{not_ready, not_deliverable, delivered_is_ready}
-use Rattle.bracha_instance.proofs.StateSteps.{IsEchoStep, IsReadyStep, echo_step, ready_step, send_again}
+use Rattle.bracha_instance.proofs.StateSteps.{IsVoteStep, vote_step, send_again}
 
 -- what follows from the messages, with all votes
 abbrev all_of : Counts → List Take → State
@@ -134,11 +136,16 @@ push_send s ts p c =
       ready_votes = kept (ed i) (votes_alike Ready ts us rv i);
     }
 
--- An ECHO.
+-- A vote.
 
 pub none_of : {X : Type 0} (o : Option X) → is_some o ≡ false → o ≡ None
 none_of None e = refl
 none_of (Some x) e = absurd cc
+
+-- nothing but a SEND makes a node echo
+echoed_same : (ts : List Take) (t : Take) → same_kind Send t.kind ≡ false → echoed (ts ++ t ∷ []) ≡ echoed ts
+echoed_same ts t no_send =
+    echoed_push ts t ∙ ap (λ b. option_or (echoed ts) (cond b (Some t.command) None)) no_send ∙ or_nothing (echoed ts)
 
 -- a second vote, of whatever kind but SEND
 push_again : (s : Counts) (ts : List Take) (t : Take) → same_kind Send t.kind ≡ false
@@ -148,7 +155,7 @@ push_again s ts t no_send voted =
     let us = ts ++ t ∷ [] in
     let same : (kind : Kind) → SameVotes kind ts us = λ kind q. vote_push-again kind q ts t voted in
     state_by s ts us
-    (echoed_push ts t ∙ ap (λ b. option_or (echoed ts) (cond b (Some t.command) None)) no_send ∙ or_nothing (echoed ts))
+    (echoed_same ts t no_send)
     (readied_same s ts t (supporters_same Echo t.command ts us (same Echo))
     (supporters_same Ready t.command ts us (same Ready)))
     (delivered_same s ts t (supporters_same Ready t.command ts us (same Ready)))
@@ -167,84 +174,78 @@ delivered_late : (s : Counts) (ts : List Take) (t : Take) → is_some (delivered
     → delivered s (ts ++ t ∷ []) ≡ delivered s ts
 delivered_late s ts t some = delivers_its_own s ts t ∙ some_stays (delivered s ts) _ some
 
-first_echo : (s : Counts) (ts : List Take) (p : ℕ) (c : Command) → vote Echo p ts ≡ None →
-    state s (ts ++ (record {
-      kind = Echo;
-      from = p;
-      command = c;
-    }) ∷ []) ≡ after_echo s (state s ts) p c (delivered s ts)
-unfolding state
-first_echo s ts p c none =
-    let t : Take = record { kind = Echo; from = p; command = c } in
-    let us = ts ++ t ∷ [] in
-    let rv : SameVotes Ready ts us = λ q. vote_push-other Ready q ts t refl in
-    let echoes = votes_push-first ts t none in
-    let readies = votes_alike Ready ts us rv in
-    let may : may_ready s us c ≡ ready_now s c (maps.insert (votes Echo ts) p c) (votes Ready ts) =
-    may_ready-votes s us c ∙ (λ i. ready_now s c (echoes i) (readies i)) in
-    let step : IsEchoStep s p c (all_of s ts) (all_of s us) = record {
-      echoed = echoed_push ts t ∙ or_nothing (echoed ts);
-      early = λ _. readies_its_own s ts t ∙ ap (λ b. option_or (readied s ts) (only_if b c)) may;
-      late = λ some. readied_late s ts t (delivered s ts) refl some;
-      delivered = delivered_same s ts t (supporters_same Ready c ts us rv);
+abbrev vote_take : Vote → ℕ → Command → Take
+vote_take v p c = record { kind = kind_of v; from = p; command = c }
+
+no_send : (v : Vote) → same_kind Send (kind_of v) ≡ false
+no_send EchoVote = refl
+no_send ReadyVote = refl
+
+-- of those who voted and of their votes only those of this kind are more
+pub record AreMore (v : Vote) (p : ℕ) (c : Command) (ts us : List Take) : Type 0 where
+  pub echoers : voters Echo us ≡ by_vote v (sets.insert (voters Echo ts) p) (voters Echo ts)
+  pub readiers : voters Ready us ≡ by_vote v (voters Ready ts) (sets.insert (voters Ready ts) p)
+  pub echoes : votes Echo us ≡ by_vote v (maps.insert (votes Echo ts) p c) (votes Echo ts)
+  pub readies : votes Ready us ≡ by_vote v (votes Ready ts) (maps.insert (votes Ready ts) p c)
+
+are_more : (v : Vote) (ts : List Take) (p : ℕ) (c : Command) → vote (kind_of v) p ts ≡ None
+    → AreMore v p c ts (ts ++ vote_take v p c ∷ [])
+are_more EchoVote ts p c none =
+    let t = vote_take EchoVote p c in
+    let same : SameVotes Ready ts (ts ++ t ∷ []) = λ q. vote_push-other Ready q ts t refl in record {
       echoers = voters_push ts t;
-      readiers = voters_alike Ready ts us rv;
-      echo_votes = echoes;
-      ready_votes = readies;
-    } in
-    echo_step step
-
-echo_by : (s : Counts) (ts : List Take) (p : ℕ) (c : Command) (b : Bool) → sets.contains (voters Echo ts) p ≡ b →
-    state s (ts ++ (record {
-      kind = Echo;
-      from = p;
-      command = c;
-    }) ∷ []) ≡ cond b (state s ts) (after_echo s (state s ts) p c (delivered s ts))
-echo_by s ts p c true is =
-    push_again s ts (record { kind = Echo; from = p; command = c }) refl (sym (contains-voters Echo ts p) ∙ is)
-echo_by s ts p c false is = first_echo s ts p c (none_of (vote Echo p ts) (sym (contains-voters Echo ts p) ∙ is))
-
--- A READY.
-
-first_ready : (s : Counts) (ts : List Take) (p : ℕ) (c : Command) → vote Ready p ts ≡ None →
-    state s (ts ++ (record {
-      kind = Ready;
-      from = p;
-      command = c;
-    }) ∷ []) ≡ after_ready s (state s ts) p c (delivered s ts)
-unfolding state
-first_ready s ts p c none =
-    let t : Take = record { kind = Ready; from = p; command = c } in
-    let us = ts ++ t ∷ [] in
-    let ev : SameVotes Echo ts us = λ q. vote_push-other Echo q ts t refl in
-    let echoes = votes_alike Echo ts us ev in
-    let readies = votes_push-first ts t none in
-    let may : may_ready s us c ≡ ready_now s c (votes Echo ts) (maps.insert (votes Ready ts) p c) =
-    may_ready-votes s us c ∙ (λ i. ready_now s c (echoes i) (readies i)) in
-    let may_now : may_deliver s us c ≡ deliver_now s c (maps.insert (votes Ready ts) p c) =
-    may_deliver-votes s us c ∙ ap (deliver_now s c) readies in
-    let step : IsReadyStep s p c (all_of s ts) (all_of s us) = record {
-      echoed = echoed_push ts t ∙ or_nothing (echoed ts);
-      early = λ _. readies_its_own s ts t ∙ ap (λ b. option_or (readied s ts) (only_if b c)) may;
-      late = λ some. readied_late s ts t (delivered s ts) refl some;
-      delivered_early = λ before. delivers_its_own s ts t ∙ (λ i. option_or (before i) (only_if (may_now i) c));
-      delivered_late = λ some. delivered_late s ts t some;
-      echoers = voters_alike Echo ts us ev;
+      readiers = voters_alike Ready ts _ same;
+      echoes = votes_push-first ts t none;
+      readies = votes_alike Ready ts _ same;
+    }
+are_more ReadyVote ts p c none =
+    let t = vote_take ReadyVote p c in
+    let same : SameVotes Echo ts (ts ++ t ∷ []) = λ q. vote_push-other Echo q ts t refl in record {
+      echoers = voters_alike Echo ts _ same;
       readiers = voters_push ts t;
-      echo_votes = echoes;
-      ready_votes = readies;
-    } in
-    ready_step step
+      echoes = votes_alike Echo ts _ same;
+      readies = votes_push-first ts t none;
+    }
 
-ready_by : (s : Counts) (ts : List Take) (p : ℕ) (c : Command) (b : Bool) → sets.contains (voters Ready ts) p ≡ b →
-    state s (ts ++ (record {
-      kind = Ready;
-      from = p;
-      command = c;
-    }) ∷ []) ≡ cond b (state s ts) (after_ready s (state s ts) p c (delivered s ts))
-ready_by s ts p c true is =
-    push_again s ts (record { kind = Ready; from = p; command = c }) refl (sym (contains-voters Ready ts p) ∙ is)
-ready_by s ts p c false is = first_ready s ts p c (none_of (vote Ready p ts) (sym (contains-voters Ready ts p) ∙ is))
+-- before a delivery an ECHO makes nothing deliverable
+delivers_by : (v : Vote) (s : Counts) (ts us : List Take) (p : ℕ) (c : Command) → delivered s ts ≡ None
+    → AreMore v p c ts us
+    → may_deliver s us c ≡ delivers_now s v c (by_vote v (votes Ready ts) (maps.insert (votes Ready ts) p c))
+delivers_by EchoVote s ts us p c none more =
+    may_deliver-votes s us c ∙ ap (deliver_now s c) more.readies ∙ sym (may_deliver-votes s ts c)
+    ∙ not_deliverable s ts none c
+delivers_by ReadyVote s ts us p c none more = may_deliver-votes s us c ∙ ap (deliver_now s c) more.readies
+
+first_vote : (v : Vote) (s : Counts) (ts : List Take) (p : ℕ) (c : Command) → vote (kind_of v) p ts ≡ None →
+    state s (ts ++ vote_take v p c ∷ []) ≡ after_vote s (state s ts) v p c (delivered s ts)
+unfolding state
+first_vote v s ts p c none =
+    let t = vote_take v p c in
+    let us = ts ++ t ∷ [] in
+    let more = are_more v ts p c none in
+    let may = may_ready-votes s us c ∙ (λ i. ready_now s c (more.echoes i) (more.readies i)) in
+    let step : IsVoteStep s v p c (all_of s ts) (all_of s us) = record {
+      echoed = echoed_same ts t (no_send v);
+      readied_early = λ _. readies_its_own s ts t ∙ ap (λ b. option_or (readied s ts) (only_if b c)) may;
+      readied_late = λ some. readied_late s ts t (delivered s ts) refl some;
+      delivered_early = λ before.
+          let due = delivers_by v s ts us p c before more in
+          delivers_its_own s ts t ∙ (λ i. option_or (before i) (only_if (due i) c));
+      delivered_late = λ some. delivered_late s ts t some;
+      echoers = more.echoers;
+      readiers = more.readiers;
+      echo_votes = more.echoes;
+      ready_votes = more.readies;
+    } in
+    vote_step step
+
+vote_by : (v : Vote) (s : Counts) (ts : List Take) (p : ℕ) (c : Command) (b : Bool)
+    → sets.contains (voters (kind_of v) ts) p ≡ b →
+    state s (ts ++ vote_take v p c ∷ []) ≡ cond b (state s ts) (after_vote s (state s ts) v p c (delivered s ts))
+vote_by v s ts p c true is =
+    push_again s ts (vote_take v p c) (no_send v) (sym (contains-voters (kind_of v) ts p) ∙ is)
+vote_by v s ts p c false is =
+    first_vote v s ts p c (none_of (vote (kind_of v) p ts) (sym (contains-voters (kind_of v) ts p) ∙ is))
 
 -- Any message.
 
@@ -256,8 +257,8 @@ push_by : (s : Counts) (ts : List Take) (kind : Kind) (p : ℕ) (c : Command) �
     }) ∷ []) ≡ cond (has_voted (state s ts) kind p) (state s ts) (after_kind s (state s ts) kind p c)
 unfolding state
 push_by s ts Send p c = push_send s ts p c ∙ send_by (state s ts) c (is_some (echoed ts)) refl
-push_by s ts Echo p c = echo_by s ts p c (sets.contains (voters Echo ts) p) refl
-push_by s ts Ready p c = ready_by s ts p c (sets.contains (voters Ready ts) p) refl
+push_by s ts Echo p c = vote_by EchoVote s ts p c (sets.contains (voters Echo ts) p) refl
+push_by s ts Ready p c = vote_by ReadyVote s ts p c (sets.contains (voters Ready ts) p) refl
 
 -- the state of a longer list is one step from the state of the list
 pub state_push : (s : Counts) (ts : List Take) (t : Take) → state s (ts ++ t ∷ []) ≡ after s (state s ts) t

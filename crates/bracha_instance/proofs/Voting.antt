@@ -17,11 +17,10 @@ use Rattle.link_frames.specs.declared.frames.kind.Kind.TheVariants.{Send}
 use Rattle.bracha_instance.specs.Broadcast.{Take, command_of, from_of, is_of_kind, is_vote_of}
 use Rattle.bracha_instance.specs.Broadcast.{is_for, vote, voters, supporters, echoed}
 use Rattle.bracha_instance.specs.States.{votes}
-use Rattle.bracha_instance.specs.inside.Kept.{names_of}
 use Rattle.bracha_instance.specs.inside.Next.{supporters_in}
 use Rattle.bracha_instance.proofs.Same.{same_kind-true, same_kind-refl}
 use Rattle.quorum_sizes.proofs.Exported.{same_names, contains-insert}
-use Rattle.bracha_instance.proofs.VoteMaps.{same_votes, get-insert, contains-names_of, contains-supporters_in, some_and}
+use Rattle.bracha_instance.proofs.VoteMaps.{same_votes, get-insert, contains-supporters_in, some_and}
 
 -- Options.
 

@@ -10,13 +10,14 @@ ghost use Rattle.bracha_instance.specs.States.{state};
 ghost use Rattle.bracha_instance.specs.NewTakes.{kind_due, taken_for};
 ghost use Rattle.bracha_instance.specs.Taking.{SendsAreFrom, has_voted, effect_of, newly};
 ghost use Rattle.bracha_instance.specs.Taking.{newly_sent, newly_delivered};
-ghost use Rattle.bracha_instance.specs.inside.Next.{only_if, after_send, after_echo, after_ready, after_kind};
+ghost use Rattle.bracha_instance.specs.inside.Next.{only_if, by_vote, kind_of, after_vote, after_kind};
 ghost use Rattle.bracha_instance.specs.Supported.{CountsSupported};
 
+use crate::first_votes::FirstVotes;
 use crate::record::Record;
 use crate::tallies::{Support, Tallies, Vote};
 use link_frames::Kind;
-use quorum_sizes::{NodeName, NodeSet, Sizes};
+use quorum_sizes::{NodeName, Sizes};
 use role_commands::Command;
 use std::alloc::{AllocError, Global};
 use std::marker::Model;
@@ -72,11 +73,9 @@ impl Caused {
 /// Contracts see it as its `State`, whatever keeps the votes.
 #[derive(Drop)]
 pub struct Instance {
-    echoed: Option<Command>,
+    first_votes: FirstVotes,
     readied: Option<Command>,
     delivered: Option<Command>,
-    echoers: NodeSet,
-    readiers: NodeSet,
     votes: Tallies,
 }
 
@@ -136,11 +135,15 @@ fn may_ready(sizes: &Sizes, support: Support) -> bool
         || usize::from(sizes.amplify()) <= support.readies
 }
 
-/// Whether a command with this support may be delivered.
-fn may_deliver(sizes: &Sizes, support: Support) -> bool
-    ensures { result ≡ nat_le (deliver_of sizes.now) support.readies }
+/// Whether a command with this support may be delivered by this vote. An ECHO gives it no READY more.
+#[inline(always)]
+fn may_deliver(sizes: &Sizes, vote: Vote, support: Support) -> bool
+    ensures { result ≡ by_vote vote false (nat_le (deliver_of sizes.now) support.readies) }
 {
-    usize::from(sizes.deliver()) <= support.readies
+    match vote {
+        Vote::Echo => false,
+        Vote::Ready => usize::from(sizes.deliver()) <= support.readies,
+    }
 }
 
 impl Instance {
@@ -149,11 +152,9 @@ impl Instance {
         ensures { (s : Counts) → result ≡ state s [] }
     {
         Instance {
-            echoed: None,
+            first_votes: FirstVotes::new(),
             readied: None,
             delivered: None,
-            echoers: NodeSet::new(),
-            readiers: NodeSet::new(),
             votes: Tallies::new(alloc),
         }
     }
@@ -257,63 +258,36 @@ impl Instance {
     {
         match kind {
             Kind::Send => {
-                self.count_send(command);
+                self.first_votes.note(Kind::Send, from, command);
                 Ok(())
             }
-            Kind::Echo => self.count_echo(sizes, from, command),
-            Kind::Ready => self.count_ready(sizes, from, command),
+            Kind::Echo => self.count_vote(sizes, Vote::Echo, from, command),
+            Kind::Ready => self.count_vote(sizes, Vote::Ready, from, command),
         }
     }
 
-    /// Counts a SEND: only the first is echoed.
-    fn count_send(&mut self, command: Command)
-        ensures { self.new ≡ after_send self.old command }
-    {
-        keep_first(&mut self.echoed, true, command);
-    }
-
-    /// Counts a node's first ECHO. After a delivery it can make nothing ready.
+    /// Counts a node's first ECHO or READY. After a delivery it can cause nothing.
     #[inline(always)]
-    fn count_echo(
+    fn count_vote(
         &mut self,
         sizes: &Sizes,
+        vote: Vote,
         from: NodeName,
         command: Command,
     ) -> Result<(), AllocError>
-        requires { has_voted self.old Kind.Echo from ≡ false }
-        ensures ok { OnOk result (self.new ≡ after_echo sizes.now self.old from command self.old.delivered) }
+        requires { has_voted self.old (kind_of vote) from ≡ false }
+        ensures ok { OnOk result (self.new ≡ after_vote sizes.now self.old vote from command self.old.delivered) }
         ensures err { OnErr result (self.new ≡ self.old) }
     {
+        let kind = vote.kind();
         if self.delivered.is_some() {
-            self.echoers.insert(from);
+            self.first_votes.note(kind, from, command);
             return Ok(());
         }
-        let support = self.votes.count(Vote::Echo, from, command)?;
-        self.echoers.insert(from);
+        let support = self.votes.count(vote, from, command)?;
+        self.first_votes.note(kind, from, command);
         keep_first(&mut self.readied, may_ready(sizes, support), command);
-        Ok(())
-    }
-
-    /// Counts a node's first READY. After a delivery it can cause nothing.
-    #[inline(always)]
-    fn count_ready(
-        &mut self,
-        sizes: &Sizes,
-        from: NodeName,
-        command: Command,
-    ) -> Result<(), AllocError>
-        requires { has_voted self.old Kind.Ready from ≡ false }
-        ensures ok { OnOk result (self.new ≡ after_ready sizes.now self.old from command self.old.delivered) }
-        ensures err { OnErr result (self.new ≡ self.old) }
-    {
-        if self.delivered.is_some() {
-            self.readiers.insert(from);
-            return Ok(());
-        }
-        let support = self.votes.count(Vote::Ready, from, command)?;
-        self.readiers.insert(from);
-        keep_first(&mut self.readied, may_ready(sizes, support), command);
-        if may_deliver(sizes, support) {
+        if may_deliver(sizes, vote, support) {
             self.delivered = Some(command);
             self.votes.forget();
             return Ok(());
@@ -331,18 +305,14 @@ impl Instance {
             let t : Take = record { kind = kind; from = from; command = command } in
             self.now ≡ state s takes → SendsAreFrom owner (takes ++ t ∷ []) → result ≡ is_some (vote kind from takes) }
     {
-        match kind {
-            Kind::Send => self.echoed.is_some(),
-            Kind::Echo => self.echoers.contains(from),
-            Kind::Ready => self.readiers.contains(from),
-        }
+        self.first_votes.voted(kind, from)
     }
 
     /// The command for which this node sent ECHO.
     pub fn echoed(&self) -> Option<Command>
         ensures { result ≡ self.now.echoed }
     {
-        self.echoed
+        self.first_votes.echoed
     }
 
     /// The command for which this node sent READY.
@@ -377,12 +347,6 @@ impl Instance {
         ensures record { IfSome result (λ kept. kept ≡ self.now) }
     {
         let delivered = self.delivered?;
-        Some(Record::new(
-            self.echoed,
-            self.readied,
-            delivered,
-            self.echoers,
-            self.readiers,
-        ))
+        Some(Record::new(self.first_votes, self.readied, delivered))
     }
 }

@@ -4,6 +4,7 @@
 //! what one more causes.
 #![tactic(auto)]
 
+mod first_votes;
 mod instance;
 pub mod laws;
 mod record;

@@ -1,17 +1,18 @@
 //! What stays of an instance that has delivered.
 
-ghost use Rattle.std.specs.Prelude.{◌≡◌, List, [], ◌∷◌, ◌++◌, ℕ, false, is_some, Some};
-ghost use Rattle.std.specs.FinMap as maps;
+ghost use Rattle.std.specs.Prelude.{◌≡◌, List, [], ◌∷◌, ◌++◌, ℕ, false, is_some};
 ghost use Rattle.quorum_sizes.specs.Sizes.{Counts};
 ghost use Rattle.bracha_instance.specs.Broadcast.{Take, vote};
 ghost use Rattle.bracha_instance.specs.States.{state};
 ghost use Rattle.bracha_instance.specs.NewTakes.{taken_for};
 ghost use Rattle.bracha_instance.specs.Taking.{SendsAreFrom, has_voted, newly_sent, newly_delivered};
+ghost use Rattle.bracha_instance.specs.inside.Instances.{record_state};
 ghost use Rattle.bracha_instance.specs.inside.Next.{after_kind};
 
-use crate::instance::{Caused, is_new, keep_first, kind_for};
+use crate::first_votes::FirstVotes;
+use crate::instance::{Caused, is_new, kind_for};
 use link_frames::Kind;
-use quorum_sizes::{NodeName, NodeSet};
+use quorum_sizes::NodeName;
 use role_commands::Command;
 use std::marker::Model;
 
@@ -21,11 +22,9 @@ use std::marker::Model;
 /// Contracts see it as its `State`, in which something is delivered.
 #[derive(Drop)]
 pub struct Record {
-    echoed: Option<Command>,
+    first_votes: FirstVotes,
     readied: Option<Command>,
     delivered: Command,
-    echoers: NodeSet,
-    readiers: NodeSet,
 }
 
 impl Model for Record {
@@ -42,29 +41,17 @@ impl Model for Record {
 }
 
 impl Record {
-    pub(crate) fn new(
-        echoed: Option<Command>,
-        readied: Option<Command>,
-        delivered: Command,
-        echoers: NodeSet,
-        readiers: NodeSet,
-    ) -> Self
-        ensures { result ≡ record {
-          echoed = echoed;
+    pub(crate) fn new(first_votes: FirstVotes, readied: Option<Command>, delivered: Command) -> Self
+        ensures { result ≡ record_state (record {
+          first_votes = first_votes;
           readied = readied;
-          delivered = Some delivered;
-          echoers = echoers;
-          readiers = readiers;
-          echo_votes = maps.empty;
-          ready_votes = maps.empty;
-        } }
+          delivered = delivered;
+        }) }
     {
         Record {
-            echoed,
+            first_votes,
             readied,
             delivered,
-            echoers,
-            readiers,
         }
     }
 
@@ -96,15 +83,7 @@ impl Record {
         ensures readied { self.new.readied ≡ self.old.readied }
         ensures delivered { self.new.delivered ≡ self.old.delivered }
     {
-        match kind {
-            Kind::Send => keep_first(&mut self.echoed, true, command),
-            Kind::Echo => {
-                self.echoers.insert(from);
-            }
-            Kind::Ready => {
-                self.readiers.insert(from);
-            }
-        }
+        self.first_votes.note(kind, from, command);
     }
 
     /// Whether that node's message of that kind was taken, so that another is idle.
@@ -115,18 +94,14 @@ impl Record {
             let t : Take = record { kind = kind; from = from; command = command } in
             self.now ≡ state s takes → SendsAreFrom owner (takes ++ t ∷ []) → result ≡ is_some (vote kind from takes) }
     {
-        match kind {
-            Kind::Send => self.echoed.is_some(),
-            Kind::Echo => self.echoers.contains(from),
-            Kind::Ready => self.readiers.contains(from),
-        }
+        self.first_votes.voted(kind, from)
     }
 
     /// The command for which this node sent ECHO.
     pub fn echoed(&self) -> Option<Command>
         ensures { result ≡ self.now.echoed }
     {
-        self.echoed
+        self.first_votes.echoed
     }
 
     /// The command for which this node sent READY.

@@ -3,11 +3,12 @@
 ghost use Rattle.std.specs.Prelude.{◌≡◌, length, None, Some, position, IfOk, IfSome, IfNone, OnOk, OnErr};
 ghost use Rattle.std.specs.FinMap as maps;
 ghost use Rattle.std.specs.FinSet as sets;
-ghost use Rattle.role_commands.specs.Same.{same_command};
+ghost use Rattle.bracha_instance.specs.inside.Next.{kind_of};
 ghost use Rattle.bracha_instance.specs.inside.Tallies.{no_votes, votes_of, with_vote, support_of, AreVoted};
 ghost use Rattle.bracha_instance.specs.inside.Tallies.{is_tally_of, IsFirst, with_tally, voted_by, support_in};
 ghost use Rattle.bracha_instance.specs.inside.Tallies.{no_names, names_in_tally, IsFirstChanged, IsOther};
 
+use link_frames::Kind;
 use quorum_sizes::{NodeName, NodeSet};
 use role_commands::Command;
 use std::alloc::{AllocError, Global};
@@ -18,6 +19,19 @@ use std::marker::Model;
 pub enum Vote {
     Echo,
     Ready,
+}
+
+impl Vote {
+    /// The kind of message that it is.
+    #[inline(always)]
+    pub fn kind(self) -> Kind
+        ensures { result ≡ kind_of self }
+    {
+        match self {
+            Vote::Echo => Kind::Echo,
+            Vote::Ready => Kind::Ready,
+        }
+    }
 }
 
 /// The names of the nodes whose vote is for a command, and how many these are.
@@ -92,7 +106,7 @@ impl Tally {
     fn is_of(&self, command: Command) -> bool
         ensures { result ≡ is_tally_of command self.now }
     {
-        is_same(&command, &self.command)
+        command.is_same(&self.command)
     }
 
     /// Adds a name to the votes of this kind. How many nodes support the command then.
@@ -124,45 +138,6 @@ impl Tally {
             echoes: usize::from(self.echo_count),
             readies: usize::from(self.ready_count),
         }
-    }
-}
-
-/// Whether two commands are the same. The derived test is a call, and this runs for each vote.
-#[inline(always)]
-fn is_same(a: &Command, b: &Command) -> bool
-    ensures { result ≡ same_command a.now b.now }
-{
-    match (*a, *b) {
-        (Command::Assign { user, role }, Command::Assign { user: u, role: r })
-        | (Command::Deassign { user, role }, Command::Deassign { user: u, role: r }) => {
-            user == u && role == r
-        }
-        (
-            Command::Grant {
-                role,
-                operation,
-                object,
-            },
-            Command::Grant {
-                role: r,
-                operation: p,
-                object: o,
-            },
-        )
-        | (
-            Command::Revoke {
-                role,
-                operation,
-                object,
-            },
-            Command::Revoke {
-                role: r,
-                operation: p,
-                object: o,
-            },
-        ) => role == r && operation == p && object == o,
-        (Command::Clear { role }, Command::Clear { role: r }) => role == r,
-        _ => false,
     }
 }
 

@@ -2,6 +2,7 @@
 
 ghost use Rattle.std.specs.Prelude.{◌≡◌};
 ghost use Rattle.role_commands.specs.Rules.{role_of};
+ghost use Rattle.role_commands.specs.Same.{same_command};
 
 /// A command of an owner's stream.
 #[derive(Clone, Copy, Debug, PartialEq, Eq)]
@@ -45,6 +46,45 @@ impl Command {
             | Command::Grant { role, .. }
             | Command::Revoke { role, .. }
             | Command::Clear { role } => role,
+        }
+    }
+
+    /// Whether it is the same command as the other. The derived test is a call, and this runs for each vote.
+    #[inline(always)]
+    pub fn is_same(&self, other: &Command) -> bool
+        ensures { result ≡ same_command self.now other.now }
+    {
+        match (*self, *other) {
+            (Command::Assign { user, role }, Command::Assign { user: u, role: r })
+            | (Command::Deassign { user, role }, Command::Deassign { user: u, role: r }) => {
+                user == u && role == r
+            }
+            (
+                Command::Grant {
+                    role,
+                    operation,
+                    object,
+                },
+                Command::Grant {
+                    role: r,
+                    operation: p,
+                    object: o,
+                },
+            )
+            | (
+                Command::Revoke {
+                    role,
+                    operation,
+                    object,
+                },
+                Command::Revoke {
+                    role: r,
+                    operation: p,
+                    object: o,
+                },
+            ) => role == r && operation == p && object == o,
+            (Command::Clear { role }, Command::Clear { role: r }) => role == r,
+            _ => false,
         }
     }
 }

@@ -1,26 +1,16 @@
-use Rattle.std.proofs.Common.{ap, sym, ◌∙◌}
-use Rattle.link_frames.specs.declared.frames.kind.Kind.TheVariants.{Send, Echo, Ready}
+use Rattle.std.proofs.Common.{ap, ◌∙◌}
 use Rattle.bracha_instance.specs.Taking.{has_voted}
+use Rattle.bracha_instance.specs.inside.Instances.{instance_state}
 use Rattle.bracha_instance.proofs.Counting.{voted_at}
+use Rattle.bracha_instance.proofs.KeptInstances.{is_noted-has_voted}
 use Rattle.bracha_instance.proofs.instance.Instance.voted.Goals as goal
 
-pub returns-in-Send-clause-vote : goal.returns-in-Send-clause-vote
-returns-in-Send-clause-vote c = λ s takes owner command.
-    voted_at s takes owner c.args.kind c.args.from command c.args.self.now _
-    (c.is_some.ensures
-    ∙ ap (λ st. has_voted st Send c.args.from) c.self.view_is
-    ∙ ap (λ kind. has_voted c.args.self.now kind c.args.from) (sym c.in-Send.is))
+pub returns-clause-seen : goal.returns-clause-seen
+returns-clause-seen c =
+    c.voted.ensures
+    ∙ is_noted-has_voted (instance_state c.self.inside) c.args.kind c.args.from
+    ∙ ap (λ st. has_voted st c.args.kind c.args.from) c.self.view_is
 
-pub returns-in-Echo-clause-vote : goal.returns-in-Echo-clause-vote
-returns-in-Echo-clause-vote c = λ s takes owner command.
-    voted_at s takes owner c.args.kind c.args.from command c.args.self.now _
-    (c.contains.ensures
-    ∙ ap (λ st. has_voted st Echo c.args.from) c.self.view_is
-    ∙ ap (λ kind. has_voted c.args.self.now kind c.args.from) (sym c.in-Echo.is))
-
-pub returns-in-Ready-clause-vote : goal.returns-in-Ready-clause-vote
-returns-in-Ready-clause-vote c = λ s takes owner command.
-    voted_at s takes owner c.args.kind c.args.from command c.args.self.now _
-    (c.contains-in-Ready.ensures
-    ∙ ap (λ st. has_voted st Ready c.args.from) c.self.view_is
-    ∙ ap (λ kind. has_voted c.args.self.now kind c.args.from) (sym c.in-Ready.is))
+pub returns-clause-vote : goal.returns-clause-vote
+returns-clause-vote c = λ s takes owner command.
+    voted_at s takes owner c.args.kind c.args.from command c.args.self.now _ (returns-clause-seen c)
