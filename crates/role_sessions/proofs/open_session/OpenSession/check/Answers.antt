@@ -15,11 +15,11 @@ returns-clause-right c =
     let a = c.args in
     put_right (relations_of a.policy.now) a.self.now.session a.generation a.user a.operation a.object
     c.verdict-answer.result
-    (sym c.is_of.ensures ∙ c.if-not-is_of.false) a.self.now.answers.places c.put.new.self.places c.requires
-    c.put.ensures c.verdict-answer.ensures
+    (sym c.is_of.ensures ∙ c.if-not-is_of.false) a.self.now.answers.places c.remember.new.self.places c.requires
+    c.remember.ensures c.verdict-answer.ensures
 
 pub returns-clause-past : goal.returns-clause-past
 returns-clause-past c = λ past.
     let a = c.args in
-    put_past a.generation a.operation a.object c.verdict-answer.result a.self.now.answers.places c.put.new.self.places
-    (omega arith) past c.put.ensures
+    put_past a.generation a.operation a.object c.verdict-answer.result a.self.now.answers.places c.remember.new.self.places
+    (omega arith) past c.remember.ensures
