@@ -5,6 +5,8 @@ use Rattle.std.specs.List.{find}
 use Rattle.std.specs.Option.{option_or}
 use Rattle.std.proofs.lemmas.List.{take_more, drop_more, take-append-drop}
 use Rattle.std.proofs.lemmas.List.Folds.{find-append}
+use Rattle.rbac_state.specs.declared.relation.Relation.{Relation}
+use Rattle.rbac_state.specs.inside.Relations.{relates, is_granting}
 
 pub and_false : (b : Bool) → (b && false) ≡ false
 and_false true = refl
@@ -27,6 +29,30 @@ module _ {X : Type 0} (p : X → Bool) (xs : List X) (i : ℕ) (d : X) (within :
       ∙ ap (λ o. option_or o (find p (drop i xs))) none
       ∙ ap (find p) (drop_more xs i d within)
       ∙ ap (λ b. cond b (Some (get_or xs i d)) (find p (drop (i + 1) xs))) passes
+
+-- a role that is asked about, where none before it was found
+module _ {k n : ℕ} (assigned : Relation k) (granted : Relation n) (user permission : ℕ) (roles : List ℕ) (i : ℕ)
+    (within : i < length roles)
+    (none : find (is_granting assigned granted user permission) (take i roles) ≡ None) where
+  abbrev role : ℕ
+  role = get_or roles i 0
+
+  pub granting_here : relates granted permission role ≡ true → relates assigned user role ≡ true →
+      Some role ≡ find (is_granting assigned granted user permission) roles
+  granting_here may has =
+      sym (find_here (is_granting assigned granted user permission) roles i 0 within none (λ j. has j && may j))
+
+  pub lacks_permission : relates granted permission role ≡ false →
+      find (is_granting assigned granted user permission) (take (i + 1) roles) ≡ None
+  lacks_permission lacks =
+      find_more (is_granting assigned granted user permission) roles i 0 within none
+      (ap (λ b. relates assigned user role && b) lacks ∙ and_false (relates assigned user role))
+
+  pub lacks_role : relates assigned user role ≡ false →
+      find (is_granting assigned granted user permission) (take (i + 1) roles) ≡ None
+  lacks_role lacks =
+      find_more (is_granting assigned granted user permission) roles i 0 within none
+      (ap (λ b. b && relates granted permission role) lacks)
 
 -- none passes
 pub find_never : {X : Type 0} (p : X → Bool) (xs : List X) → ((x : X) → p x ≡ false) → find p xs ≡ None

@@ -73,19 +73,20 @@ grant_not gs p role large =
     ∙ any_none (λ g. eq_by_cmp grant_cmp (p, role) (grant_of g)) gs (λ g. not_here p g role large)
 
 -- permissions ascend as their numbers do
-permissions_above : (n : ℕ) (gs : List (ℕ × ℕ)) → AllByRecursion (λ m. nat_cmp n m ≡ Less) (map (λ g. g.1) gs) →
-    AllByRecursion (λ p. permission_cmp (permission_of n) p ≡ Less) (map (λ g. permission_of g.1) gs)
-permissions_above n [] above = tt
-permissions_above n (g ∷ gs) above = (
-  sym (parts_cmp n g.1 4294967296 (omega arith)) ∙ above.0,
-  permissions_above n gs above.1,
+permissions_above : {X : Type 0} (f : X → ℕ) (n : ℕ) (xs : List X) →
+    AllByRecursion (λ m. nat_cmp n m ≡ Less) (map f xs) →
+    AllByRecursion (λ p. permission_cmp (permission_of n) p ≡ Less) (map (λ x. permission_of (f x)) xs)
+permissions_above f n [] above = tt
+permissions_above f n (x ∷ xs) above = (
+  sym (parts_cmp n (f x) 4294967296 (omega arith)) ∙ above.0,
+  permissions_above f n xs above.1,
 )
 
-pub permissions_ascend : (gs : List (ℕ × ℕ)) → IsStrictlySortedBy nat_cmp (map (λ g. g.1) gs) →
-    IsStrictlySortedBy permission_cmp (map (λ g. permission_of g.1) gs)
+pub permissions_ascend : {X : Type 0} (f : X → ℕ) (xs : List X) → IsStrictlySortedBy nat_cmp (map f xs) →
+    IsStrictlySortedBy permission_cmp (map (λ x. permission_of (f x)) xs)
 unfolding IsStrictlySortedBy
-permissions_ascend [] up = tt
-permissions_ascend (g ∷ gs) up = (permissions_above g.1 gs up.0, permissions_ascend gs up.1)
+permissions_ascend f [] up = tt
+permissions_ascend f (x ∷ xs) up = (permissions_above f (f x) xs up.0, permissions_ascend f xs up.1)
 
 -- what a change of the numbers is of the permissions
 module _ (old new : List (ℕ × ℕ)) (r : ℕ) where

@@ -156,7 +156,7 @@ module _ {k : ℕ} (value : PolicyValue) (grants : Relation k)
       (map (λ g. permission_of g.1) (of_role role))
   permissions_listing role = record {
     ascending =
-        permissions_ascend (of_role role)
+        permissions_ascend (λ (g : ℕ × ℕ). g.1) (of_role role)
         (seconds_ascend nat_cmp nat_cmp_total role (items_in grants.by_second.items) kept.by_second);
     exact = role_may role;
   }

@@ -1,14 +1,17 @@
 -- Pairs in a list, in any order and perhaps more than once, seen as the set of them.
-use Rattle.std.proofs.Common.{◌≡◌, ℕ, Bool, not, ◌&&◌, ◌||◌, ◌==◌, List, sym, ◌∙◌}
+use Rattle.std.proofs.Common.{◌≡◌, ℕ, Bool, true, false, not, ◌&&◌, ◌||◌, ◌==◌, List, None, Some, unwrap_or}
+use Rattle.std.proofs.Common.{refl, sym, ◌∙◌}
 use Rattle.std.specs.declared.cmp.Ordering.{Ordering}
-use Rattle.std.specs.Prelude.{IsTrue, ◌↔◌, Contains}
+use Rattle.std.specs.Prelude.{IsTrue, ◌↔◌, Contains, if◌then◌else◌}
 use Rattle.std.specs.Cmp.{IsTotalOrder, both_tied, unsigned_ties}
 use Rattle.std.specs.Ordering.{eq_by_cmp, nat_cmp}
 use Rattle.std.specs.FinSet as set
 use Rattle.std.proofs.lemmas.Cmp.{nat_cmp_total, then_total, on_total, eq_by_cmp_equiv}
 use Rattle.std.proofs.lemmas.Map.Lookups.{CmpEqualImpliesEq}
 use Rattle.std.proofs.lemmas.Map.Views.{Contains-from_any, list_any-from_Contains, tells_apart}
+use Rattle.role_commands.specs.declared.command.Command.TheVariants.{Assign, Deassign, Grant, Revoke, Clear}
 use Rattle.rbac_state.specs.Policies.{assignment_cmp, permission_cmp, grant_cmp}
+use Rattle.rbac_state.specs.Says.{says_of_user, says_of_permission}
 use Rattle.sorted_pairs.specs.Lists.{is_among}
 
 pub assignments_total : IsTotalOrder assignment_cmp
@@ -39,19 +42,32 @@ grant_ties : (operation object role p b r : ℕ) →
 grant_ties operation object role p b r =
     sym (λ i. both_tied _ _ _ _ (unsigned_ties operation p) (unsigned_ties object b) i && unsigned_ties role r i)
 
+-- what is put is said to be so, and what is taken away not to be
+said_yes : (b before : Bool) → (b || before) ≡ unwrap_or (if b then Some true else None) before
+said_yes true before = refl
+said_yes false before = refl
+
+said_no : (b before : Bool) → (not b && before) ≡ unwrap_or (if b then Some false else None) before
+said_no true before = refl
+said_no false before = refl
+
 module _ {K : Type 0} {R : K → K → Ordering} (o : IsTotalOrder R) where
   -- after a key is put
   contains-put : (old new : List K) (q : K) (a b : Bool) → a ≡ b → is_among R new q ≡ (a || is_among R old q) →
-      set.contains (set.from_list {R = R} new) q ≡ (b || set.contains (set.from_list {R = R} old) q)
+      set.contains (set.from_list {R = R} new) q
+      ≡ unwrap_or (if b then Some true else None) (set.contains (set.from_list {R = R} old) q)
   contains-put old new q a b e put =
       set.contains-from_list o new q ∙ put ∙ (λ i. e i || sym (set.contains-from_list o old q) i)
+      ∙ said_yes b (set.contains (set.from_list {R = R} old) q)
 
   -- after a key is taken away
   contains-take_away : (old new : List K) (q : K) (a b : Bool) → a ≡ b →
       is_among R new q ≡ (not a && is_among R old q) →
-      set.contains (set.from_list {R = R} new) q ≡ (not b && set.contains (set.from_list {R = R} old) q)
+      set.contains (set.from_list {R = R} new) q
+      ≡ unwrap_or (if b then Some false else None) (set.contains (set.from_list {R = R} old) q)
   contains-take_away old new q a b e taken =
       set.contains-from_list o new q ∙ taken ∙ (λ i. not (e i) && sym (set.contains-from_list o old q) i)
+      ∙ said_no b (set.contains (set.from_list {R = R} old) q)
 
 role_ties : (role r : ℕ) → eq_by_cmp nat_cmp role r ≡ (role == r)
 role_ties role r = sym (unsigned_ties role r)
@@ -61,7 +77,7 @@ pub assigned-clear : (old new : List (ℕ × ℕ)) (r user role : ℕ) →
     is_among assignment_cmp new (user, role)
     ≡ (not (eq_by_cmp nat_cmp role r) && is_among assignment_cmp old (user, role)) →
     set.contains (set.from_list {R = assignment_cmp} new) (user, role)
-    ≡ (not (role == r) && set.contains (set.from_list {R = assignment_cmp} old) (user, role))
+    ≡ unwrap_or (says_of_user user role (Clear r)) (set.contains (set.from_list {R = assignment_cmp} old) (user, role))
 assigned-clear old new r user role taken =
     contains-take_away assignments_total old new (user, role) _ _ (role_ties role r) taken
 
@@ -69,7 +85,8 @@ pub granted-clear : (old new : List ((ℕ × ℕ) × ℕ)) (r operation object r
     is_among grant_cmp new ((operation, object), role)
     ≡ (not (eq_by_cmp nat_cmp role r) && is_among grant_cmp old ((operation, object), role)) →
     set.contains (set.from_list {R = grant_cmp} new) ((operation, object), role)
-    ≡ (not (role == r) && set.contains (set.from_list {R = grant_cmp} old) ((operation, object), role))
+    ≡ unwrap_or (says_of_permission operation object role (Clear r))
+    (set.contains (set.from_list {R = grant_cmp} old) ((operation, object), role))
 granted-clear old new r operation object role taken =
     contains-take_away grants_total old new ((operation, object), role) _ _ (role_ties role r) taken
 
@@ -79,13 +96,15 @@ module _ (old new : List (ℕ × ℕ)) (u r user role : ℕ) where
 
   pub assigned-put : is_among assignment_cmp new (user, role) ≡ (IsSame || is_among assignment_cmp old (user, role)) →
       set.contains (set.from_list {R = assignment_cmp} new) (user, role)
-      ≡ (((user == u) && (role == r)) || set.contains (set.from_list {R = assignment_cmp} old) (user, role))
+      ≡ unwrap_or (says_of_user user role (Assign u r))
+      (set.contains (set.from_list {R = assignment_cmp} old) (user, role))
   assigned-put put = contains-put assignments_total old new (user, role) IsSame _ (assignment_ties user role u r) put
 
   pub assigned-take_away :
       is_among assignment_cmp new (user, role) ≡ (not IsSame && is_among assignment_cmp old (user, role)) →
       set.contains (set.from_list {R = assignment_cmp} new) (user, role)
-      ≡ (not ((user == u) && (role == r)) && set.contains (set.from_list {R = assignment_cmp} old) (user, role))
+      ≡ unwrap_or (says_of_user user role (Deassign u r))
+      (set.contains (set.from_list {R = assignment_cmp} old) (user, role))
   assigned-take_away taken =
       contains-take_away assignments_total old new (user, role) IsSame _ (assignment_ties user role u r) taken
 
@@ -98,12 +117,13 @@ module _ (old new : List ((ℕ × ℕ) × ℕ)) (p b r operation object role : �
 
   pub granted-put : is_among grant_cmp new grant ≡ (IsSameGrant || is_among grant_cmp old grant) →
       set.contains (set.from_list {R = grant_cmp} new) grant
-      ≡ (((operation == p) && (object == b) && (role == r)) || set.contains (set.from_list {R = grant_cmp} old) grant)
+      ≡ unwrap_or (says_of_permission operation object role (Grant r p b))
+      (set.contains (set.from_list {R = grant_cmp} old) grant)
   granted-put put = contains-put grants_total old new grant IsSameGrant _ (grant_ties operation object role p b r) put
 
   pub granted-take_away : is_among grant_cmp new grant ≡ (not IsSameGrant && is_among grant_cmp old grant) →
       set.contains (set.from_list {R = grant_cmp} new) grant
-      ≡ (not ((operation == p) && (object == b) && (role == r))
-      && set.contains (set.from_list {R = grant_cmp} old) grant)
+      ≡ unwrap_or (says_of_permission operation object role (Revoke r p b))
+      (set.contains (set.from_list {R = grant_cmp} old) grant)
   granted-take_away taken =
       contains-take_away grants_total old new grant IsSameGrant _ (grant_ties operation object role p b r) taken

@@ -1,6 +1,6 @@
 //! Permissions as one number each, which has their order: a relation keeps it, and it is quicker to sort.
 
-ghost use Rattle.std.specs.Prelude.{◌≡◌, ◌<◌, ◌^◌, map, All, Contains, IfOk, refl};
+ghost use Rattle.std.specs.Prelude.{◌≡◌, ◌<◌, map, Contains, IfOk, refl};
 ghost use Rattle.std.specs.Ordering.{eq_by_cmp, as_partial_cmp, nat_cmp};
 ghost use Rattle.std.specs.Cmp.{partial_equiv_from_equiv, partial_order_from_agreeing_total};
 ghost use Rattle.std.proofs.lemmas.Cmp.{nat_cmp_total, eq_by_cmp_equiv};
@@ -52,7 +52,7 @@ impl Packed {
 
     /// The number of a permission.
     fn of(permission: Permission) -> Self
-        ensures { result ≡ packed permission }
+        ensures { permission_of result ≡ permission }
     {
         Packed::new(pack(permission))
     }
@@ -131,26 +131,13 @@ fn sorted_as_numbers(
 ) -> Result<Vec<Permission>, AllocError>
     ensures { IfOk result (λ sorted. IsListing permission_cmp (Contains permissions.items) sorted.items) }
 {
-    within(&permissions);
     let numbers = pack_all(alloc, permissions)?;
     unpack_all(alloc, &ascending(numbers))
 }
 
-/// The numbers of permissions are within the widths of their types.
-fn within(permissions: &[Permission])
-    ensures { All (λ p. (p.0 < 2 ^ 16) × (p.1 < 2 ^ 32)) permissions.now }
-{
-    for permission in permissions {
-        one_within(*permission);
-    }
-}
-
-fn one_within(permission: Permission)
-    ensures { (permission.0 < 2 ^ 16) × (permission.1 < 2 ^ 32) }
-{}
-
+/// Numbers of which each stands for its permission.
 fn pack_all(alloc: Global, permissions: Vec<Permission>) -> Result<Vec<Packed>, AllocError>
-    ensures { IfOk result (λ numbers. numbers.items ≡ map packed permissions.items) }
+    ensures { IfOk result (λ numbers. map permission_of numbers.items ≡ permissions.items) }
 {
     permissions
         .iter()

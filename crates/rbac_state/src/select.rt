@@ -8,7 +8,7 @@ ghost use Rattle.sorted_pairs.specs.Blocks.{items_in};
 ghost use Rattle.rbac_state.specs.inside.Packed.{permission_of};
 ghost use Rattle.sorted_pairs.specs.Pairs.{number_cmp};
 ghost use Rattle.rbac_state.specs.inside.Limits.{most_firsts};
-ghost use Rattle.rbac_state.specs.inside.Relations.{IsKeptBothWays, relates};
+ghost use Rattle.rbac_state.specs.inside.Relations.{IsKeptBothWays, relates, CanBeAsked, is_granting};
 
 use crate::limits::PERMISSIONS;
 use crate::numbered::Numbered;
@@ -188,12 +188,8 @@ fn first_of_few(
     roles: &[u16],
     permission: u64,
 ) -> Option<u16>
-    requires user { user < most_firsts }
-    requires permission { permission < most_firsts }
-    requires users { IsKeptBothWays assigned.now }
-    requires permissions { IsKeptBothWays granted.now }
-    ensures { result ≡ find (λ role. relates assigned.now user role
-        && relates granted.now permission role) roles.now }
+    requires { CanBeAsked assigned.now granted.now user permission }
+    ensures { result ≡ find (is_granting assigned.now granted.now user permission) roles.now }
 {
     for role in roles {
         if granted.has(permission, *role) && assigned.has(user, *role) {
@@ -211,12 +207,8 @@ fn first_of_many(
     roles: &[u16],
     permission: u64,
 ) -> Option<u16>
-    requires user { user < most_firsts }
-    requires permission { permission < most_firsts }
-    requires users { IsKeptBothWays assigned.now }
-    requires permissions { IsKeptBothWays granted.now }
-    ensures { result ≡ find (λ role. relates assigned.now user role
-        && relates granted.now permission role) roles.now }
+    requires { CanBeAsked assigned.now granted.now user permission }
+    ensures { result ≡ find (is_granting assigned.now granted.now user permission) roles.now }
 {
     if roles.is_empty() {
         return None;

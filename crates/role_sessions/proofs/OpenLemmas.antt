@@ -98,19 +98,15 @@ module _ (old new : Entries) (id : ℕ) (session written : Session) (here : Some
       let there : is_some (lookup (nat_eq id) old) ≡ true = ap is_some (sym here) in
       IsLong-insert old new id written long gives (rw there (omega (arith, len)))
 
-  pub map_of-written : (m : map.FinMap nat_cmp Session) (change : Session → Session) → map_of old ≡ m
-      → written ≡ change session
-      → map_of new ≡ changed_at m id change
-  map_of-written m change view is =
-      let found : map.get m id ≡ Some session = ap (λ n. map.get n id) (sym view) ∙ get-map_of old id ∙ sym here in
-      map_of-insert old new id written gives
-      ∙ (λ i. map.insert (view i) id (is i))
-      ∙ ap (λ o. option_map_or (λ s. map.insert m id (change s)) o m) (sym found)
+  pub map_of-written : (change : Session → Session) → written ≡ change session
+      → map_of new ≡ changed_at (map_of old) id change
+  map_of-written change is =
+      map_of-insert old new id written gives ∙ ap (map.insert (map_of old) id) is
+      ∙ ap (λ o. option_map_or (λ s. map.insert (map_of old) id (change s)) o (map_of old))
+      (here ∙ sym (get-map_of old id))
 
 -- no session has the id
-pub map_of-absent : (old new : Entries) (id : ℕ) (m : map.FinMap nat_cmp Session) (change : Session → Session)
-    → None ≡ lookup (nat_eq id) old → new ≡ old → map_of old ≡ m →
-    map_of new ≡ changed_at m id change
-map_of-absent old new id m change absent is view =
-    let missing : map.get m id ≡ None = ap (λ n. map.get n id) (sym view) ∙ get-map_of old id ∙ sym absent in
-    ap map_of is ∙ view ∙ ap (λ o. option_map_or (λ s. map.insert m id (change s)) o m) (sym missing)
+pub map_of-absent : (es : Entries) (id : ℕ) (change : Session → Session) → None ≡ lookup (nat_eq id) es
+    → map_of es ≡ changed_at (map_of es) id change
+map_of-absent es id change absent =
+    ap (λ o. option_map_or (λ s. map.insert (map_of es) id (change s)) o (map_of es)) (absent ∙ sym (get-map_of es id))

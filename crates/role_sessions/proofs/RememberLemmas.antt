@@ -27,7 +27,7 @@ module _ (relations : Relations) (session : Session) (generation user operation 
         answer = answer;
       }) right there refl ∙ theirs
 
-  pub put_right : (places put : List Remembered)
+  pub remembered_right : (places put : List Remembered)
       → All (IsRightFor relations generation session) places
       → (place : ℕ) × (put ≡ slice_set places place (record {
         generation = generation;
@@ -37,7 +37,7 @@ module _ (relations : Relations) (session : Session) (generation user operation 
       }))
       → answer ≡ verdict relations (Some session) user operation object
       → All (IsRightFor relations generation session) put
-  put_right places put right is due =
+  remembered_right places put right is due =
       let added : Remembered = record {
         generation = generation;
         object = object;
@@ -47,7 +47,7 @@ module _ (relations : Relations) (session : Session) (generation user operation 
       All-same (IsRightFor relations generation session) put (slice_set places is.0 added) is.1
       (All-set (IsRightFor relations generation session) places is.0 added (λ _. due ∙ sym theirs) right)
 
-pub put_past : (generation operation object : ℕ) (answer : Verdict) (places put : List Remembered)
+pub remembered_past : (generation operation object : ℕ) (answer : Verdict) (places put : List Remembered)
     → generation < last_generation
     → All (IsPast generation) places
     → (place : ℕ) × (put ≡ slice_set places place (record {
@@ -57,7 +57,7 @@ pub put_past : (generation operation object : ℕ) (answer : Verdict) (places pu
       answer = answer;
     }))
     → All (IsPast generation) put
-put_past generation operation object answer places put below past is =
+remembered_past generation operation object answer places put below past is =
     let added : Remembered = record {
       generation = generation;
       object = object;

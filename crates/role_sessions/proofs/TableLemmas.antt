@@ -18,12 +18,13 @@ use Rattle.role_sessions.specs.declared.answers.Remembered.{Remembered}
 use Rattle.role_sessions.specs.declared.open_session.OpenSession.{OpenSession}
 use Rattle.role_sessions.specs.Sessions.{Session}
 use Rattle.role_sessions.specs.Decisions.{Relations, verdict}
+use Rattle.role_sessions.specs.inside.Changes.{changed_at}
 use Rattle.role_sessions.specs.Kept.{KeptAnswer, KeptAreRight, KeepsRight}
 use Rattle.role_sessions.specs.inside.Remembered.{last_generation, IsNothing, IsRightFor, IsPast, RemembersNothing}
 use Rattle.role_sessions.specs.inside.Remembered.{RemembersRight, IsOfThePast, kept_in, Entries, sessions_in}
 use Rattle.role_sessions.specs.inside.Remembered.{kept_by, OpenValue, open_value, as_sessions, IsTable}
 use Rattle.rbac_state.proofs.Exported.{filter_none}
-use Rattle.role_sessions.proofs.OpenLemmas.{map_of, get-map_of, Gives, IsLong-none}
+use Rattle.role_sessions.proofs.OpenLemmas.{map_of, get-map_of, map_of-written, map_of-absent, Gives, IsLong-none}
 use Rattle.role_sessions.proofs.OpenLemmas.{IsLong-insert, IsLong-remove, IsLong-written}
 
 -- ---- lists
@@ -315,6 +316,41 @@ table-written generation old new id o w table here gives len past =
           table.past;
     }
 
+-- ---- a session is changed
+
+pub keeps_same : (old new : OpenValue) → new ≡ old → KeepsRight (as_sessions old) (as_sessions new)
+keeps_same old new same = λ relations. subst (λ v. KeptAreRight relations (as_sessions v)) (sym same)
+
+-- the table as a caller sees it, of which the session of this id is changed
+pub record IsChanged (old new : OpenValue) (id : ℕ) (change : Session → Session) : Type 0 where
+  pub sessions : new.sessions ≡ changed_at old.sessions id change
+  pub kept : KeepsRight (as_sessions old) (as_sessions new)
+
+module _ (generation : ℕ) (value : OpenValue) (old new : Entries) (id : ℕ) (change : Session → Session)
+    (view : open_value generation old ≡ value) where
+  -- the session is written anew, and remembers nothing
+  pub changed-written : IsTable generation old → (o w : OpenSession) → Some o ≡ lookup (nat_eq id) old
+      → Gives id (Some w) old new → RemembersNothing w → w.session ≡ change o.session
+      → IsChanged value (open_value generation new) id change
+  changed-written table o w here gives nothing is =
+      subst (λ v. IsChanged v (open_value generation new) id change) view (record {
+        sessions =
+            map_of-written (sessions_in old) (sessions_in new) id o.session w.session (here-sessions_in old id o here)
+            (gives-sessions_in old new id (Some w) gives) change is;
+        kept = keeps_given generation old new id (Some w) gives (the_one RemembersNothing w nothing) table;
+      })
+
+  -- no session has the id
+  pub changed-absent : None ≡ lookup (nat_eq id) old → new ≡ old
+      → IsChanged value (open_value generation new) id change
+  changed-absent absent same =
+      subst (λ v. IsChanged v (open_value generation new) id change) view (record {
+        sessions =
+            ap (λ es. map_of (sessions_in es)) same
+            ∙ map_of-absent (sessions_in old) id change (absent-sessions_in old id absent);
+        kept = keeps_same _ _ (ap (open_value generation) same);
+      })
+
 -- ---- forgotten
 
 -- the generation after this one
@@ -362,14 +398,6 @@ module _ (generation next : ℕ) (is : next ≡ min (generation + 1) last_genera
 pub kept_by-none : (generation : ℕ) → kept_by generation [] ≡ []
 unfolding kept_by
 kept_by-none generation = refl
-
-pub keeps_same : (old new : OpenValue) → new ≡ old → KeepsRight (as_sessions old) (as_sessions new)
-keeps_same old new same = λ relations. subst (λ v. KeptAreRight relations (as_sessions v)) (sym same)
-
--- the entries are the same
-pub same_value : (generation : ℕ) (old new : Entries) → new ≡ old
-    → open_value generation new ≡ open_value generation old
-same_value generation old new same = ap (open_value generation) same
 
 -- what stood there, written anew, changes nothing
 pub written_back : (old new : Entries) (id : ℕ) (o w : OpenSession) → Some o ≡ lookup (nat_eq id) old

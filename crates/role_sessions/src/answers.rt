@@ -5,7 +5,7 @@ ghost use Rattle.std.specs.Prelude.{◌≡◌, ◌<◌, ℕ, Contains, All, IfSo
 use crate::verdict::Verdict;
 
 /// How many answers a session remembers.
-const PLACES: usize = 16;
+const ANSWERS_REMEMBERED: usize = 16;
 
 /// An answer that was given in a session, and the generation that it is of.
 #[derive(Clone, Copy, Drop, Debug)]
@@ -27,7 +27,7 @@ const NOTHING: Remembered = Remembered {
 /// The answers that a session remembers, each at the one place of its operation and object.
 #[derive(Drop, Debug)]
 pub(crate) struct Answers {
-    places: [Remembered; PLACES],
+    places: [Remembered; ANSWERS_REMEMBERED],
 }
 
 impl Answers {
@@ -36,7 +36,7 @@ impl Answers {
         ensures { All (λ r. r.generation ≡ 0) result.places }
     {
         Answers {
-            places: [NOTHING; PLACES],
+            places: [NOTHING; ANSWERS_REMEMBERED],
         }
     }
 
@@ -61,7 +61,7 @@ impl Answers {
     }
 
     /// Remembers an answer in the place of another.
-    pub(crate) fn put(&mut self, generation: u64, operation: u16, object: u32, answer: Verdict)
+    pub(crate) fn remember(&mut self, generation: u64, operation: u16, object: u32, answer: Verdict)
         ensures { (place : ℕ) × (self.new.places ≡ slice_set self.old.places place (record {
           generation = generation;
           object = object;
@@ -80,8 +80,8 @@ impl Answers {
 
 /// The place of an operation and an object. The objects of an aligned block of 16 have different places.
 fn place_of(operation: u16, object: u32) -> usize
-    ensures { result < PLACES }
+    ensures { result < ANSWERS_REMEMBERED }
 {
     let mixed = object ^ u32::from(operation).wrapping_mul(0x9E37_79B1);
-    (mixed ^ (mixed >> 16)) as usize % PLACES
+    (mixed ^ (mixed >> 16)) as usize % ANSWERS_REMEMBERED
 }

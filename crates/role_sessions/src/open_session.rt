@@ -75,7 +75,7 @@ impl OpenSession {
         if generation == u64::MAX {
             return answer;
         }
-        self.answers.put(generation, operation, object, answer);
+        self.answers.remember(generation, operation, object, answer);
         answer
     }
 }

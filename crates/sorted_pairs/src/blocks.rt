@@ -17,7 +17,7 @@ use std::alloc::{AllocError, Global};
 use std::cmp::Ord;
 
 /// So many items fit a block.
-const BLOCK: usize = 512;
+const BLOCK_SIZE: usize = 512;
 
 /// Whether the item is in the blocks.
 pub fn has<T: Ord>(blocks: &[Vec<T>], item: &T) -> bool
@@ -125,7 +125,7 @@ fn begin<T: Drop>(blocks: &mut Vec<Vec<T>>) -> Result<(), AllocError>
         → AreBlocks room blocks.new.items }
 {
     if blocks.is_empty() {
-        let first = Vec::with_capacity(*blocks.allocator(), BLOCK)?;
+        let first = Vec::with_capacity(*blocks.allocator(), BLOCK_SIZE)?;
         blocks.push(first)?;
     }
     Ok(())
@@ -147,7 +147,7 @@ fn split_long<T: Copy + Drop>(blocks: &mut Vec<Vec<T>>, least: usize) -> Result<
     let mut place = blocks.len();
     while place > 0 {
         place -= 1;
-        if blocks[place].len() > BLOCK - least {
+        if blocks[place].len() > BLOCK_SIZE - least {
             split(blocks, place)?;
         }
     }
@@ -177,7 +177,7 @@ fn upper_part<T: Copy + Drop>(alloc: Global, items: &[T], from: usize) -> Result
     ensures items { IfOk result (λ upper. upper.items ≡ drop from items.now) }
     ensures capacity { IfOk result (λ upper. block_size ≤ vec_capacity upper) }
 {
-    let mut upper = Vec::with_capacity(alloc, BLOCK)?;
+    let mut upper = Vec::with_capacity(alloc, BLOCK_SIZE)?;
     upper.extend_from_slice(&items[from..])?;
     Ok(upper)
 }

@@ -21,7 +21,7 @@ const PASSED_A_SEARCH: usize = 256;
 const PAIRS_WORTH_COUNTING: usize = 64;
 
 /// Of fewer blocks that get empty each is dropped by itself: to drop several together all blocks are looked at.
-const FEW_BLOCKS: usize = 8;
+const BLOCKS_DROPPED_ALONE: usize = 8;
 
 /// Where the pairs of one first lie: in a part of one block, which has no others, or in blocks behind one another,
 /// which may begin and end with others.
@@ -175,7 +175,7 @@ pub fn take_away_first<const LIMIT: u64>(blocks: &mut Vec<Vec<Pair<LIMIT>>>, fir
 {
     let start = lower_bound(blocks, first);
     let end = end_of(blocks, first, start);
-    if end - start <= FEW_BLOCKS {
+    if end - start <= BLOCKS_DROPPED_ALONE {
         take_away_in_few(blocks, first, start, end);
     } else {
         take_away_in_many(blocks, first, start, end);

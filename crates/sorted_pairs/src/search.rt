@@ -8,7 +8,7 @@ ghost use Rattle.std.specs.List.Sorted.{IsStrictlySortedBy, IsPartitionedBy, IsP
 ghost use Rattle.std.specs.List.Sorted.{IsSearchInRange, IsBinarySearchResult};
 ghost use Rattle.std.specs.Ordering.{is_lt};
 ghost use Rattle.std.specs.declared.cmp.Ordering.TheVariants.{Equal};
-ghost use Rattle.sorted_pairs.specs.inside.Searches.{IsSearching};
+ghost use Rattle.sorted_pairs.specs.inside.Searches.{IsSearching, IsPlace};
 
 use std::cmp::Ord;
 
@@ -95,9 +95,7 @@ pub fn partition_point_near<T, P: Predicate<T>>(items: &[T], test: &P) -> usize
 #[inline(always)]
 fn by_halves<T, P: Predicate<T>>(items: &[T], test: &P, from: usize, count: usize) -> usize
     requires { IsSearching (P.passes test.now) from count items.now }
-    ensures bound { result ≤ length items.now }
-    ensures place { IsPartitionedBy (P.passes test.now) items.now →
-        IsPartitionPoint (λ y. P.passes test.now y ≡ true) (λ y. P.passes test.now y ≡ false) items.now result }
+    ensures { IsPlace (P.passes test.now) items.now result }
 {
     let mut base = from;
     let mut size = count;
@@ -114,9 +112,7 @@ fn among_512<T, P: Predicate<T>>(items: &[T], test: &P, base: usize, size: usize
     requires many { 8 ≤ size }
     requires few { size ≤ 512 }
     requires about { IsSearching (P.passes test.now) base size items.now }
-    ensures bound { result ≤ length items.now }
-    ensures place { IsPartitionedBy (P.passes test.now) items.now →
-        IsPartitionPoint (λ y. P.passes test.now y ≡ true) (λ y. P.passes test.now y ≡ false) items.now result }
+    ensures { IsPlace (P.passes test.now) items.now result }
 {
     let (base, size) = eighth(items, test, base, size);
     among_64(items, test, base, size)
@@ -127,9 +123,7 @@ fn among_512<T, P: Predicate<T>>(items: &[T], test: &P, base: usize, size: usize
 fn among_64<T, P: Predicate<T>>(items: &[T], test: &P, base: usize, size: usize) -> usize
     requires few { size ≤ 64 }
     requires about { IsSearching (P.passes test.now) base size items.now }
-    ensures bound { result ≤ length items.now }
-    ensures place { IsPartitionedBy (P.passes test.now) items.now →
-        IsPartitionPoint (λ y. P.passes test.now y ≡ true) (λ y. P.passes test.now y ≡ false) items.now result }
+    ensures { IsPlace (P.passes test.now) items.now result }
 {
     if size <= 8 {
         return among_8(items, test, base, size);
@@ -143,9 +137,7 @@ fn among_64<T, P: Predicate<T>>(items: &[T], test: &P, base: usize, size: usize)
 fn among_8<T, P: Predicate<T>>(items: &[T], test: &P, base: usize, size: usize) -> usize
     requires few { size ≤ 8 }
     requires about { IsSearching (P.passes test.now) base size items.now }
-    ensures bound { result ≤ length items.now }
-    ensures place { IsPartitionedBy (P.passes test.now) items.now →
-        IsPartitionPoint (λ y. P.passes test.now y ≡ true) (λ y. P.passes test.now y ≡ false) items.now result }
+    ensures { IsPlace (P.passes test.now) items.now result }
 {
     let first = half(items, test, base, size);
     let rest = size - size / 2;
@@ -158,9 +150,7 @@ fn among_8<T, P: Predicate<T>>(items: &[T], test: &P, base: usize, size: usize) 
 #[inline(always)]
 fn at_one<T, P: Predicate<T>>(items: &[T], test: &P, base: usize) -> usize
     requires { IsSearching (P.passes test.now) base 1 items.now }
-    ensures bound { result ≤ length items.now }
-    ensures place { IsPartitionedBy (P.passes test.now) items.now →
-        IsPartitionPoint (λ y. P.passes test.now y ≡ true) (λ y. P.passes test.now y ≡ false) items.now result }
+    ensures { IsPlace (P.passes test.now) items.now result }
 {
     if test.passes(&items[base]) {
         base + 1

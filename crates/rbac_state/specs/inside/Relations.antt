@@ -1,10 +1,11 @@
 -- A relation as it is kept: its pairs in two ascending lists, by either side, and each of them in blocks.
-use Rattle.std.specs.Prelude.{◌≡◌, ℕ, Bool}
+use Rattle.std.specs.Prelude.{◌≡◌, ◌<◌, ◌&&◌, ℕ, Bool}
 use Rattle.std.specs.List.Sorted.{IsStrictlySortedBy}
 use Rattle.sorted_pairs.specs.Lists.{is_among}
 use Rattle.sorted_pairs.specs.Pairs.{number_cmp}
 use Rattle.sorted_pairs.specs.Blocks.{AreBlocks, items_in}
 use Rattle.rbac_state.specs.declared.relation.Relation.{Relation}
+use Rattle.rbac_state.specs.inside.Limits.{most_firsts}
 
 -- the pair is in the relation
 abbrev pub relates : {k : ℕ} → Relation k → ℕ → ℕ → Bool
@@ -32,3 +33,14 @@ pub record SamePairs {k : ℕ} (old new : Relation k) : Type 0 where
 pub record AreKept {k n : ℕ} (assigned : Relation k) (granted : Relation n) : Type 0 where
   pub users : IsKeptBothWays assigned
   pub permissions : IsKeptBothWays granted
+
+-- the relations of a policy, and a user and a permission about which they can be asked
+pub record CanBeAsked {k n : ℕ} (assigned : Relation k) (granted : Relation n) (user permission : ℕ) : Type 0 where
+  pub user_fits : user < most_firsts
+  pub permission_fits : permission < most_firsts
+  pub users : IsKeptBothWays assigned
+  pub permissions : IsKeptBothWays granted
+
+-- the user has the role, and the role has the permission
+abbrev pub is_granting : {k n : ℕ} → Relation k → Relation n → ℕ → ℕ → ℕ → Bool
+is_granting assigned granted user permission role = relates assigned user role && relates granted permission role

@@ -1,7 +1,7 @@
 -- Where a search looks on.
 use Rattle.std.specs.Prelude.{◌≡◌, ℕ, ◌+◌, ◌*◌, ◌/◌, ◌<◌, ◌≤◌, Bool, true, false, List, length, slice_index_or}
 use Rattle.std.specs.List.{AllWithin}
-use Rattle.std.specs.List.Sorted.{IsPartitionedBy}
+use Rattle.std.specs.List.Sorted.{IsPartitionedBy, IsPartitionPoint}
 
 -- each item before a place passes, and none from another place on
 pub record IsAbout {X : Type 0} (passes : X → Bool) (place end : ℕ) (xs : List X) : Type 0 where
@@ -13,6 +13,11 @@ pub record IsSearching {X : Type 0} (passes : X → Bool) (base size : ℕ) (xs 
   pub some : 0 < size
   pub within : base + size ≤ length xs
   pub about : IsPartitionedBy passes xs → IsAbout passes base (base + size) xs
+
+-- the place that is looked for: behind all items that pass, where they are in front
+pub record IsPlace {X : Type 0} (passes : X → Bool) (xs : List X) (place : ℕ) : Type 0 where
+  pub bound : place ≤ length xs
+  pub parts : IsPartitionedBy passes xs → IsPartitionPoint (λ y. passes y ≡ true) (λ y. passes y ≡ false) xs place
 
 -- of so many items from a place on, the one with which this of their eight parts begins
 abbrev pub parting : {X : Type 0} → List X → ℕ → ℕ → ℕ → X → X

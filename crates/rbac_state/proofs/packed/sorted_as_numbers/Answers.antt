@@ -9,8 +9,7 @@ use Rattle.rbac_state.proofs.packed.sorted_as_numbers.Goals as goal
 
 pub returns : goal.returns
 returns c =
-    IfOk-weaker c.unpack_all.result (λ xs. xs.items ≡ map permission_of c.deref-2.result.now)
+    IfOk-weaker c.unpack_all.result (λ xs. xs.items ≡ map permission_of c.deref.result.now)
     (λ xs. IsListing permission_cmp (Contains c.args.permissions.items) xs.items)
-    (λ xs is. rw (is, c.deref-2.ensures.value)
-    (unpacked_listing c.args.permissions.items c.ascending.result.items (rw (c.deref.ensures.value) at c.within.ensures)
-    (rw (c.in_ok-numbers.ensures) at c.ascending.ensures))) c.unpack_all.ensures
+    (λ xs is. rw (is, c.deref.ensures.value, ← c.in_ok-numbers.ensures)
+    (unpacked_listing _ c.ascending.result.items c.ascending.ensures)) c.unpack_all.ensures

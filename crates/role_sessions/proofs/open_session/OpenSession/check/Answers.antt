@@ -1,6 +1,6 @@
 use Rattle.std.proofs.Common.{sym, ◌∙◌, arith}
 use Rattle.role_sessions.specs.Decisions.{relations_of}
-use Rattle.role_sessions.proofs.RememberLemmas.{found_right, put_right, put_past}
+use Rattle.role_sessions.proofs.RememberLemmas.{found_right, remembered_right, remembered_past}
 use Rattle.role_sessions.proofs.open_session.OpenSession.check.Goals as goal
 
 pub returns-in-Some-clause-verdict : goal.returns-in-Some-clause-verdict
@@ -13,13 +13,13 @@ returns-in-Some-clause-verdict c =
 pub returns-clause-right : goal.returns-clause-right
 returns-clause-right c =
     let a = c.args in
-    put_right (relations_of a.policy.now) a.self.now.session a.generation a.user a.operation a.object
+    remembered_right (relations_of a.policy.now) a.self.now.session a.generation a.user a.operation a.object
     c.verdict-answer.result
-    (sym c.is_of.ensures ∙ c.if-not-is_of.false) a.self.now.answers.places c.put.new.self.places c.requires
-    c.put.ensures c.verdict-answer.ensures
+    (sym c.is_of.ensures ∙ c.if-not-is_of.false) a.self.now.answers.places c.remember.new.self.places c.requires
+    c.remember.ensures c.verdict-answer.ensures
 
 pub returns-clause-past : goal.returns-clause-past
 returns-clause-past c = λ past.
     let a = c.args in
-    put_past a.generation a.operation a.object c.verdict-answer.result a.self.now.answers.places c.put.new.self.places
-    (omega arith) past c.put.ensures
+    remembered_past a.generation a.operation a.object c.verdict-answer.result a.self.now.answers.places c.remember.new.self.places
+    (omega arith) past c.remember.ensures

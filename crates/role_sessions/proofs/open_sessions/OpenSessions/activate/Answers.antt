@@ -1,30 +1,16 @@
-use Rattle.std.proofs.Common.{◌≡◌, Some, sym, ap, subst, ◌∙◌, rules}
+use Rattle.std.proofs.Common.{◌≡◌, ap, subst, sym, ◌∙◌, rules}
 use Rattle.role_sessions.specs.inside.Changes.{with_role}
-use Rattle.role_sessions.specs.Kept.{KeepsRight}
-use Rattle.role_sessions.specs.inside.Remembered.{RemembersNothing, sessions_in, open_value, as_sessions, IsTable}
-use Rattle.role_sessions.proofs.OpenLemmas.{map_of-written, map_of-absent}
-use Rattle.role_sessions.proofs.TableLemmas.{the_one, gives-sessions_in, here-sessions_in}
-use Rattle.role_sessions.proofs.TableLemmas.{absent-sessions_in, table-written, keeps_given, keeps_same}
-use Rattle.role_sessions.proofs.TableLemmas.{same_value, nothing_is_past, written_back, on_err}
+use Rattle.role_sessions.specs.inside.Remembered.{open_value, IsTable}
+use Rattle.role_sessions.proofs.TableLemmas.{changed-written, changed-absent, table-written, nothing_is_past}
+use Rattle.role_sessions.proofs.TableLemmas.{keeps_same, written_back, on_err}
 use Rattle.role_sessions.proofs.open_sessions.OpenSessions.activate.Goals as goal
 
-pub returns-in_default-clause-ok : goal.returns-in_default-clause-ok
-returns-in_default-clause-ok c =
-    let a = c.self.inside in
-    map_of-absent (sessions_in a.sessions.entries) (sessions_in c.get_mut.follows.lender-at-none.entries) c.args.id
-    c.args.self.now.sessions (with_role c.args.role)
-    (absent-sessions_in a.sessions.entries c.args.id c.in_default.ensures.value)
-    (ap (λ m. sessions_in m.entries) c.get_mut.follows.holds-at-none)
-    (ap (λ v. v.sessions) c.self.view_is)
-
-pub returns-in_default-clause-kept : goal.returns-in_default-clause-kept
-returns-in_default-clause-kept c =
-    let a = c.self.inside in
-    subst (λ v. KeepsRight (as_sessions v) (as_sessions (open_value a.generation
-    c.get_mut.follows.lender-at-none.entries)))
-    c.self.view_is
-    (keeps_same _ _ (same_value a.generation a.sessions.entries c.get_mut.follows.lender-at-none.entries
-    (ap (λ m. m.entries) c.get_mut.follows.holds-at-none)))
+pub returns-in_default : goal.returns-in_default
+returns-in_default c =
+    let changed = changed-absent c.self.inside.generation c.args.self.now c.self.inside.sessions.entries
+    c.get_mut.follows.lender-at-none.entries c.args.id (with_role c.args.role) c.self.view_is c.in_default.ensures.value
+    (ap (λ m. m.entries) c.get_mut.follows.holds-at-none) in
+    record { ok = changed.sessions; err = tt; kept = changed.kept }
 
 pub invariant_of-self-2 : goal.invariant_of-self-2
 invariant_of-self-2 c =
@@ -34,27 +20,14 @@ invariant_of-self-2 c =
     c.in-Some.found.now c.activate.new.self c.self.invariant c.in-Some.ensures.value (h.3 (search rules)).0 h.2
     (nothing_is_past a.generation c.activate.new.self c.in_ok-activate.ensures.nothing)
 
-pub returns-clause-ok : goal.returns-clause-ok
-returns-clause-ok c =
-    let a = c.self.inside in
+pub returns : goal.returns
+returns c =
     let h = c.get_mut.follows.holds c.activate.new.self in
-    let new = (c.get_mut.follows.lender c.activate.new.self).entries in
-    map_of-written (sessions_in a.sessions.entries) (sessions_in new) c.args.id c.in-Some.found.now.session
-    c.activate.new.self.session (here-sessions_in a.sessions.entries c.args.id c.in-Some.found.now
-    c.in-Some.ensures.value)
-    (gives-sessions_in a.sessions.entries new c.args.id (Some c.activate.new.self) (h.3 (search rules)).0)
-    c.args.self.now.sessions (with_role c.args.role) (ap (λ v. v.sessions) c.self.view_is)
-    c.in_ok-activate.ensures.session
-
-pub returns-clause-kept : goal.returns-clause-kept
-returns-clause-kept c =
-    let a = c.self.inside in
-    let h = c.get_mut.follows.holds c.activate.new.self in
-    let new = (c.get_mut.follows.lender c.activate.new.self).entries in
-    subst (λ v. KeepsRight (as_sessions v) (as_sessions (open_value a.generation new)))
-    c.self.view_is
-    (keeps_given a.generation a.sessions.entries new c.args.id (Some c.activate.new.self) (h.3 (search rules)).0
-    (the_one RemembersNothing c.activate.new.self c.in_ok-activate.ensures.nothing) c.self.invariant)
+    let changed = changed-written c.self.inside.generation c.args.self.now c.self.inside.sessions.entries
+    (c.get_mut.follows.lender c.activate.new.self).entries c.args.id (with_role c.args.role) c.self.view_is
+    c.self.invariant c.in-Some.found.now c.activate.new.self c.in-Some.ensures.value (h.3 (search rules)).0
+    c.in_ok-activate.ensures.nothing c.in_ok-activate.ensures.session in
+    record { ok = changed.sessions; err = tt; kept = changed.kept }
 
 same_entries : (c : goal.After-from_residual)
     → (c.get_mut.follows.lender c.activate.new.self).entries ≡ c.self.inside.sessions.entries

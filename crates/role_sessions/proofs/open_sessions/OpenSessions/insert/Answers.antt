@@ -4,15 +4,12 @@ use Rattle.role_sessions.specs.Kept.{KeepsRight}
 use Rattle.role_sessions.specs.inside.Remembered.{RemembersNothing, sessions_in, open_value, as_sessions}
 use Rattle.role_sessions.proofs.OpenLemmas.{map_of, map_of-insert}
 use Rattle.role_sessions.proofs.TableLemmas.{the_one, gives-sessions_in, table-insert}
-use Rattle.role_sessions.proofs.TableLemmas.{keeps_given, keeps_same, same_value}
+use Rattle.role_sessions.proofs.TableLemmas.{keeps_given, keeps_same}
 use Rattle.role_sessions.proofs.open_sessions.OpenSessions.insert.Goals as goal
 
 pub returns-in_err-insert-clause-kept : goal.returns-in_err-insert-clause-kept
 returns-in_err-insert-clause-kept c =
-    let a = c.self.inside in
-    subst (λ v. KeepsRight (as_sessions v) (as_sessions (open_value a.generation c.insert.new.self.entries)))
-    c.self.view_is
-    (keeps_same _ _ (same_value a.generation a.sessions.entries c.insert.new.self.entries c.in_err-insert.ensures.err))
+    keeps_same c.args.self.now _ (ap (open_value c.self.inside.generation) c.in_err-insert.ensures.err ∙ c.self.view_is)
 
 pub invariant_of-self-2 : goal.invariant_of-self-2
 invariant_of-self-2 c =
