@@ -6,7 +6,6 @@ ghost use Rattle.std.specs.Option.{option_copied};
 ghost use Rattle.std.specs.List.{range_with_len};
 ghost use Rattle.bracha_instance.specs.Broadcast.{is_for};
 ghost use Rattle.bracha_instance.specs.declared.instance.Effect.TheVariants.{Counted};
-ghost use Rattle.role_commands.specs.Same.{same_command};
 ghost use Rattle.role_node.specs.Access.{sent_at, sessions_at, verdict_at};
 ghost use Rattle.role_node.specs.Listed.{IsWithin};
 ghost use Rattle.role_node.specs.Questions.{ask_due, IsAsked, IsAnswerTo};
@@ -19,7 +18,6 @@ ghost use Rattle.byz_world.specs.Worlds.{new_world, node_due};
 use bracha_instance::Effect;
 use link_frames::{Kind, Message, Packet};
 use quorum_sizes::{NodeName, NodeSet};
-use role_commands::Command;
 use role_node::{Answer, AskFault, Config, Entry, Event, Node, Question};
 use role_sessions::Verdict;
 use std::alloc::{AllocError, Global};
@@ -172,14 +170,7 @@ pub(crate) fn has_sent(node: &Node, message: &Message) -> bool
         Kind::Ready => again.ready,
     };
     match said {
-        Some(command) => is_same(&message.command, &command),
+        Some(command) => message.command.is_same(&command),
         None => false,
     }
-}
-
-/// Whether two commands are the same.
-fn is_same(a: &Command, b: &Command) -> bool
-    ensures { result ≡ same_command a.now b.now }
-{
-    *a == *b
 }

@@ -8,7 +8,7 @@ use Rattle.std.specs.List.{cons_option}
 use Rattle.std.specs.Option.{option_map_or}
 use Rattle.std.proofs.lemmas.Bool.{cases_lt, cases_Bool, and_parts, and_from, both_ways, not-true, not_from_false}
 use Rattle.std.proofs.lemmas.Bool.{eqb-true, eq-eqb}
-use Rattle.std.proofs.lemmas.List.Elements.{filter_map-append, Contains-append_left}
+use Rattle.std.proofs.lemmas.List.Elements.{filter_map-append}
 use Rattle.std.proofs.lemmas.Option.{same_Some, cond_some}
 use Rattle.quorum_sizes.specs.Sizes.{Counts}
 use Rattle.link_frames.specs.frames.Kinds.{same_kind}

@@ -11,7 +11,7 @@ use Rattle.bracha_instance.specs.Broadcast.{Take, delivered, echoed, readied}
 use Rattle.bracha_instance.specs.States.{State, state}
 use Rattle.owner_streams.specs.Places.{place_count, takes_at, stream, reach}
 use Rattle.owner_streams.specs.Steps.{again_due}
-use Rattle.owner_streams.specs.inside.Slots.{slot_at, state_in, delivered_in, again_in}
+use Rattle.owner_streams.specs.inside.Slots.{state_in, delivered_in, again_in}
 use Rattle.owner_streams.specs.inside.Kept.{reach_in, held, IsOwnerStream, AreStatesOf, command_in}
 use Rattle.owner_streams.specs.declared.owner_stream.OwnerStream.{OwnerStream}
 use Rattle.owner_streams.proofs.Taken.{echoed-none, readied-none, delivered-none}

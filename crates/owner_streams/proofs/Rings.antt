@@ -56,10 +56,6 @@ cleared (slot ∷ ring) (suc k) = cleared ring k
 
 -- A change at one place.
 
-pub held-record : (below now : List State) (ring : List (Option State)) (here : ℕ) → here < length below
-    → length now ≡ length below → held_in now ring here ≡ slice_get now here
-held-record below now ring here h len = held-below now ring here (omega arith)
-
 -- where one record changes, no other place does
 pub held-other_record : (below now : List State) (ring : List (Option State)) (here : ℕ) → here < length below
     → length now ≡ length below → ((k : ℕ) → k ≢ here → slice_get now k ≡ slice_get below k)
