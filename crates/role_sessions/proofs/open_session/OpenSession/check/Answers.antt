@@ -21,5 +21,5 @@ returns-clause-right c =
 pub returns-clause-past : goal.returns-clause-past
 returns-clause-past c = λ past.
     let a = c.args in
-    remembered_past a.generation a.operation a.object c.verdict-answer.result a.self.now.answers.places c.remember.new.self.places
-    (omega arith) past c.remember.ensures
+    remembered_past a.generation a.operation a.object c.verdict-answer.result a.self.now.answers.places
+    c.remember.new.self.places (omega arith) past c.remember.ensures

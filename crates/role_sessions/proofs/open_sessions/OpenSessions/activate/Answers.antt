@@ -8,8 +8,8 @@ use Rattle.role_sessions.proofs.open_sessions.OpenSessions.activate.Goals as goa
 pub returns-in_default : goal.returns-in_default
 returns-in_default c =
     let changed = changed-absent c.self.inside.generation c.args.self.now c.self.inside.sessions.entries
-    c.get_mut.follows.lender-at-none.entries c.args.id (with_role c.args.role) c.self.view_is c.in_default.ensures.value
-    (ap (λ m. m.entries) c.get_mut.follows.holds-at-none) in
+    c.get_mut.follows.lender-at-none.entries c.args.id (with_role c.args.role) c.self.view_is
+    c.in_default.ensures.value (ap (λ m. m.entries) c.get_mut.follows.holds-at-none) in
     record { ok = changed.sessions; err = tt; kept = changed.kept }
 
 pub invariant_of-self-2 : goal.invariant_of-self-2
