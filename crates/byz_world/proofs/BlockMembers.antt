@@ -1,5 +1,5 @@
 -- Messages that are given to each member: the members before have taken all of them, and those behind none.
-use Rattle.std.proofs.Common.{◌≡◌, ◌≢◌, ℕ, zero, suc, ◌+◌, ◌-◌, ◌*◌, ◌<◌, ◌≤◌, ⊎_elim, List, [], ◌∷◌, length, take}
+use Rattle.std.proofs.Common.{◌≡◌, ℕ, zero, suc, ◌+◌, ◌-◌, ◌*◌, ◌<◌, ◌≤◌, ⊎_elim, List, [], ◌∷◌, length, take}
 use Rattle.std.proofs.Common.{Some, refl, sym, ap, ◌∙◌, subst}
 use Rattle.std.proofs.Common.{arith, take_all}
 use Rattle.std.specs.Prelude.{slice_get}
@@ -52,44 +52,50 @@ given_to_none members sent marks none = record {
   mark = λ k j s at early. absurd (omega (arith, early));
 }
 
+-- the row of an earlier number ends within the first ones
+row_before : (k many n long : ℕ) → k < many → many * n ≤ long → n ≤ long - k * n
+row_before k many n long early all =
+    let rows : suc k * n ≤ many * n = mul-le-mul_right n (omega (arith, early)) in
+    let product : suc k * n ≡ k * n + n = grind arith in
+    omega (arith, rows, product, all)
+
 -- the marks that stand before stay; the next member's stand behind them
-module _ (old now new : Members) (sent : List Sent) (marks marks' : List Mark) (many count : ℕ)
-    (given : AreGivenTo old now sent marks many) (others : (k : ℕ) → k ≢ many → member_in new k ≡ member_in now k)
-    (took : TookFirst count (member_in now many) (member_in new many) sent marks marks') where
+module _ (old now new : Members) (sent : List Sent) (marks marks' : List Mark) (many : ℕ)
+    (given : AreGivenTo old now sent marks many) (more : many < length old)
+    (gave : GaveSome now new many sent marks marks') where
+  abbrev count : ℕ
+  count = gave.own.0
+
+  abbrev took : TookFirst count (member_in now many) (member_in new many) sent marks marks'
+  took = gave.own.1
+
   own_member : member_in now many ≡ member_in old many
   own_member = given.behind many (omega arith)
 
   abbrev tail : List Mark
   tail = member_marks (member_in now many) (take count sent)
 
-  pub long : length marks' ≡ many * length sent + count
+  long : length marks' ≡ many * length sent + count
   long = took-length took ∙ (λ i. given.full i + taken-length count sent took.within i)
 
-  pub before_all : (k : ℕ) → k < many → member_in new k ≡ member_after (member_in old k) sent
-  before_all k early = others k (λ same. absurd (omega (arith, early, same))) ∙ given.before k early
+  before_all : (k : ℕ) → k < many → member_in new k ≡ member_after (member_in old k) sent
+  before_all k early = gave.others k (λ same. absurd (omega (arith, early, same))) ∙ given.before k early
 
-  pub own_is : member_in new many ≡ member_after (member_in old many) (take count sent)
+  own_is : member_in new many ≡ member_after (member_in old many) (take count sent)
   own_is = took.member ∙ ap (λ m. member_after m (take count sent)) own_member
 
-  pub behind_all : (k : ℕ) → many < k → member_in new k ≡ member_in old k
-  behind_all k late = others k (λ same. absurd (omega (arith, late, same))) ∙ given.behind k (omega (arith, late))
+  behind_all : (k : ℕ) → many < k → member_in new k ≡ member_in old k
+  behind_all k late = gave.others k (λ same. absurd (omega (arith, late, same))) ∙ given.behind k (omega (arith, late))
 
-  early_number : (k j : ℕ) → k < many → j < length sent → k * length sent + j < many * length sent
-  early_number k j early h =
-      let rows : suc k * length sent ≤ many * length sent = mul-le-mul_right (length sent) (omega (arith, early)) in
-      let product : suc k * length sent ≡ k * length sent + length sent = grind arith in
-      omega (arith, rows, product, h)
-
-  pub mark_before : (k j : ℕ) (s : Sent) → slice_get sent j ≡ Some s → k < many →
+  mark_before : (k j : ℕ) (s : Sent) → slice_get sent j ≡ Some s → k < many →
       slice_get marks' (k * length sent + j) ≡ Some (mark_in (member_in old k) (take j sent) s)
   mark_before k j s at early =
-      let h = slice_get_within sent j s at in
-      let inside = early_number k j early h in
-      let there : k * length sent + j < length marks = omega (arith, given.full, inside) in
+      let row = row_before k many (length sent) (length marks) early (omega (arith, given.full)) in
+      let there : k * length sent + j < length marks = omega (arith, row, slice_get_within sent j s at) in
       ap (λ ms. slice_get ms (k * length sent + j)) took.marks ∙ slice_get-front marks tail (k * length sent + j) there
       ∙ given.mark k j s at early
 
-  pub mark_own : (j : ℕ) (s : Sent) → slice_get sent j ≡ Some s → j < count →
+  mark_own : (j : ℕ) (s : Sent) → slice_get sent j ≡ Some s → j < count →
       slice_get marks' (many * length sent + j) ≡ Some (mark_in (member_in old many) (take j sent) s)
   mark_own j s at h =
       let P : ℕ → Type 0 = λ n. slice_get marks' (n + j) ≡ slice_get tail j in
@@ -99,43 +105,86 @@ module _ (old now new : Members) (sent : List Sent) (marks marks' : List Mark) (
       (at_taken j count sent h ∙ at)
       ∙ (λ i. Some (mark_in (own_member i) (take_take j count sent h i) s))
 
--- .. and with one more
-pub given_to_next : (old now new : Members) (sent : List Sent) (marks marks' : List Mark) (many : ℕ) →
-    AreGivenTo old now sent marks many → many < length old → GaveSome now new many sent marks marks' →
-    length marks' ≡ length marks + length sent → AreGivenTo old new sent marks' (many + 1)
-given_to_next old now new sent marks marks' many given more gave all =
-    let count = gave.own.0 in
-    let took = gave.own.1 in
-    let l = long old now new sent marks marks' many count given gave.others took in
-    let whole : count ≡ length sent = omega (arith, l, all, given.full) in
-    record {
-      within = omega (arith, more);
-      same = gave.same ∙ given.same;
-      before = λ k early.
-          ⊎_elim
-          (λ (h : k < many). before_all old now new sent marks marks' many count given gave.others took k h)
-          (λ (h : many ≤ k).
-          let is : many ≡ k = omega (arith, early, h) in
-          let P : ℕ → Type 0 = λ n. member_in new n ≡ member_after (member_in old n) sent in
-          subst P is (own_is old now new sent marks marks' many count given gave.others took
-          ∙ ap (member_after (member_in old many)) (take_all count sent (omega (arith, whole)))))
-          (cases_lt k many);
-      behind = λ k late.
-          behind_all old now new sent marks marks' many count given gave.others took k (omega (arith, late));
-      full = l ∙ grind (arith, whole);
-      mark = λ k j s at early.
-          ⊎_elim
-          (λ (h : k < many). mark_before old now new sent marks marks' many count given gave.others took k j s at h)
-          (λ (h : many ≤ k).
-          let is : many ≡ k = omega (arith, early, h) in
-          let P : ℕ → Type 0 = λ n. slice_get marks' (n * length sent + j)
-          ≡ Some (mark_in (member_in old n) (take j sent) s) in
-          subst P is (mark_own old now new sent marks marks' many count given gave.others took j s at
-          (omega (arith, whole, slice_get_within sent j s at))))
-          (cases_lt k many);
-    }
+  -- .. and with one more
+  pub given_to_next : length marks' ≡ length marks + length sent → AreGivenTo old new sent marks' (many + 1)
+  given_to_next all =
+      let whole : count ≡ length sent = omega (arith, long, all, given.full) in
+      record {
+        within = omega (arith, more);
+        same = gave.same ∙ given.same;
+        before = λ k early.
+            ⊎_elim
+            (λ (h : k < many). before_all k h)
+            (λ (h : many ≤ k).
+            let is : many ≡ k = omega (arith, early, h) in
+            let P : ℕ → Type 0 = λ n. member_in new n ≡ member_after (member_in old n) sent in
+            subst P is (own_is ∙ ap (member_after (member_in old many)) (take_all count sent (omega (arith, whole)))))
+            (cases_lt k many);
+        behind = λ k late. behind_all k (omega (arith, late));
+        full = long ∙ grind (arith, whole);
+        mark = λ k j s at early.
+            ⊎_elim
+            (λ (h : k < many). mark_before k j s at h)
+            (λ (h : many ≤ k).
+            let is : many ≡ k = omega (arith, early, h) in
+            let P : ℕ → Type 0 = λ n. slice_get marks' (n * length sent + j)
+            ≡ Some (mark_in (member_in old n) (take j sent) s) in
+            subst P is (mark_own j s at (omega (arith, whole, slice_get_within sent j s at))))
+            (cases_lt k many);
+      }
 
--- As the code has it.
+  -- .. and when that one wanted memory
+  pub given_in_part : AreGiven old new sent marks'
+  given_in_part =
+      let n : ℕ = length sent in
+      let l : length marks' ≡ many * n + count = long in
+      let rows : suc many * n ≤ length old * n = mul-le-mul_right n (omega (arith, more)) in
+      let one_more : suc many * n ≡ many * n + n = grind arith in
+      record {
+        same = gave.same ∙ given.same;
+        within = omega (arith, l, took.within, rows, one_more);
+        each = λ name.
+            ⊎_elim
+            (λ (h : name < many).
+            before_all name h ∙ ap (member_after (member_in old name))
+            (sym (take_all (length marks' - name * n) sent (row_before name many n _ h (omega (arith, l))))))
+            (λ (h : many ≤ name).
+            ⊎_elim
+            (λ (own : name < many + 1).
+            let is : many ≡ name = omega (arith, h, own) in
+            let P : ℕ → Type 0 = λ k. member_in new k ≡ member_after (member_in old k)
+            (take (length marks' - k * n) sent) in
+            let left : length marks' - many * n ≡ count = omega (arith, l) in
+            subst P is (own_is ∙ ap (λ k. member_after (member_in old many) (take k sent)) (sym left)))
+            (λ (late : many + 1 ≤ name).
+            let none : length marks' - name * n ≡ 0 = omega (arith, end name late) in
+            behind_all name (omega (arith, late))
+            ∙ sym (ap (λ k. member_after (member_in old name) (take k sent)) none ∙ member_after-none
+            (member_in old name)))
+            (cases_lt name (many + 1)))
+            (cases_lt name many);
+        mark = λ name j s at there.
+            ⊎_elim
+            (λ (h : name < many). mark_before name j s at h)
+            (λ (h : many ≤ name).
+            ⊎_elim
+            (λ (own : name < many + 1).
+            let is : many ≡ name = omega (arith, h, own) in
+            let P : ℕ → Type 0 = λ k. slice_get marks' (k * n + j) ≡ Some (mark_in (member_in old k) (take j sent) s) in
+            let Q : ℕ → Type 0 = λ k. k * n + j < length marks' in
+            let early : Q many = subst Q (sym is) there in
+            subst P is (mark_own j s at (omega (arith, early, l))))
+            (λ (late : many + 1 ≤ name). absurd (omega (arith, there, end name late)))
+            (cases_lt name (many + 1)))
+            (cases_lt name many);
+      }
+    where
+      -- the marks end before those of a later member
+      end : (k : ℕ) → many + 1 ≤ k → length marks' ≤ k * length sent
+      end k h =
+          let rows : (many + 1) * length sent ≤ k * length sent = mul-le-mul_right (length sent) h in
+          let product : (many + 1) * length sent ≡ many * length sent + length sent = grind arith in
+          omega (arith, rows, product, long, took.within)
 
 -- all were given
 pub given_to_all : (old new : Members) (sent : List Sent) (marks : List Mark) (many : ℕ) →
@@ -150,7 +199,8 @@ given_to_all old new sent marks many given over =
           ⊎_elim
           (λ (h : name < many).
           given.before name h ∙ ap (member_after (member_in old name))
-          (sym (take_all (length marks - name * length sent) sent (enough name many (length sent) h given.full))))
+          (sym (take_all (length marks - name * length sent) sent
+          (row_before name many (length sent) _ h (omega (arith, given.full))))))
           (λ (h : many ≤ name).
           given.behind name h ∙ sym (none_after old sent name (length marks) many h given.full))
           (cases_lt name many);
@@ -161,12 +211,6 @@ given_to_all old new sent marks many given over =
           (cases_lt name many);
     }
   where
-    enough : (k many n : ℕ) → k < many → length marks ≡ many * n → n ≤ length marks - k * n
-    enough k many n h long =
-        let rows : suc k * n ≤ many * n = mul-le-mul_right n (omega (arith, h)) in
-        let product : suc k * n ≡ k * n + n = grind arith in
-        omega (arith, rows, product, long)
-
     past : (k j many n : ℕ) → many ≤ k → k * n + j < many * n → ⊥
     past k j many n h there =
         let rows : many * n ≤ k * n = mul-le-mul_right n h in
@@ -178,78 +222,3 @@ given_to_all old new sent marks many given over =
         let rows : many * length sent ≤ k * length sent = mul-le-mul_right (length sent) h in
         let none : long - k * length sent ≡ 0 = omega (arith, rows, e) in
         ap (λ n. member_after (member_in old k) (take n sent)) none ∙ member_after-none (member_in old k)
-
--- .. or until one wanted memory
-pub given_in_part : (old now new : Members) (sent : List Sent) (marks marks' : List Mark) (many : ℕ) →
-    AreGivenTo old now sent marks many → many < length old → GaveSome now new many sent marks marks' →
-    AreGiven old new sent marks'
-given_in_part old now new sent marks marks' many given more gave =
-    let n : ℕ = length sent in
-    let count = gave.own.0 in
-    let took = gave.own.1 in
-    let l : length marks' ≡ many * n + count = long old now new sent marks marks' many count given gave.others took in
-    let rows : suc many * n ≤ length old * n = mul-le-mul_right n (omega (arith, more)) in
-    let one_more : suc many * n ≡ many * n + n = grind arith in
-    record {
-      same = gave.same ∙ given.same;
-      within = omega (arith, l, took.within, rows, one_more);
-      each = λ name.
-          ⊎_elim
-          (λ (h : name < many).
-          before_all old now new sent marks marks' many count given gave.others took name h
-          ∙ ap (member_after (member_in old name)) (sym (take_all (length marks' - name * n) sent
-          (enough name h count l))))
-          (λ (h : many ≤ name).
-          ⊎_elim
-          (λ (own : name < many + 1).
-          let is : many ≡ name = omega (arith, h, own) in
-          let P : ℕ → Type 0 = λ k. member_in new k ≡ member_after (member_in old k)
-          (take (length marks' - k * n) sent) in
-          let left : length marks' - many * n ≡ count = omega (arith, l) in
-          subst P is (own_is old now new sent marks marks' many count given gave.others took
-          ∙ ap (λ k. member_after (member_in old many) (take k sent)) (sym left)))
-          (λ (late : many + 1 ≤ name).
-          let none : length marks' - name * n ≡ 0 = nothing name late count l took.within in
-          behind_all old now new sent marks marks' many count given gave.others took name (omega (arith, late))
-          ∙ sym (ap (λ k. member_after (member_in old name) (take k sent)) none ∙ member_after-none
-          (member_in old name)))
-          (cases_lt name (many + 1)))
-          (cases_lt name many);
-      mark = λ name j s at there.
-          ⊎_elim
-          (λ (h : name < many).
-          mark_before old now new sent marks marks' many count given gave.others took name j s at h)
-          (λ (h : many ≤ name).
-          ⊎_elim
-          (λ (own : name < many + 1).
-          let is : many ≡ name = omega (arith, h, own) in
-          let P : ℕ → Type 0 = λ k. slice_get marks' (k * n + j) ≡ Some (mark_in (member_in old k) (take j sent) s) in
-          let Q : ℕ → Type 0 = λ k. k * n + j < length marks' in
-          let early : Q many = subst Q (sym is) there in
-          subst P is (mark_own old now new sent marks marks' many count given gave.others took j s at
-          (omega (arith, early, l))))
-          (λ (late : many + 1 ≤ name). absurd (beyond name j late there count l took.within))
-          (cases_lt name (many + 1)))
-          (cases_lt name many);
-    }
-  where
-    enough : (k : ℕ) → k < many → (count : ℕ) → length marks' ≡ many * length sent + count →
-        length sent ≤ length marks' - k * length sent
-    enough k h count l =
-        let rows : suc k * length sent ≤ many * length sent = mul-le-mul_right (length sent) (omega (arith, h)) in
-        let product : suc k * length sent ≡ k * length sent + length sent = grind arith in
-        omega (arith, rows, product, l)
-
-    nothing : (k : ℕ) → many + 1 ≤ k → (count : ℕ) → length marks' ≡ many * length sent + count →
-        count ≤ length sent → length marks' - k * length sent ≡ 0
-    nothing k h count l few =
-        let rows : (many + 1) * length sent ≤ k * length sent = mul-le-mul_right (length sent) h in
-        let product : (many + 1) * length sent ≡ many * length sent + length sent = grind arith in
-        omega (arith, rows, product, l, few)
-
-    beyond : (k j : ℕ) → many + 1 ≤ k → k * length sent + j < length marks' → (count : ℕ) →
-        length marks' ≡ many * length sent + count → count ≤ length sent → ⊥
-    beyond k j h there count l few =
-        let rows : (many + 1) * length sent ≤ k * length sent = mul-le-mul_right (length sent) h in
-        let product : (many + 1) * length sent ≡ many * length sent + length sent = grind arith in
-        omega (arith, rows, product, l, few, there)

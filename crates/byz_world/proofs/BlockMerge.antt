@@ -2,13 +2,11 @@
 use Rattle.std.proofs.Common.{◌≡◌, ℕ, zero, suc, ◌+◌, ◌-◌, ◌*◌, ◌<◌, ◌≤◌, ⊎_elim, Bool, true, false, ◌==◌, ◌&&◌}
 use Rattle.std.proofs.Common.{List, [], ◌∷◌, ◌++◌, length, take, Option, Some, None, refl, sym, ap, ◌∙◌, subst, arith}
 use Rattle.std.proofs.Common.{append-nil, append_assoc, length-append, Result, Ok, Err}
-use Rattle.std.specs.Prelude.{if◌then◌else◌, not, nat_lt, min, slice_get, map, option_map, IfSome, Contains}
-use Rattle.std.specs.List.{range_with_len}
+use Rattle.std.specs.Prelude.{if◌then◌else◌, not, nat_lt, min, slice_get, option_map, IfSome, Contains}
 use Rattle.std.proofs.lemmas.Bool.{cases_lt}
 use Rattle.std.proofs.lemmas.Bool.Decides.{nat_tests}
 use Rattle.std.proofs.lemmas.Option.{slice_get_within, slice_get_past}
 use Rattle.std.proofs.lemmas.Map.Views.{exact_unsigned_eq}
-use Rattle.std.proofs.lemmas.List.FromFn.{map-range_with_len_more}
 use Rattle.std.proofs.Math.Nat.{mul-le-mul_right}
 use Rattle.link_frames.specs.frames.Packets.{PacketValue, packet_of, packet_due}
 use Rattle.link_frames.specs.declared.frames.kind.Kind.{Kind}
@@ -29,7 +27,7 @@ use Rattle.byz_world.specs.Pools.{Sent, listed, messages, pool}
 use Rattle.byz_world.specs.Worlds.{WorldValue, node_in, node_due, is_correct_in, IsClusterRunOf}
 use Rattle.byz_world.specs.Giving.{counts_now}
 use Rattle.byz_world.specs.Settled.{IsProlonged}
-use Rattle.byz_world.specs.Steps.{arrival, given, is_pool_full, recorded_pair, with_run, after_step, after_steps}
+use Rattle.byz_world.specs.Steps.{arrival, given, is_pool_full, recorded_pair, with_run, after_step}
 use Rattle.byz_world.specs.Settled.{after_gives}
 use Rattle.byz_world.specs.declared.step.Step.TheVariants.{Give}
 use Rattle.byz_world.specs.inside.Blocks.{counts_at, kind_of, sends_at, mark_of, taken, mark_due, after_take}
@@ -48,10 +46,10 @@ use Rattle.byz_world.proofs.BlockTakes.{after_takes-push, after_takes-none}
 use Rattle.byz_world.proofs.Elements.{contained, at_front}
 use Rattle.byz_world.proofs.Numbering.{pool-length, packet_at}
 use Rattle.byz_world.proofs.Passes.{give_prolongs, prolonged_more, prolonged_runs, prolonged_none, arrived}
-use Rattle.byz_world.proofs.Passes.{pair_of, added}
+use Rattle.byz_world.proofs.Passes.{pair_of, added, gives_next}
 use Rattle.byz_world.proofs.Pushing.{history_of-push, history_of-push_other, messages-push}
 use Rattle.byz_world.proofs.Sound.{message_is_due}
-use Rattle.byz_world.proofs.Stepping.{after_where, after_steps-push, after_steps-none}
+use Rattle.byz_world.proofs.Stepping.{after_where, after_steps-none}
 use Rattle.byz_world.proofs.Telling.{correct_is_node}
 
 -- A node that takes messages keeps its configuration and name.
@@ -486,9 +484,7 @@ module _ (w : WorldValue) (first count : ℕ) (block : List Sent) (marks : List 
           let number_is : f + c ≡ K = grind arith in
           let next : number * n + (name + 1) ≡ c + 1 = omega arith in
           sym stepped ∙ ap (λ v. after_step v (Give K)) (m.due all)
-          ∙ sym (after_steps-push w (map Give (range_with_len f c)) (Give K))
-          ∙ sym (ap (after_steps w) (map-range_with_len_more Give f c K number_is))
-          ∙ ap (after_gives w f) (sym next);
+          ∙ gives_next w f c K number_is ∙ ap (after_gives w f) (sym next);
     }
 
 -- one mark more

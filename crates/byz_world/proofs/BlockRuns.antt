@@ -1,15 +1,17 @@
 -- Runs by their names, and what is said in a run that goes on.
-use Rattle.std.proofs.Common.{◌≡◌, ℕ, suc, Bool, true, false, ◌==◌, List, [], ◌∷◌, ◌++◌, length}
+use Rattle.std.proofs.Common.{◌≡◌, ℕ, suc, ◌<◌, Bool, true, false, ◌==◌, List, [], ◌∷◌, ◌++◌, length}
 use Rattle.std.proofs.Common.{Some, refl, sym, ap, ◌∙◌, subst, append-nil, append_assoc, arith}
 use Rattle.std.specs.Prelude.{slice_get, option_map}
 use Rattle.std.proofs.lemmas.Map.Views.{exact_unsigned_eq}
+use Rattle.quorum_sizes.specs.NodeSets.{Nodes}
 use Rattle.role_node.specs.Configs.{ConfigValue}
 use Rattle.role_node.specs.declared.event.Event.{Event}
 use Rattle.byz_world.specs.Runs.{Run, history_of}
-use Rattle.byz_world.specs.Pools.{listed, sends_next, messages_after, messages}
-use Rattle.byz_world.specs.inside.Kept.{next_event, run_after}
+use Rattle.byz_world.specs.Pools.{Sent, listed, sends_next, messages_after, messages}
+use Rattle.byz_world.specs.inside.Kept.{Members, member_in, history_in, next_event, run_after, run_in, IsWorldIn}
 use Rattle.role_commands.proofs.Exported.{slice_get-seam}
-use Rattle.byz_world.proofs.Ordered.{times, times-own, times-other}
+use Rattle.byz_world.proofs.Ordered.{times, times-append, times-own, times-other}
+use Rattle.byz_world.proofs.Progress.{some_within}
 use Rattle.byz_world.proofs.Pushing.{history_of-append, history_of-none, history_of-own, history_of-other}
 
 -- who recorded
@@ -29,6 +31,11 @@ names-append (pair ∷ before) later = ap (λ ns. pair.0 ∷ ns) (names-append b
 pub names-one : (pair : ℕ × Event) → names (pair ∷ []) ≡ pair.0 ∷ []
 unfolding names
 names-one pair = refl
+
+names-length : (run : Run) → length (names run) ≡ length run
+unfolding names
+names-length [] = refl
+names-length (pair ∷ run) = ap suc (names-length run)
 
 -- a name stands there once for each of its events
 times_by : (name : ℕ) (pair : ℕ × Event) (run : Run) (b : Bool) → (pair.0 == name) ≡ b →
@@ -72,6 +79,31 @@ run_of_names h past (pair ∷ rest) own =
     let later = run_of_names h step rest
     (λ t node x at. own (suc t) node x at ∙ ap (history_of node) (sym split)) in
     (λ i. listed (next i) ++ run_after h (sym past_is i) (names rest)) ∙ ap (λ r. pair ∷ r) later
+
+-- the order is the names of the run
+run_after-names : (h : ℕ → List Event) (past order : List ℕ) →
+    ((name : ℕ) → times name (past ++ order) ≡ length (h name)) → names (run_after h past order) ≡ order
+unfolding run_after names
+run_after-names h past [] counts = refl
+run_after-names h past (name ∷ order) counts =
+    let step : List ℕ = past ++ name ∷ [] in
+    let split : step ++ order ≡ past ++ name ∷ order = append_assoc past (name ∷ []) order in
+    let within : times name past < length (h name) =
+    omega (arith, counts name, times-append name past (name ∷ order), times-own name order) in
+    let event' = some_within (h name) (times name past) within in
+    let next : next_event h past name ≡ Some (name, event'.0) = ap (option_map (λ e. (name, e))) event'.1 in
+    let rest = run_after-names h step order (λ n. ap (times n) split ∙ counts n) in
+    ap (λ o. names (listed o ++ run_after h step order)) next ∙ ap (λ ns. name ∷ ns) rest
+
+pub order_is_names : (config : ConfigValue) (liars : Nodes) (members : Members) (order : List ℕ) (sent : List Sent) →
+    IsWorldIn config liars members order sent → order ≡ names (run_in members order)
+order_is_names config liars members order sent is =
+    sym (run_after-names (λ name. history_in (member_in members name)) [] order is.named)
+
+pub run_length : (config : ConfigValue) (liars : Nodes) (members : Members) (order : List ℕ) (sent : List Sent) →
+    IsWorldIn config liars members order sent → length (run_in members order) ≡ length order
+run_length config liars members order sent is =
+    sym (names-length (run_in members order)) ∙ ap length (sym (order_is_names config liars members order sent is))
 
 -- who does not occur has no history
 pub unnamed : (name : ℕ) (run : Run) → ((t node : ℕ) (e : Event) → slice_get run t ≡ Some (node, e) →

@@ -3,26 +3,24 @@ use Rattle.std.proofs.Common.{◌≡◌, ℕ, zero, suc, ◌+◌, ◌-◌, ◌*�
 use Rattle.std.proofs.Common.{List, [], ◌∷◌, ◌++◌, length, take, drop, Option, Some, None, refl, sym, ap, ◌∙◌}
 use Rattle.std.proofs.Common.{subst, arith}
 use Rattle.std.specs.Option.{option_map_or}
-use Rattle.std.proofs.Common.{append_assoc, length-append, length-drop, take_all}
-use Rattle.std.specs.Prelude.{if◌then◌else◌, nat_lt, min, slice_get, map, option_map, Contains, ◌/◌, ◌%◌}
+use Rattle.std.proofs.Common.{length-append, length-drop, take_all}
+use Rattle.std.specs.Prelude.{if◌then◌else◌, nat_lt, min, slice_get, Contains, ◌/◌, ◌%◌}
 use Rattle.std.specs.List.{range_with_len}
 use Rattle.std.proofs.lemmas.Bool.{cases_lt}
 use Rattle.std.proofs.lemmas.Bool.Decides.{nat_tests}
 use Rattle.std.proofs.lemmas.Map.Views.{exact_unsigned_eq}
-use Rattle.std.proofs.lemmas.List.FromFn.{map-range_with_len_more}
 use Rattle.std.proofs.Math.Nat.{mul-le-mul_right, mod-add-div'}
 use Rattle.quorum_sizes.specs.NodeSets.{Nodes}
 use Rattle.link_frames.specs.frames.Packets.{PacketValue, packet_of}
 use Rattle.role_node.specs.Configs.{ConfigValue}
 use Rattle.role_node.specs.Nodes.{NodeValue}
-use Rattle.role_node.specs.declared.event.Event.{Event}
 use Rattle.byz_world.specs.Runs.{Run, history_of, IsClusterRun}
-use Rattle.byz_world.specs.Pools.{Sent, listed, messages, messages_after, packets_of, pool}
+use Rattle.byz_world.specs.Pools.{Sent, messages, messages_after, packets_of, pool}
 use Rattle.byz_world.specs.Worlds.{WorldValue, node_in, node_due, is_correct_in}
-use Rattle.byz_world.specs.inside.Kept.{Members, member_in, history_in, next_event, run_after, run_in, world_in}
+use Rattle.byz_world.specs.inside.Kept.{Members, member_in, history_in, run_in, world_in}
 use Rattle.byz_world.specs.inside.Kept.{IsWorldIn}
 use Rattle.byz_world.specs.Settled.{IsProlonged}
-use Rattle.byz_world.specs.Steps.{with_run, is_pool_full, after_step, after_steps}
+use Rattle.byz_world.specs.Steps.{with_run, is_pool_full, after_step}
 use Rattle.byz_world.specs.Settled.{MayAdd, after_gives}
 use Rattle.byz_world.specs.Giving.{counts_now}
 use Rattle.byz_world.specs.inside.Blocks.{member_after, after_takes, mark_in, AreGiven, block_names, block_messages}
@@ -36,32 +34,11 @@ use Rattle.byz_world.proofs.Elements.{at_front, contained, number_of, flat_conta
 use Rattle.byz_world.proofs.Pooled.{to_each}
 use Rattle.byz_world.proofs.Sound.{message_is_due}
 use Rattle.byz_world.proofs.Telling.{node_is, correct_is_node}
-use Rattle.byz_world.proofs.BlockRuns.{names, names-times, run_of_names, unnamed, messages-append}
+use Rattle.byz_world.proofs.BlockRuns.{names, names-times, run_of_names, order_is_names, unnamed, messages-append}
 use Rattle.byz_world.proofs.Numbering.{pool-length}
-use Rattle.byz_world.proofs.Ordered.{times, times-append, times-own}
-use Rattle.byz_world.proofs.Passes.{prolonged_runs, gives_prolong}
-use Rattle.byz_world.proofs.Progress.{some_within}
-use Rattle.byz_world.proofs.Stepping.{after_steps-none, after_steps-push}
-
--- the order is the names of the run
-run_after-names : (h : ℕ → List Event) (past order : List ℕ) →
-    ((name : ℕ) → times name (past ++ order) ≡ length (h name)) → names (run_after h past order) ≡ order
-unfolding run_after names
-run_after-names h past [] counts = refl
-run_after-names h past (name ∷ order) counts =
-    let step : List ℕ = past ++ name ∷ [] in
-    let split : step ++ order ≡ past ++ name ∷ order = append_assoc past (name ∷ []) order in
-    let within : times name past < length (h name) =
-    omega (arith, counts name, times-append name past (name ∷ order), times-own name order) in
-    let event' = some_within (h name) (times name past) within in
-    let next : next_event h past name ≡ Some (name, event'.0) = ap (option_map (λ e. (name, e))) event'.1 in
-    let rest = run_after-names h step order (λ n. ap (times n) split ∙ counts n) in
-    ap (λ o. names (listed o ++ run_after h step order)) next ∙ ap (λ ns. name ∷ ns) rest
-
-pub order_is_names : (config : ConfigValue) (liars : Nodes) (members : Members) (order : List ℕ) (sent : List Sent) →
-    IsWorldIn config liars members order sent → order ≡ names (run_in members order)
-order_is_names config liars members order sent is =
-    sym (run_after-names (λ name. history_in (member_in members name)) [] order is.named)
+use Rattle.byz_world.proofs.Ordered.{times}
+use Rattle.byz_world.proofs.Passes.{prolonged_runs, gives_prolong, gives_next}
+use Rattle.byz_world.proofs.Stepping.{after_steps-none}
 
 min_take : {A : Type 0} (xs : List A) (most count : ℕ) → length xs ≡ count → take (min most count) xs ≡ take most xs
 min_take xs most count long =
@@ -348,8 +325,7 @@ block_pooled w packet most count nodes same is =
 -- one packet that is given
 pub one_is_given : (w : WorldValue) (packet : ℕ) → after_step w (Give packet) ≡ after_gives w packet 1
 one_is_given w packet =
-    ap (λ v. after_step v (Give packet)) (sym (after_steps-none w)) ∙ sym (after_steps-push w [] (Give packet))
-    ∙ sym (ap (after_steps w) (map-range_with_len_more Give packet 0 packet (omega arith)))
+    ap (λ v. after_step v (Give packet)) (sym (after_steps-none w)) ∙ gives_next w packet 0 packet (omega arith)
 
 -- As layers above count them.
 
@@ -358,9 +334,7 @@ after_gives-none w first = after_steps-none w
 
 pub after_gives-next : (w : WorldValue) (first count : ℕ) →
     after_step (after_gives w first count) (Give (first + count)) ≡ after_gives w first (count + 1)
-after_gives-next w first count =
-    sym (ap (after_steps w) (map-range_with_len_more Give first count (first + count) refl)
-    ∙ after_steps-push w (map Give (range_with_len first count)) (Give (first + count)))
+after_gives-next w first count = gives_next w first count (first + count) refl
 
 -- the pool gets no smaller
 pub after_gives-pool : (w : WorldValue) (first count : ℕ) →

@@ -2,7 +2,7 @@
 use Rattle.std.proofs.Common.{◌≡◌, ℕ, zero, suc, ◌+◌, ◌-◌, ◌<◌, ◌≤◌, ◌⊎◌, inl, inr, ⊎_elim, Bool, true, false}
 use Rattle.std.proofs.Common.{◌&&◌, ◌==◌, List, [], ◌∷◌, ◌++◌, length, take, Option, Some, None, Ok, Err}
 use Rattle.std.proofs.Common.{refl, sym, ap, ◌∙◌, subst, append-nil, append_assoc, length-append, arith}
-use Rattle.std.specs.Prelude.{if◌then◌else◌, not, nat_lt, map, slice_get, option_map}
+use Rattle.std.specs.Prelude.{if◌then◌else◌, not, nat_lt, map, slice_get}
 use Rattle.std.specs.List.{range_with_len}
 use Rattle.std.proofs.lemmas.Bool.{ltb-true}
 use Rattle.std.proofs.lemmas.Bool.Decides.{nat_tests}
@@ -16,21 +16,19 @@ use Rattle.role_node.proofs.Exported.{legal_within}
 use Rattle.role_node.specs.Configs.{ConfigValue}
 use Rattle.role_node.specs.declared.event.Event.{Event}
 use Rattle.role_node.specs.declared.event.Event.TheVariants as event
-use Rattle.byz_world.specs.inside.Kept.{Members, next_event, run_after, run_in, member_in, history_in, IsWorldIn}
-use Rattle.byz_world.specs.Pools.{Sent, listed, pool}
+use Rattle.byz_world.specs.Pools.{pool}
 use Rattle.byz_world.specs.Giving.{counts_now, IsGivable, IsProlongation, IsGivenOut}
 use Rattle.byz_world.specs.Runs.{Run, history_of, IsClusterRun}
-use Rattle.byz_world.specs.Settled.{IsProlonged, IsSettled, after_pass, pass_adds, after_passes, longest_run, settled}
+use Rattle.byz_world.specs.Settled.{IsProlonged, IsSettled, after_gives, after_pass, pass_adds, after_passes}
+use Rattle.byz_world.specs.Settled.{longest_run, settled}
 use Rattle.byz_world.specs.Steps.{arrival, arrives, given, is_pool_full, recorded_pair, with_run}
 use Rattle.byz_world.specs.Steps.{after_step, after_steps}
 use Rattle.byz_world.specs.Worlds.{WorldValue, is_correct_in, IsClusterRunOf}
 use Rattle.byz_world.specs.declared.faults.WorldFault.TheVariants as fault
 use Rattle.byz_world.specs.declared.step.Step.TheVariants.{Give}
 use Rattle.byz_world.proofs.Elements.{contained, number_of}
-use Rattle.byz_world.proofs.Ordered.{times, times-append, times-own}
 use Rattle.byz_world.proofs.Pooled.{name_at}
 use Rattle.byz_world.proofs.GivenOut.{given_out_is_at_rest, rest_is_given_out, wanted_at_full}
-use Rattle.byz_world.proofs.Progress.{some_within}
 use Rattle.byz_world.specs.Resting.{IsAtRest}
 use Rattle.byz_world.proofs.Prolonging.{total, total_most, total_more, prolonged_is_run}
 use Rattle.byz_world.proofs.Prolonging.{first_given, rest_given}
@@ -405,9 +403,16 @@ ended_prolongs first after same = subst (IsProlonged first) (sym same) (settled_
 pub ended_no_shorter : (first after : WorldValue) → after ≡ settled first → length first.run ≤ length after.run
 ended_no_shorter first after same = prolonged-length first after (ended_prolongs first after same)
 
+-- one packet more is given
+pub gives_next : (w : WorldValue) (first count number : ℕ) → first + count ≡ number →
+    after_step (after_gives w first count) (Give number) ≡ after_gives w first (count + 1)
+gives_next w first count number is =
+    sym (ap (after_steps w) (map-range_with_len_more Give first count number is)
+    ∙ after_steps-push w (map Give (range_with_len first count)) (Give number))
+
 -- the first so many packets of the pool were given
 pub record HasGiven (first : WorldValue) (end count : ℕ) (w : WorldValue) : Type 0 where
-  pub after : w ≡ after_steps first (map Give (range_with_len 0 count))
+  pub after : w ≡ after_gives first 0 count
   pub within : count ≤ end
   pub cluster : IsClusterRunOf w
 
@@ -417,10 +422,7 @@ given_first w end is = record { after = sym (after_steps-none w); within = omega
 pub given_next : {first w : WorldValue} {end count : ℕ} (after : WorldValue) → HasGiven first end count w →
     count < end → after ≡ after_step w (Give count) → IsClusterRunOf after → HasGiven first end (count + 1) after
 given_next {first} {w} {end} {count} after was more is runs = record {
-  after =
-      is ∙ ap (λ v. after_step v (Give count)) was.after
-      ∙ sym (ap (after_steps first) (map-range_with_len_more Give 0 count count (omega arith))
-      ∙ after_steps-push first (map Give (range_with_len 0 count)) (Give count));
+  after = is ∙ ap (λ v. after_step v (Give count)) was.after ∙ gives_next first 0 count count (omega arith);
   within = omega (arith, more);
   cluster = runs;
 }
@@ -433,26 +435,4 @@ pub given_all : {first w : WorldValue} {end count : ℕ} → HasGiven first end 
     end ≡ length (pool first.config first.run) → w ≡ after_pass first
 given_all {first} {w} {end} {count} was over all =
     let same : count ≡ length (pool first.config first.run) = omega (arith, was.within, over, all) in
-    was.after ∙ ap (λ n. after_steps first (map Give (range_with_len 0 n))) same
-
--- How long a world's run is.
-
-run_after-length : (h : ℕ → List Event) (past order : List ℕ) →
-    ((name : ℕ) → times name (past ++ order) ≡ length (h name)) → length (run_after h past order) ≡ length order
-unfolding run_after
-run_after-length h past [] counts = refl
-run_after-length h past (name ∷ order) counts =
-    let step : List ℕ = past ++ name ∷ [] in
-    let split : step ++ order ≡ past ++ name ∷ order = append_assoc past (name ∷ []) order in
-    let within : times name past < length (h name) =
-    omega (arith, counts name, times-append name past (name ∷ order), times-own name order) in
-    let event' = some_within (h name) (times name past) within in
-    let next : next_event h past name ≡ Some (name, event'.0) = ap (option_map (λ e. (name, e))) event'.1 in
-    let rest = run_after-length h step order (λ n. ap (times n) split ∙ counts n) in
-    length-append (listed (next_event h past name)) (run_after h step order)
-    ∙ (λ i. length (listed (next i)) + rest i) ∙ omega arith
-
-pub run_length : (config : ConfigValue) (liars : Nodes) (members : Members) (order : List ℕ) (sent : List Sent) →
-    IsWorldIn config liars members order sent → length (run_in members order) ≡ length order
-run_length config liars members order sent is =
-    run_after-length (λ name. history_in (member_in members name)) [] order is.named
+    was.after ∙ ap (after_gives first 0) same

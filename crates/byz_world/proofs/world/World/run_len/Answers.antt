@@ -1,7 +1,7 @@
 use Rattle.std.proofs.Common.{◌≡◌, length, arith}
 use Rattle.byz_world.specs.Worlds.{WorldValue}
 use Rattle.std.proofs.Common.{subst}
-use Rattle.byz_world.proofs.Passes.{run_length}
+use Rattle.byz_world.proofs.BlockRuns.{run_length}
 use Rattle.byz_world.proofs.world.World.run_len.Goals as goal
 
 pub returns-clause-value : goal.returns-clause-value
