@@ -22,7 +22,6 @@ use Rattle.lab_scripts.specs.declared.fault.ScriptFault.TheVariants.{BadScript, 
 use Rattle.lab_scripts.specs.declared.run.Took.{Took}
 use Rattle.lab_scripts.specs.declared.stage.Stage.{Stage}
 use Rattle.lab_scripts.specs.declared.stage.Stage.TheVariants.{Start}
-use Rattle.lab_scripts.proofs.StageLemmas.{starts}
 
 -- ---- what a line did
 
@@ -51,13 +50,14 @@ pub record RunsSoFar (stage : Stage) (first now : Lines) (held : List ℕ) (numb
   pub writer : WentOn writer_old writer_new
 
 -- nothing was read and nothing is held
-pub run_starts : {stage : Stage} (first now : Lines) (front held : List ℕ) (reader writer : Tally) → stage ≡ Start
-    → now.unread ≡ prepend_known front first.unread → now.written ≡ first.written → front ≡ [] → held ≡ []
-    → RunsSoFar stage first now held 1 reader reader writer writer
-run_starts {stage} first now front held reader writer e ahead same none empty =
+pub run_starts : (first now : Lines) (front held : List ℕ) (reader writer : Tally) →
+    now.unread ≡ prepend_known front first.unread → now.written ≡ first.written → front ≡ [] → held ≡ [] →
+    RunsSoFar Start first now held 1 reader reader writer writer
+unfolding Follows
+run_starts first now front held reader writer ahead same none empty =
     let ran = Ran-start next Unread first.unread first.written front held none empty in record {
       script = Unread;
-      follows = starts stage e;
+      follows = tt;
       ran = rw (ahead, same) ran;
       reader = WentOn-nothing reader;
       writer = WentOn-nothing writer;

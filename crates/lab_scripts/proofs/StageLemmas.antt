@@ -39,11 +39,6 @@ use Rattle.lab_scripts.proofs.PlainLines.{setup_line-text, order_line-text}
 use Rattle.lab_scripts.proofs.Spelled.{sizes_of_line_spelled}
 use Rattle.lab_scripts.proofs.SpelledSetups.{cluster_of_line_spelled}
 
--- before any line
-pub starts : (stage : Stage) → stage ≡ Start → Follows stage Unread
-unfolding Follows
-starts stage e = rw e tt
-
 pub first_line-bad : (line : List ℕ) → sizes_of_line line ≡ None → cluster_of_line line ≡ None
     → StageAnswers (after_line Unread line) None
 unfolding after_line

@@ -59,33 +59,11 @@ pub fn run_script<R: Read, W: Write>(
         × WentOn (watched_tally writer.old) (watched_tally writer.new) }
 {
     let mut stage = Stage::Start;
-    run_lines(alloc, &mut stage, reader, writer)
-}
-
-/// Runs all lines, from the stage of no line.
-fn run_lines<R: Read, W: Write>(
-    alloc: Global,
-    stage: &mut Stage,
-    reader: &mut Watched<R>,
-    writer: &mut Watched<W>,
-) -> Result<(), ScriptFault>
-    requires { stage.old ≡ Stage.Start }
-    ensures ran { ScriptRan (devices_at R.remaining W.contents reader.old writer.old)
-        (devices_at R.remaining W.contents reader.new writer.new) result }
-    ensures device { IfErr result (λ e. e ≡ ScriptFault.Device →
-        ReaderFailed (watched_tally reader.old) (watched_tally reader.new)
-        ⊎ (CallFailed (watched_tally writer.old) (watched_tally writer.new)
-        ⊎ IsEndless (devices_at R.remaining W.contents reader.old writer.old)
-        (devices_at R.remaining W.contents reader.new writer.new))) }
-    ensures quiet { result ≢ Err ScriptFault.Device →
-        WentOn (watched_tally reader.old) (watched_tally reader.new)
-        × WentOn (watched_tally writer.old) (watched_tally writer.new) }
-{
     let mut ahead = Ahead::new(alloc);
     let mut held = Held::new(alloc);
     for number in 1..u64::MAX {
         held.write_when_due(&ahead, MOST_LINE_BYTES, writer)?;
-        match take_next(alloc, stage, &mut ahead, &mut held, reader)? {
+        match take_next(alloc, &mut stage, &mut ahead, &mut held, reader)? {
             Took::Line => {}
             Took::BadLine => {
                 held.write_all(writer)?;

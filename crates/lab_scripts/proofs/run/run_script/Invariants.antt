@@ -1,7 +1,7 @@
 use Rattle.link_frames.specs.lines.LinesAt.{devices_at, lines_at}
 use Rattle.link_frames.specs.lines.Watching.{watched_inner, watched_tally}
 use Rattle.lab_scripts.proofs.ScriptRunLemmas.{RunsSoFar}
-use Rattle.lab_scripts.proofs.run.run_lines.Given as goal
+use Rattle.lab_scripts.proofs.run.run_script.Given as goal
 
 abbrev pub invariant-loop-number : goal.invariant-loop-number
 invariant-loop-number g l =

@@ -5,10 +5,10 @@ use Rattle.link_frames.proofs.Exported.{ReaderFailed-later, AppendsFront-whole}
 use Rattle.lab_scripts.proofs.ScriptRunLemmas.{run_starts, run_moves, run_goes_on, run_breaks, run_stops}
 use Rattle.lab_scripts.proofs.ScriptRunLemmas.{run_is_endless, first_of, written_of}
 use Rattle.lab_scripts.proofs.ScriptRunLemmas.{ends_bad, ends_good, ends_ahead, ahead_device}
-use Rattle.lab_scripts.proofs.run.run_lines.Goals as goal
+use Rattle.lab_scripts.proofs.run.run_script.Goals as goal
 
 pub loop-number-init : goal.loop-number-init
-loop-number-init g c = run_starts _ _ _ _ _ _ c.requires refl refl c.new-ahead.ensures.front c.new-held.ensures
+loop-number-init g c = run_starts _ _ _ _ _ _ refl refl c.new-ahead.ensures.front c.new-held.ensures
 
 pub returns-in_err-write_when_due-clause-ran : goal.returns-in_err-write_when_due-clause-ran
 returns-in_err-write_when_due-clause-ran g c =
