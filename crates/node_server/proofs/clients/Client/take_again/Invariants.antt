@@ -1,5 +1,5 @@
 use Rattle.std.specs.Prelude.{◌≡◌, ◌++◌, take}
-use Rattle.node_server.specs.Sent.{own_jobs}
+use Rattle.node_server.specs.Jobs.{own_jobs}
 use Rattle.node_server.proofs.clients.Client.take_again.Given as goal
 
 abbrev pub invariant-loop-message : goal.invariant-loop-message
