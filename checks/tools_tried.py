@@ -89,8 +89,12 @@ def wait_until(holds, what):
 
 @contextlib.contextmanager
 def serving(*words):
-    """The tool at work until the end of the block, and the address that it prints first."""
-    ran = subprocess.Popen([*TOOL, *map(str, words)], stdout=subprocess.PIPE, text=True)
+    """The tool at work until the end of the block, and the address that it prints first.
+
+    It heeds an interrupt, also where the trials run behind a shell's `&`, which has programs ignore it.
+    """
+    ran = subprocess.Popen([*TOOL, *map(str, words)], stdout=subprocess.PIPE, text=True,
+                           preexec_fn=lambda: signal.signal(signal.SIGINT, signal.default_int_handler))
     try:
         yield ran.stdout.readline().strip()
         ran.send_signal(signal.SIGINT)
