@@ -39,7 +39,7 @@ TESTED = {
         ["four_correct_nodes", "full_pool", "votes_once", "frames"],
     ),
     "node_lock": (
-        "layer_tests",
+        "serving_tests",
         "node_lock_tests",
         ["a_pool_ends_well_or_wants_memory", "an_inbox_gives_back_what_is_left"],
     ),

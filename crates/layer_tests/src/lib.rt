@@ -1,4 +1,4 @@
-//! Tests of the crates below: what no clause says. They stand here, since a crate with tests is proved twice.
+//! Tests of the libraries up to a cluster: what no clause says. They stand here, since a crate with tests is proved twice.
 #![tactic(auto)]
 
 #[cfg(test)]
@@ -8,27 +8,13 @@ mod byz_world_tests;
 #[cfg(test)]
 mod byz_world_windows_tests;
 #[cfg(test)]
-mod client_lines_json_tests;
-#[cfg(test)]
-mod client_lines_op_tests;
-#[cfg(test)]
-mod client_lines_tests;
-#[cfg(test)]
-mod frame_queues_tests;
-#[cfg(test)]
 mod link_frames_device_tests;
 #[cfg(test)]
 mod link_frames_tag_tests;
 #[cfg(test)]
 mod link_frames_tests;
 #[cfg(test)]
-mod node_lock_tests;
-#[cfg(test)]
-mod operator_lines_tests;
-#[cfg(test)]
 mod owner_streams_tests;
-#[cfg(test)]
-mod peer_windows_tests;
 #[cfg(test)]
 mod policy_text_tests;
 #[cfg(test)]

@@ -9,9 +9,7 @@ ghost use Rattle.role_node.specs.Windows.{messages_of};
 ghost use Rattle.node_server.specs.Jobs.{again_number, own_jobs};
 
 use crate::client_stream::{Farewell, LineReader, is_http};
-use crate::job_queue::JobQueue;
 use crate::server::Server;
-use crate::slot::Slot;
 use client_lines::{ClientAnswer, LineFault, MOST_LINE_BYTES, Request, RequestReader};
 use frame_queues::{Caller, FrameKeys, MOST_LINES, NO_LINE};
 use link_frames::{Ahead, AheadFault, Held, Message, Next, Packet, Place, Watched};
@@ -22,6 +20,7 @@ use quorum_sizes::NodeName;
 use role_node::{Event, NodeAgain, Question};
 use served_node::answers::{hold_answer, hold_operator_answer, sent_count};
 use served_node::{HeldNode, Said};
+use server_locks::{JobQueue, Slot};
 use std::net::{Shutdown, TcpStream};
 use std::sync::Wait;
 use std::time::{Clock, Duration};

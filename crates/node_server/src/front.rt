@@ -4,8 +4,6 @@ ghost use Rattle.std.specs.Prelude.{◌≡◌, ◌+◌, ◌≤◌, None, false, 
 ghost use Rattle.peer_windows.specs.Pauses.{most_time};
 ghost use Rattle.served_node.specs.Served.{grows};
 
-use crate::job_queue::JobQueue;
-use crate::outbox::Outbox;
 use crate::workers::MOST_BATCH;
 use frame_queues::{Caller, FirstPackets};
 use link_frames::{Message, Packet};
@@ -15,6 +13,7 @@ use peer_windows::{ENOUGH_ROOM, NEVER, Owed, Pairs, Share};
 use quorum_sizes::{NodeName, Sizes};
 use role_node::{Event, NodeFault, Reply};
 use served_node::{HeldNode, owed_to};
+use server_locks::{JobQueue, Outbox};
 use std::alloc::{AllocError, Global};
 use std::collections::VecDeque;
 use std::mem;

@@ -5,7 +5,6 @@ ghost use Rattle.node_lock.specs.Inboxes.{after_put};
 ghost use Rattle.node_server.specs.Jobs.{peer_job};
 
 use crate::crew::REFUSED;
-use crate::job_queue::JobQueue;
 use crate::server::{Server, millis};
 use frame_queues::{
     BLOCK_FRAMES, Caller, Came, Connected, FrameBlock, FrameKeys, MOST_PEERS, PeerName, Turn,
@@ -17,6 +16,7 @@ use mio::{Interest, Registry, Token};
 use node_lock::{Call, Job};
 use role_node::Event;
 use served_node::{Heard, HeldNode};
+use server_locks::JobQueue;
 use std::alloc::AllocError;
 use std::net::TcpStream;
 use std::os::fd::AsRawFd;

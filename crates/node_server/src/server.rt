@@ -4,9 +4,6 @@ ghost use Rattle.std.specs.Prelude.{◌≤◌};
 ghost use Rattle.peer_windows.specs.Pauses.{most_time};
 
 use crate::crew::Crew;
-use crate::outbox::Outbox;
-use crate::slot::Slot;
-use crate::tickets::TicketLock;
 use frame_queues::FrameKeys;
 use link_frames::{Frame, Message, Place};
 use mio::Waker;
@@ -15,6 +12,7 @@ use peer_windows::{MOST_TIME, Share};
 use quorum_sizes::NodeName;
 use role_node::Question;
 use served_node::{Heard, HeldNode, Said, SyncTally, frames_to};
+use server_locks::{Outbox, Slot, TicketLock};
 use std::alloc::Global;
 use std::sync::{Condvar, Mutex, Wait};
 use std::time::{Clock, Duration};

@@ -7,7 +7,6 @@ ghost use Rattle.node_lock.specs.Views.{view_of, held_after_hold};
 ghost use Rattle.peer_windows.specs.Pauses.{most_time};
 
 use crate::front::{Done, Front};
-use crate::job_queue::JobQueue;
 use crate::server::{Server, millis};
 use frame_queues::{Caller, FrameKeys};
 use link_frames::{Frame, Message, Packet};
@@ -16,6 +15,7 @@ use peer_windows::{NEVER, Owed};
 use quorum_sizes::NodeName;
 use role_node::Event;
 use served_node::{HeldNode, NotKept, Said, micros};
+use server_locks::JobQueue;
 use std::alloc::{AllocError, Global};
 use std::mem;
 use std::sync::Wait;
@@ -65,7 +65,8 @@ impl<'a, N: HeldNode> Worker<'a, N> {
     }
 
     /// Makes the calls of what comes first and of jobs, each by one hold, until nothing is left or the batch is full,
-    /// and keeps what they recorded, unless nothing of it has to be told yet. Whether it is full.
+    /// and keeps what they recorded, unless nothing of it has to be told yet. Whether there is more. In a turn it keeps
+    /// once, so that who waits for the next turn waits for one sync.
     ///
     /// # Errors
     ///
@@ -76,6 +77,7 @@ impl<'a, N: HeldNode> Worker<'a, N> {
         node: &mut N,
         front: &mut Front<N::Untold>,
         now: u64,
+        in_turn: bool,
     ) -> Result<bool, NotKept>
         requires { now ≤ most_time }
     {
@@ -87,8 +89,9 @@ impl<'a, N: HeldNode> Worker<'a, N> {
             server.keep(node)?;
             self.release(node, front, now);
             // packets may wait for a stream that has grown
-            if is_full || !front.has_grown() {
-                return Ok(is_full);
+            let is_left = front.has_grown() || is_full;
+            if is_full || in_turn || !is_left {
+                return Ok(is_left);
             }
         }
         Ok(true)
@@ -170,16 +173,21 @@ impl<'a, N: HeldNode, K: FrameKeys, R: Wait + Clock> Server<'a, N, K, R> {
     /// under one lock. Whether there is more. Where what they recorded can't be kept the node ends.
     pub fn take_jobs(&self, worker: &mut Worker<'a, N>, front: &mut Front<N::Untold>) -> bool {
         let has_turn = self.begin_turn();
-        let is_left = self.take_now(worker, front);
+        let is_left = self.take_now(worker, front, has_turn);
         self.end_turn(has_turn);
         is_left
     }
 
-    fn take_now(&self, worker: &mut Worker<'a, N>, front: &mut Front<N::Untold>) -> bool {
+    fn take_now(
+        &self,
+        worker: &mut Worker<'a, N>,
+        front: &mut Front<N::Untold>,
+        in_turn: bool,
+    ) -> bool {
         let now = millis(self.rt);
         let mut node = self.node.lock(self.rt);
-        match worker.take(self, &mut *node, front, now) {
-            Ok(is_full) => {
+        match worker.take(self, &mut *node, front, now, in_turn) {
+            Ok(is_left) => {
                 let (seat, owed) = (&mut worker.seat, &mut worker.owed);
                 front.gather(
                     self.rt,
@@ -190,7 +198,7 @@ impl<'a, N: HeldNode, K: FrameKeys, R: Wait + Clock> Server<'a, N, K, R> {
                     now,
                     owed,
                 );
-                is_full || front.owes_itself()
+                is_left || front.owes_itself()
             }
             Err(NotKept) => {
                 drop(node);

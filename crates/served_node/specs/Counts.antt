@@ -1,10 +1,6 @@
 -- What a node counts of itself.
-use Rattle.std.specs.Prelude.{ℕ, zero, suc, ◌+◌, ◌-◌, ◌/◌, ◌^◌, ◌==◌, nat_le, nat_lt, min, max}
-use Rattle.std.specs.Prelude.{Bool, false, ◌&&◌, Option, Some, None}
-use Rattle.frame_queues.specs.declared.keys.PeerName.{PeerName}
-use Rattle.frame_queues.specs.declared.places.Connected.{Connected}
+use Rattle.std.specs.Prelude.{ℕ, zero, suc, ◌+◌, ◌-◌, ◌/◌, ◌^◌, nat_le, min, max, Bool}
 use Rattle.operator_lines.specs.declared.answer.SyncTimes.{SyncTimes}
-use Rattle.served_node.specs.declared.heard.PeerHeard.{PeerHeard}
 use Rattle.served_node.specs.declared.tally.SyncTally.{SyncTally}
 
 -- a count that has grown by so much; it stands still at the greatest number of 64 bits
@@ -35,17 +31,3 @@ mean_of total (suc more) = total / suc more
 
 abbrev pub times_of : SyncTally → SyncTimes
 times_of t = record { syncs = t.syncs; last = t.last; mean = mean_of t.total t.syncs; worst = t.worst }
-
--- a peer of this index
-abbrev pub has_index : ℕ → Option PeerName → Bool
-has_index index None = false
-has_index index (Some name) = name.index == index
-
--- a connection stands there on which a frame of a peer of this index has opened
-abbrev pub is_of_index : ℕ → Option Connected → Bool
-is_of_index index None = false
-is_of_index index (Some c) = has_index index c.name
-
--- a peer is heard where a connection of it stands, and a frame of it has opened in the last two and a half minutes
-abbrev pub is_heard : PeerHeard → ℕ → Bool
-is_heard peer now = peer.stands && nat_lt (now - peer.opened) 150000

@@ -1,5 +1,6 @@
 pub mod Answers
 pub mod Counts
+pub mod Heard
 pub mod Sent
 pub mod Served
 pub mod Told

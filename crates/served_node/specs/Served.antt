@@ -1,5 +1,5 @@
 -- What a client hears of what a hold said, and what the node then sends.
-use Rattle.std.specs.Prelude.{ℕ, nat_lt, Bool, false, Option, Some, None, option_and_then}
+use Rattle.std.specs.Prelude.{ℕ, nat_lt, Bool, true, false, Option, Some, None, option_and_then}
 use Rattle.link_frames.specs.frames.Packets.{PacketValue, packet_due}
 use Rattle.link_frames.specs.declared.frames.packet.Message.{Message}
 use Rattle.role_sessions.specs.declared.faults.SessionFault.{SessionFault}
@@ -54,6 +54,23 @@ sent_outcome (outcome.Refused f) = None
 -- the same of what a hold said
 abbrev pub sent_said : Said → Option Message
 sent_said said = option_and_then sent_outcome said.outcome
+
+-- a packet was counted
+abbrev pub is_count : Reply → Bool
+is_count (reply.Counted send delivered from to) = true
+is_count r = false
+
+abbrev pub has_count : Outcome → Bool
+has_count (outcome.Reply r) = is_count r
+has_count said = false
+
+abbrev pub counted_in : Option Outcome → Bool
+counted_in None = false
+counted_in (Some o) = has_count o
+
+-- the same of what a hold said
+abbrev pub has_counted : Said → Bool
+has_counted said = counted_in said.outcome
 
 -- the owner's stream has grown by a packet, to which this was answered
 abbrev pub has_grown : Reply → Bool

@@ -1,12 +1,14 @@
 //! What is heard of each peer.
 
-ghost use Rattle.std.specs.Prelude.{◌≡◌, position};
-ghost use Rattle.served_node.specs.Counts as counts;
-ghost use Rattle.served_node.specs.Counts.{is_heard};
+ghost use Rattle.std.specs.Prelude.{◌≡◌, ◌≤◌, ◌==◌, if◌then◌else◌, length, replicate, position, IfOk};
+ghost use Rattle.served_node.specs.Heard as heard;
+ghost use Rattle.served_node.specs.Heard.{is_heard, with_heard, is_news, nothing, opened_now, one_unopened};
+ghost use Rattle.served_node.specs.Heard.{StandsAt, IsAdded};
 
 use frame_queues::{Connected, PeerName};
 use operator_lines::PeerStanding;
 use std::alloc::{AllocError, Global};
+use std::marker::Model;
 
 /// After so many milliseconds it is told anew when a frame of a peer has opened.
 const NEWS: u64 = 10_000;
@@ -32,6 +34,18 @@ impl PeerHeard {
     {
         self.stands && now.saturating_sub(self.opened) < LONGEST_SILENCE
     }
+
+    /// A peer's standing, with what is heard of it.
+    fn added_to(&self, peer: Option<PeerStanding>, now: u64) -> Option<PeerStanding>
+        ensures { result ≡ with_heard self.now now peer }
+    {
+        let peer = peer?;
+        Some(PeerStanding {
+            heard: self.is_heard(now),
+            unopened: self.unopened,
+            ..peer
+        })
+    }
 }
 
 /// What is heard of each peer, by its index.
@@ -42,13 +56,23 @@ pub struct Heard {
     pub unopened: u64,
 }
 
+impl Model for Heard {
+    ghost use Rattle.served_node.specs.Heard.{HeardValue};
+
+    ghost Value = { HeardValue };
+
+    ghost view = { λ a. record { peers = a.peers.items; unopened = a.unopened } };
+}
+
 impl Heard {
     /// Nothing, of so many nodes.
     ///
     /// # Errors
     ///
     /// Only for want of memory.
-    pub fn new(alloc: Global, nodes: u8) -> Result<Heard, AllocError> {
+    pub fn new(alloc: Global, nodes: u8) -> Result<Heard, AllocError>
+        ensures { IfOk result (λ made. made ≡ record { peers = replicate nodes nothing; unopened = 0 }) }
+    {
         let nothing = PeerHeard {
             stands: false,
             opened: 0,
@@ -61,63 +85,80 @@ impl Heard {
     }
 
     /// A frame did not open on a connection of this peer, or on one on which none has.
-    pub fn note_unopened(&mut self, name: Option<PeerName>) {
-        match name {
-            None => self.unopened = self.unopened.saturating_add(1),
-            Some(name) => {
-                if let Some(peer) = self.peers.get_mut(usize::from(name.index)) {
-                    peer.unopened = peer.unopened.saturating_add(1);
-                }
-            }
+    pub fn note_unopened(&mut self, name: Option<PeerName>)
+        ensures { self.new ≡ one_unopened self.old name }
+    {
+        let Some(name) = name else {
+            self.unopened = self.unopened.saturating_add(1);
+            return;
+        };
+        let index = usize::from(name.index);
+        if index < self.peers.len() {
+            let mut peer = self.peers[index];
+            peer.unopened = peer.unopened.saturating_add(1);
+            self.peers[index] = peer;
         }
     }
 
     /// A frame of the peer of this index has opened. Whether that is news.
-    pub fn note_opened(&mut self, index: u8, now: u64) -> bool {
-        match self.peers.get_mut(usize::from(index)) {
-            Some(peer) if now.saturating_sub(peer.opened) >= NEWS => {
-                peer.opened = now;
-                true
-            }
-            _ => false,
+    pub fn note_opened(&mut self, index: u8, now: u64) -> bool
+        ensures news { result ≡ is_news self.old index now }
+        ensures opened { self.new ≡ (if is_news self.old index now then opened_now self.old index now else self.old) }
+    {
+        let index = usize::from(index);
+        if index >= self.peers.len() {
+            return false;
         }
+        let mut peer = self.peers[index];
+        if now.saturating_sub(peer.opened) < NEWS {
+            return false;
+        }
+        peer.opened = now;
+        self.peers[index] = peer;
+        true
     }
 
     /// These connections stand now.
-    pub fn note_places(&mut self, places: &[Option<Connected>]) {
-        for (index, peer) in (0..u8::MAX).zip(&mut self.peers) {
+    pub fn note_places(&mut self, places: &[Option<Connected>])
+        ensures peers { StandsAt places.now self.old.peers self.new.peers }
+        ensures unopened { self.new.unopened ≡ self.old.unopened }
+    {
+        for index in 0..self.peers.len() {
+            let mut peer = self.peers[index];
             peer.stands = first_of(places, index).is_some();
+            self.peers[index] = peer;
         }
     }
 
     /// Takes over what another has, of as many nodes.
-    pub fn take_over(&mut self, other: &Heard) {
-        for (peer, other) in self.peers.iter_mut().zip(&other.peers) {
-            *peer = *other;
+    pub fn take_over(&mut self, other: &Heard)
+        ensures { self.new ≡ (if length self.old.peers == length other.now.peers then other.now else self.old) }
+    {
+        if self.peers.len() == other.peers.len() {
+            self.peers.copy_from_slice(&other.peers);
+            self.unopened = other.unopened;
         }
-        self.unopened = other.unopened;
     }
 
     /// Adds what is heard of the peers to what else is known of them, by their indices.
-    pub fn add_to(&self, peers: &mut [Option<PeerStanding>], now: u64) {
-        for (peer, heard) in peers.iter_mut().zip(&self.peers) {
-            if let Some(peer) = peer {
-                peer.heard = heard.is_heard(now);
-                peer.unopened = heard.unopened;
-            }
+    pub fn add_to(&self, peers: &mut [Option<PeerStanding>], now: u64)
+        ensures { IsAdded self.now.peers now peers.old peers.new }
+    {
+        for index in 0..self.peers.len().min(peers.len()) {
+            peers[index] = self.peers[index].added_to(peers[index], now);
         }
     }
 }
 
 /// The first place of a connection on which a frame of the peer of this index has opened.
-fn first_of(places: &[Option<Connected>], index: u8) -> Option<usize>
-    ensures { result ≡ position (counts.is_of_index index) places.now }
+fn first_of(places: &[Option<Connected>], index: usize) -> Option<usize>
+    ensures { result ≡ position (heard.is_of_index index) places.now }
 {
     places.iter().position(|place| is_of_index(place, index))
 }
 
-fn is_of_index(place: &Option<Connected>, index: u8) -> bool
-    ensures { result ≡ counts.is_of_index index place.now }
+fn is_of_index(place: &Option<Connected>, index: usize) -> bool
+    ensures { result ≡ heard.is_of_index index place.now }
 {
     match place {
         Some(
@@ -125,7 +166,7 @@ fn is_of_index(place: &Option<Connected>, index: u8) -> bool
                 name: Some(name),
                 ..
             },
-        ) => name.index == index,
+        ) => usize::from(name.index) == index,
         _ => false,
     }
 }

@@ -2,7 +2,7 @@
 
 ghost use Rattle.std.specs.Prelude.{◌≡◌, IfSome, option_and_then};
 ghost use Rattle.client_lines.specs.AnswerTexts.{IsWritten};
-ghost use Rattle.served_node.specs.Served.{served, sent_outcome, sent_said, served_said};
+ghost use Rattle.served_node.specs.Served.{served, sent_outcome, sent_said, served_said, has_counted};
 
 use crate::answers::listed;
 use client_lines::ClientAnswer;
@@ -30,7 +30,9 @@ impl Said {
     }
 
     /// Whether a packet has counted, so that it is now a part of what the node knows.
-    pub fn has_counted(&self) -> bool {
+    pub fn has_counted(&self) -> bool
+        ensures { result ≡ has_counted self.now }
+    {
         matches!(self.outcome, Some(Outcome::Reply(Reply::Counted { .. })))
     }
 

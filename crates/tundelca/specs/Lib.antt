@@ -1,5 +1,2 @@
-pub mod Hosts
-pub mod Givens
-pub mod Fingerprints
 pub mod Keeping
 pub mod Statuses

@@ -2,11 +2,9 @@
 use Rattle.std.specs.Prelude.{ℕ}
 use Rattle.batch_journal.specs.declared.fault.JournalFault.{JournalFault}
 use Rattle.batch_journal.specs.declared.fault.JournalFault.TheVariants as journal
-use Rattle.cluster_text.specs.Statuses.{cluster_status}
+use Rattle.cluster_hosts.specs.Statuses.{given_status}
 use Rattle.tundelca.specs.declared.fault.Fault.{Fault}
 use Rattle.tundelca.specs.declared.fault.Fault.TheVariants as program
-use Rattle.tundelca.specs.declared.fault.GivenFault.{GivenFault}
-use Rattle.tundelca.specs.declared.fault.GivenFault.TheVariants as given
 use Rattle.tundelca.specs.declared.fault.KeptFault.{KeptFault}
 use Rattle.tundelca.specs.declared.fault.KeptFault.TheVariants as kept
 use Rattle.tundelca.specs.declared.fault.WordsFault.{WordsFault}
@@ -15,13 +13,6 @@ use Rattle.tundelca.specs.declared.fault.WordsFault.TheVariants as words
 abbrev pub words_status : WordsFault → ℕ
 words_status (words.Refused text) = 2
 words_status words.Memory = 5
-
-abbrev pub given_status : GivenFault → ℕ
-given_status given.Unread = 3
-given_status (given.Reserved member) = 3
-given_status (given.Cluster fault) = cluster_status fault
-given_status given.Hosts = 3
-given_status given.Memory = 5
 
 abbrev pub journal_status : JournalFault → ℕ
 journal_status journal.Device = 4

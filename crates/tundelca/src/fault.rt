@@ -1,12 +1,10 @@
 //! Why the program ends with another status than 0.
 
 ghost use Rattle.std.specs.Prelude.{◌≡◌};
-ghost use Rattle.tundelca.specs.Statuses.{words_status, given_status, kept_status, status};
+ghost use Rattle.tundelca.specs.Statuses.{words_status, kept_status, status};
 
-use crate::reserved::Reserved;
 use batch_journal::JournalFault;
-use cluster_text::fault::ClusterFault;
-use link_frames::DeviceFault;
+use cluster_hosts::GivenFault;
 use node_server::ServerFault;
 use std::alloc::AllocError;
 use thiserror::Error;
@@ -37,59 +35,6 @@ impl WordsFault {
 impl From<AllocError> for WordsFault {
     fn from(_e: AllocError) -> Self {
         WordsFault::Memory
-    }
-}
-
-/// Why a cluster file sets up no node. Written as its code and its name, and the member that it is about.
-#[derive(Debug, Drop, Error)]
-pub enum GivenFault {
-    /// The file could not be read.
-    #[error("cluster file")]
-    Unread,
-    /// It says something that is kept for later.
-    #[error("U5 Reserved {0}")]
-    Reserved(Reserved),
-    /// Its text sets up no node; never for want of memory.
-    #[error(transparent)]
-    Cluster(ClusterFault),
-    /// Its hosts are no list of an address for each node.
-    #[error("U4 OutOfRange hosts")]
-    Hosts,
-    /// There was no memory.
-    #[error("out of memory")]
-    Memory,
-}
-
-impl GivenFault {
-    /// The exit status of the program: 3 at a file that is not read or refused, 5 for want of memory.
-    pub fn status(&self) -> u8
-        ensures { result ≡ given_status self.now }
-    {
-        match self {
-            GivenFault::Unread | GivenFault::Reserved(_) | GivenFault::Hosts => 3,
-            GivenFault::Cluster(fault) => fault.status(),
-            GivenFault::Memory => 5,
-        }
-    }
-}
-
-impl From<AllocError> for GivenFault {
-    ghost use Rattle.tundelca.specs.declared.fault.GivenFault.TheVariants.{Memory};
-
-    ghost from_gives = { λ _ e. e ≡ Memory };
-
-    fn from(_e: AllocError) -> Self {
-        GivenFault::Memory
-    }
-}
-
-impl From<DeviceFault> for GivenFault {
-    ghost use Rattle.tundelca.specs.declared.fault.GivenFault.TheVariants.{Unread};
-
-    ghost from_gives = { λ _ e. e ≡ Unread };
-
-    fn from(_e: DeviceFault) -> Self {
-        GivenFault::Unread
     }
 }
 

@@ -1,30 +1,24 @@
 //! A node of the registry that keeps its state.
 //!
-//! `specs/Givens.antt` says what it takes of a cluster text, `specs/Hosts.antt` where the nodes then are,
-//! `specs/Fingerprints.antt` by what two owners compare their texts, `specs/Keeping.antt` what of a node with a journal
-//! may leave, and `specs/Statuses.antt` with which status it ends.
+//! `cluster_hosts` says what it takes of a cluster text, `specs/Keeping.antt` what of a node with a journal may leave,
+//! and `specs/Statuses.antt` with which status it ends.
 #![tactic(auto)]
 
 ghost use Rattle.std.specs.Prelude.{IfOk};
 ghost use Rattle.cluster_text.specs.Setups.{IsNodeSetup, IsServerSetup};
-ghost use Rattle.tundelca.specs.Hosts.{HasHosts};
+ghost use Rattle.cluster_hosts.specs.Hosts.{HasHosts};
 
 mod fault;
-mod fingerprint;
-mod given;
 mod held;
-mod hosts;
 mod journal_file;
 mod keeping;
 mod report;
-mod reserved;
 mod serve;
 mod version;
 mod words;
 
-use fault::{Fault, GivenFault, WordsFault};
-use given::read_given;
-use hosts::Given;
+use cluster_hosts::{Given, GivenFault, read_given};
+use fault::{Fault, WordsFault};
 use journal_file::{make_journal, open_journal, open_to_look, remove_beside};
 use keeping::{begin, look};
 use link_frames::Watched;

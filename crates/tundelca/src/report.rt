@@ -1,11 +1,10 @@
 //! What is said of a cluster file.
 
 ghost use Rattle.cluster_text.specs.Setups.{IsServerSetup};
-ghost use Rattle.tundelca.specs.Hosts.{HasHosts};
+ghost use Rattle.cluster_hosts.specs.Hosts.{HasHosts};
 
-use crate::fingerprint::{of_common, of_key};
-use crate::hosts::Given;
 use crate::keeping::Sight;
+use cluster_hosts::{Given, of_common, of_key};
 use role_commands::RoleTable;
 use std::alloc::{AllocError, Global};
 use std::fmt::Write;

@@ -3,11 +3,11 @@
 ghost use Rattle.std.specs.Prelude.{◌≡◌, IsTrue, IfOk};
 ghost use Rattle.cluster_text.specs.Linked.{ring_of};
 ghost use Rattle.cluster_text.specs.Setups.{IsNodeSetup, IsServerSetup};
-ghost use Rattle.tundelca.specs.Hosts.{HasHosts, AreAddresses};
+ghost use Rattle.cluster_hosts.specs.Hosts.{HasHosts, AreAddresses};
 
 use crate::fault::Fault;
-use crate::hosts::Given;
 use crate::keeping::restored;
+use cluster_hosts::Given;
 use cluster_text::cluster::Setup;
 use node_lock::SharedNode;
 use node_server::{ClusterKeys, SEATS, Site, listen};

@@ -1,0 +1,4 @@
+pub mod Hosts
+pub mod Givens
+pub mod Fingerprints
+pub mod Statuses

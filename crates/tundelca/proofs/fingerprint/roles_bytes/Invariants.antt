@@ -1,6 +1,0 @@
-use Rattle.std.proofs.Common.{◌≡◌}
-use Rattle.tundelca.specs.Fingerprints.{roles_below}
-use Rattle.tundelca.proofs.fingerprint.roles_bytes.Given as goal
-
-abbrev pub invariant-loop-role : goal.invariant-loop-role
-invariant-loop-role l = l.bytes.items ≡ roles_below l.roles l.role

@@ -1,8 +1,0 @@
-use Rattle.std.proofs.Common.{map, take}
-use Rattle.std.specs.List.{AllZip}
-use Rattle.serde_json.specs.View.{view}
-use Rattle.tundelca.specs.Hosts.{IsHost}
-use Rattle.tundelca.proofs.hosts.listed.Given as goal
-
-abbrev pub invariant-loop-item : goal.invariant-loop-item
-invariant-loop-item l = AllZip IsHost (map view (take l.item-index l.items)) l.hosts.items
