@@ -1,4 +1,4 @@
-//! Tests of the libraries up to a cluster: what no clause says. They stand here, since a crate with tests is proved twice.
+//! Tests of the libraries up to a cluster: what no clause says. They stand here, as a crate with tests is proved twice.
 #![tactic(auto)]
 
 #[cfg(test)]
