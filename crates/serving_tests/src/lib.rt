@@ -1,4 +1,5 @@
-//! Tests of the libraries of a serving node: what no clause says. They stand here, since a crate with tests is proved twice.
+//! Tests of the libraries of a serving node: what no clause says. They stand here, as a crate with tests is proved
+//! twice.
 #![tactic(auto)]
 
 #[cfg(test)]
