@@ -8,7 +8,6 @@ ghost use Rattle.node_lock.specs.Inboxes.{after_put};
 ghost use Rattle.role_node.specs.Windows.{messages_of};
 ghost use Rattle.node_server.specs.Jobs.{again_number, own_jobs};
 
-use crate::client_stream::{Farewell, LineReader, is_http};
 use crate::server::Server;
 use client_lines::{ClientAnswer, LineFault, MOST_LINE_BYTES, Request, RequestReader};
 use frame_queues::{Caller, FrameKeys, MOST_LINES, NO_LINE};
@@ -20,7 +19,7 @@ use quorum_sizes::NodeName;
 use role_node::{Event, NodeAgain, Question};
 use served_node::answers::{hold_answer, hold_operator_answer, sent_count};
 use served_node::{HeldNode, Said};
-use server_locks::{JobQueue, Slot};
+use server_locks::{Farewell, JobQueue, LineReader, Slot, is_http};
 use std::net::{Shutdown, TcpStream};
 use std::sync::Wait;
 use std::time::{Clock, Duration};
@@ -267,8 +266,8 @@ impl<N: HeldNode, K: FrameKeys, R: Wait + Clock> Client<'_, '_, N, K, R> {
 
     fn answer(&mut self, request: Request) -> Result<(), AheadFault> {
         match request {
-            Request::Issue(command) => self.call(Event::Issue(command)),
-            Request::Client(act) => self.call(Event::Client(act)),
+            Request::Issue(command) => self.call(Call::Step(Event::Issue(command))),
+            Request::Client(act) => self.call(Call::Step(Event::Client(act))),
             Request::Ask(question) => self.ask(question),
             Request::Reach(owner) => {
                 let view = self.view(owner, 0)?;
@@ -292,11 +291,15 @@ impl<N: HeldNode, K: FrameKeys, R: Wait + Clock> Client<'_, '_, N, K, R> {
         Ok(())
     }
 
-    /// Answers a question in this thread, after the lines before were answered. A listing is written before the next
-    /// line is looked at, so there is one at most.
+    /// Answers a question in this thread, after the lines before were answered, save about an access behind lines that
+    /// have jobs: that gets one too, and is answered with them. A listing is written before the next line is looked at,
+    /// so there is one at most.
     fn ask(&mut self, question: Question) -> Result<(), AheadFault> {
-        self.settle()?;
         self.asked = matches!(question, Question::Check { .. });
+        if self.asked && self.put > 0 {
+            return self.call(Call::Ask(question));
+        }
+        self.settle()?;
         let said = if self.asked {
             self.server.look(Some(question), self.server.keys.me(), 0)
         } else {
@@ -308,12 +311,10 @@ impl<N: HeldNode, K: FrameKeys, R: Wait + Clock> Client<'_, '_, N, K, R> {
     }
 
     /// Puts a job for a line.
-    fn call(&mut self, event: Event) -> Result<(), AheadFault> {
+    fn call(&mut self, call: Call) -> Result<(), AheadFault> {
         let (slot, line) = (self.number, self.in_flight);
-        self.put(&Job {
-            number: Caller::Client { slot, line }.number(),
-            call: Call::Step(event),
-        })?;
+        let number = Caller::Client { slot, line }.number();
+        self.put(&Job { number, call })?;
         self.in_flight = self.in_flight.saturating_add(1);
         Ok(())
     }

@@ -1,12 +1,12 @@
 //! How the workers stand. The thread that has put jobs does them with an idle worker.
 
-use crate::front::Front;
-use crate::server::{Server, millis};
+use crate::server::Server;
 use crate::workers::Worker;
 use frame_queues::{Connected, FrameKeys};
 use peer_windows::NEVER;
 use quorum_sizes::NodeName;
-use served_node::HeldNode;
+use served_node::{HeldNode, millis};
+use server_locks::Front;
 use std::mem;
 use std::sync::Wait;
 use std::time::Clock;

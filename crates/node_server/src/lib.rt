@@ -13,11 +13,9 @@
 
 ghost use denote.Param.Send.{IsSend, IsSync};
 
-mod client_stream;
 mod clients;
 mod crew;
 mod fault;
-mod front;
 mod operators;
 mod peers;
 mod ports;
@@ -29,15 +27,14 @@ use crew::Crew;
 pub use fault::ServerFault;
 use frame_queues::MOST_CLIENTS;
 pub use frame_queues::{ClusterKeys, FrameKeys, PeerName};
-use front::Front;
 use mio::Waker;
 use node_lock::{Inbox, Seat};
 use peers::{PLACES, Peers};
 use ports::{Ports, poll_of};
-use served_node::{Heard, SyncTally};
+use served_node::{Heard, SyncTally, millis};
 pub use served_node::{HeldNode, NotKept, Said};
-use server::{Server, millis};
-use server_locks::{JobQueue, Outbox, Slot, TicketLock, job_queues};
+use server::Server;
+use server_locks::{Front, JobQueue, Outbox, Slot, TicketLock, job_queues};
 use std::alloc::{AllocError, Global};
 use std::net::{Net, SocketAddr, TcpListener, TcpStream};
 use std::sync::{Condvar, Mutex, Wait};

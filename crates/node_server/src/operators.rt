@@ -2,11 +2,12 @@
 
 ghost use Rattle.std.specs.Prelude.{◌≡◌, IfSome};
 
-use crate::server::{Server, millis};
+use crate::server::Server;
 use frame_queues::FrameKeys;
 use operator_lines::{JournalStanding, OperatorAnswer, OperatorRequest, PeerStanding, Status};
 use role_commands::Items;
-use served_node::{HeldNode, node_answer};
+use served_node::{HeldNode, millis, node_answer};
+use server_locks::Purpose;
 use std::alloc::AllocError;
 use std::sync::Wait;
 use std::time::Clock;
@@ -25,7 +26,7 @@ impl<N: HeldNode, K: FrameKeys, R: Wait + Clock> Server<'_, N, K, R> {
 
     /// What the node itself answers, under the lock, once all that it recorded is kept.
     fn kept_answer(&self, request: OperatorRequest) -> Option<OperatorAnswer> {
-        let has_turn = self.begin_turn();
+        let has_turn = self.begin_turn(Purpose::Look);
         let mut node = self.node.lock(self.rt);
         // where that fails nothing is said, and the next batch ends the node
         let _ = self.keep(&mut *node);

@@ -5,7 +5,7 @@ ghost use Rattle.node_lock.specs.Inboxes.{after_put};
 ghost use Rattle.node_server.specs.Jobs.{peer_job};
 
 use crate::crew::REFUSED;
-use crate::server::{Server, millis};
+use crate::server::Server;
 use frame_queues::{
     BLOCK_FRAMES, Caller, Came, Connected, FrameBlock, FrameKeys, MOST_PEERS, PeerName, Turn,
     Turns, place_for, third_of,
@@ -15,7 +15,7 @@ use mio::unix::SourceFd;
 use mio::{Interest, Registry, Token};
 use node_lock::{Call, Job};
 use role_node::Event;
-use served_node::{Heard, HeldNode};
+use served_node::{Heard, HeldNode, millis};
 use server_locks::JobQueue;
 use std::alloc::AllocError;
 use std::net::TcpStream;

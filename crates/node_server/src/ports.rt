@@ -1,11 +1,11 @@
 //! The thread of the ports: it waits at once for all that comes and for room to write.
 
 use crate::peers::{PLACES, Peers};
-use crate::server::{Server, millis};
+use crate::server::Server;
 use frame_queues::FrameKeys;
 use mio::unix::SourceFd;
 use mio::{Events, Interest, Poll, Token, Waker};
-use served_node::HeldNode;
+use served_node::{HeldNode, millis};
 use std::io;
 use std::io::ErrorKind;
 use std::net::{Net, TcpListener, TcpStream};

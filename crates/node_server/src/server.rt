@@ -1,18 +1,15 @@
 //! What the threads of a serving node share.
 
-ghost use Rattle.std.specs.Prelude.{◌≤◌};
-ghost use Rattle.peer_windows.specs.Pauses.{most_time};
-
 use crate::crew::Crew;
 use frame_queues::FrameKeys;
 use link_frames::{Frame, Message, Place};
 use mio::Waker;
 use node_lock::{Call, Seat};
-use peer_windows::{MOST_TIME, Share};
+use peer_windows::Share;
 use quorum_sizes::NodeName;
 use role_node::Question;
-use served_node::{Heard, HeldNode, Said, SyncTally, frames_to};
-use server_locks::{Outbox, Slot, TicketLock};
+use served_node::{Heard, HeldNode, Said, SyncTally, frames_to, millis};
+use server_locks::{Outbox, Purpose, Slot, TicketLock};
 use std::alloc::Global;
 use std::sync::{Condvar, Mutex, Wait};
 use std::time::{Clock, Duration};
@@ -23,7 +20,7 @@ pub struct Server<'a, N: HeldNode, K: FrameKeys, R> {
     pub rt: &'a R,
     pub alloc: Global,
     pub node: Mutex<N>,
-    /// The order in which threads get the node, where syncs take long.
+    /// The threads' turns at the node, where syncs take long.
     pub turns: TicketLock,
     /// The seat of those who only look, for which one of those waits at most whose answers may be long.
     pub view_seat: Mutex<Seat<N::Ledger>>,
@@ -83,10 +80,10 @@ impl<N: HeldNode, K: FrameKeys, R: Wait + Clock> Server<'_, N, K, R> {
 
     /// Waits for this thread's turn at the node, where threads have it for as long as a sync takes, and that is long:
     /// so who only looks waits for one sync at most. Whether it has a turn, which it ends then.
-    pub fn begin_turn(&self) -> bool {
+    pub fn begin_turn(&self, purpose: Purpose) -> bool {
         let has_turn = N::may_sync_long() && self.syncs.lock(self.rt).are_long();
         if has_turn {
-            self.turns.wait_for_turn(self.rt);
+            self.turns.wait_for_turn(self.rt, purpose);
         }
         has_turn
     }
@@ -110,7 +107,7 @@ impl<N: HeldNode, K: FrameKeys, R: Wait + Clock> Server<'_, N, K, R> {
     /// Makes a hold of the seat of those who look: asks a question, if there is one, and looks at a place of the
     /// owner's stream. Nothing is said for want of memory, and where the seat does not fit the node.
     pub fn look(&self, question: Option<Question>, owner: NodeName, place: Place) -> Option<Said> {
-        let has_turn = self.begin_turn();
+        let has_turn = self.begin_turn(Purpose::Look);
         let said = self.look_now(question, owner, place);
         self.end_turn(has_turn);
         said
@@ -144,20 +141,5 @@ impl<N: HeldNode, K: FrameKeys, R: Wait + Clock> Server<'_, N, K, R> {
                 outbox.send(self.rt, millis(self.rt), frames, alone.unwrap_or(0));
             }
         }
-    }
-}
-
-/// The time, in milliseconds from some start on, and one, so that it is past. It stands still while the clock fails.
-pub fn millis<R: Clock>(rt: &R) -> u64
-    ensures { result ≤ most_time }
-{
-    match rt.monotonic() {
-        Ok(time) => {
-            let millis = time.as_secs().saturating_mul(1_000);
-            millis
-                .saturating_add(u64::from(time.subsec_millis()) + 1)
-                .min(MOST_TIME)
-        }
-        Err(_) => 0,
     }
 }

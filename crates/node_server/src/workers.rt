@@ -1,28 +1,21 @@
 //! The workers, who make the calls of all jobs.
 
-ghost use Rattle.std.specs.Prelude.{◌≡◌, ◌≤◌, Some, IfSome, OnOk};
+ghost use Rattle.std.specs.Prelude.{◌≡◌, ◌≤◌, OnOk};
 ghost use Rattle.node_lock.specs.Holds.{end_of};
-ghost use Rattle.node_lock.specs.Receipts.{outcome_due};
-ghost use Rattle.node_lock.specs.Views.{view_of, held_after_hold};
 ghost use Rattle.peer_windows.specs.Pauses.{most_time};
 
-use crate::front::{Done, Front};
-use crate::server::{Server, millis};
+use crate::server::Server;
 use frame_queues::{Caller, FrameKeys};
 use link_frames::{Frame, Message, Packet};
-use node_lock::{Call, Seat};
+use node_lock::Seat;
 use peer_windows::{NEVER, Owed};
 use quorum_sizes::NodeName;
-use role_node::Event;
-use served_node::{HeldNode, NotKept, Said, micros};
-use server_locks::JobQueue;
+use served_node::{HeldNode, NotKept, Said, make_call, micros, millis, taken_packet};
+use server_locks::{Done, Front, JobQueue, MOST_BATCH, Purpose};
 use std::alloc::{AllocError, Global};
 use std::mem;
 use std::sync::Wait;
 use std::time::Clock;
-
-/// The most jobs that a worker takes at once.
-pub const MOST_BATCH: usize = 192;
 
 /// A worker, with its seat and room for a batch of jobs.
 #[derive(Drop)]
@@ -114,7 +107,7 @@ impl<'a, N: HeldNode> Worker<'a, N> {
                 return false;
             };
             let packet = taken_packet(&job.call);
-            let said = call(node, &mut self.seat, job.call, me);
+            let said = make_call(node, &mut self.seat, job.call, me);
             let caller = Caller::of(job.number);
             let mut leaves = matches!(caller, Caller::Client { .. });
             if let Some(untold) = &said {
@@ -172,7 +165,7 @@ impl<'a, N: HeldNode, K: FrameKeys, R: Wait + Clock> Server<'a, N, K, R> {
     /// Has a worker take jobs until nothing is left or its batch is full, and gather what is due to single peers, all
     /// under one lock. Whether there is more. Where what they recorded can't be kept the node ends.
     pub fn take_jobs(&self, worker: &mut Worker<'a, N>, front: &mut Front<N::Untold>) -> bool {
-        let has_turn = self.begin_turn();
+        let has_turn = self.begin_turn(Purpose::Work);
         let is_left = self.take_now(worker, front, has_turn);
         self.end_turn(has_turn);
         is_left
@@ -259,31 +252,4 @@ impl<'a, N: HeldNode, K: FrameKeys, R: Wait + Clock> Server<'a, N, K, R> {
 /// Whether what is untold is kept and told now: where that takes no time, or it is time.
 fn tells_now<N: HeldNode>(node: &N, front: &Front<N::Untold>, now: u64) -> bool {
     !N::may_sync_long() || node.kept().is_some() || front.tells_now(now)
-}
-
-/// The packet that a call has the node take.
-fn taken_packet(call: &Call) -> Option<Packet> {
-    match call {
-        Call::Step(Event::Take(packet)) => Some(*packet),
-        _ => None,
-    }
-}
-
-/// Makes the call by one hold, and reads how far the node's own stream reaches; nothing for want of memory, and where
-/// the seat does not fit the node.
-fn call<N: HeldNode>(
-    node: &mut N,
-    seat: &mut Seat<N::Ledger>,
-    call: Call,
-    me: NodeName,
-) -> Option<N::Untold>
-    ensures outcome { IfSome result (λ u. (N.said u).outcome ≡ Some (outcome_due (N.held node.old).node call)) }
-    ensures view { IfSome result (λ u. (N.said u).view ≡ view_of (N.held node.new) me 0) }
-    ensures held { IfSome result (λ u. N.held node.new ≡ held_after_hold (N.held node.old) seat.old (Some call)) }
-{
-    if node.has(me) && !node.must_sync() {
-        node.hold(seat, Some(call), me, 0).ok()
-    } else {
-        None
-    }
 }

@@ -1,7 +1,7 @@
 //! What is behind a serving node's lock.
 
 ghost use Rattle.std.specs.Prelude.{◌≡◌, ◌≤◌, ◌↔◌, ◌<◌, Bool, false, IsTrue, IfOk, IfErr, IfSome, OnOk, OnErr, OnSome};
-ghost use Rattle.std.specs.Prelude.{option_map};
+ghost use Rattle.std.specs.Prelude.{option_map, Some};
 ghost use Rattle.node_lock.specs.Holds.{end_of, Held};
 ghost use Rattle.node_lock.specs.Receipts.{outcome_due};
 ghost use Rattle.node_lock.specs.Views.{node_count, view_of, held_after_hold, seat_after_hold, IsHoldFault};
@@ -15,7 +15,7 @@ use link_frames::{Packet, Place};
 use node_lock::{Call, Locked, Outcome, Seat, StepFault};
 use peer_windows::{Owed, Pairs};
 use quorum_sizes::NodeName;
-use role_node::Node;
+use role_node::{Event, Node};
 use std::sync::ledger::Ledger;
 
 /// What holds recorded could not be kept.
@@ -130,6 +130,33 @@ pub trait HeldNode {
         requires { now ≤ most_time }
         ensures owed { IsGathered (held self.old) owed.old owed.new }
         ensures same { held self.new ≡ held self.old };
+}
+
+/// The packet that a call has the node take.
+pub fn taken_packet(call: &Call) -> Option<Packet> {
+    match call {
+        Call::Step(Event::Take(packet)) => Some(*packet),
+        _ => None,
+    }
+}
+
+/// Makes the call by one hold, and reads how far the node's own stream reaches; nothing for want of memory, and where
+/// the seat does not fit the node.
+pub fn make_call<N: HeldNode>(
+    node: &mut N,
+    seat: &mut Seat<N::Ledger>,
+    call: Call,
+    me: NodeName,
+) -> Option<N::Untold>
+    ensures outcome { IfSome result (λ u. (N.said u).outcome ≡ Some (outcome_due (N.held node.old).node call)) }
+    ensures view { IfSome result (λ u. (N.said u).view ≡ view_of (N.held node.new) me 0) }
+    ensures held { IfSome result (λ u. N.held node.new ≡ held_after_hold (N.held node.old) seat.old (Some call)) }
+{
+    if node.has(me) && !node.must_sync() {
+        node.hold(seat, Some(call), me, 0).ok()
+    } else {
+        None
+    }
 }
 
 /// A node that keeps all in memory: what it records is kept at once.

@@ -16,9 +16,9 @@ mod tally;
 mod told;
 
 pub use asked::node_answer;
-pub use behind::{HeldNode, NotKept};
+pub use behind::{HeldNode, NotKept, make_call, taken_packet};
 pub use heard::{Heard, PeerHeard};
 pub use owed::{frames_to, owed_to};
 pub use said::Said;
-pub use tally::{SyncTally, micros};
+pub use tally::{SyncTally, micros, millis};
 pub use told::Told;

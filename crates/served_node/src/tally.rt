@@ -1,9 +1,11 @@
-//! How long it took to keep what was recorded.
+//! The time, and how long it took to keep what was recorded.
 
-ghost use Rattle.std.specs.Prelude.{◌≡◌};
+ghost use Rattle.std.specs.Prelude.{◌≡◌, ◌≤◌};
+ghost use Rattle.peer_windows.specs.Pauses.{most_time};
 ghost use Rattle.served_node.specs.Counts.{tallied, times_of, new_tally, are_long};
 
 use operator_lines::SyncTimes;
+use peer_windows::MOST_TIME;
 use std::time::Clock;
 
 /// From so many microseconds on a sync takes long.
@@ -65,4 +67,19 @@ impl SyncTally {
 pub fn micros<R: Clock>(rt: &R) -> Option<u64> {
     let time = rt.monotonic().ok()?;
     u64::try_from(time.as_micros()).ok()
+}
+
+/// The time, in milliseconds from some start on, and one, so that it is past. It stands still while the clock fails.
+pub fn millis<R: Clock>(rt: &R) -> u64
+    ensures { result ≤ most_time }
+{
+    match rt.monotonic() {
+        Ok(time) => {
+            let millis = time.as_secs().saturating_mul(1_000);
+            millis
+                .saturating_add(u64::from(time.subsec_millis()) + 1)
+                .min(MOST_TIME)
+        }
+        Err(_) => 0,
+    }
 }

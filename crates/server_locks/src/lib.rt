@@ -1,15 +1,20 @@
 //! What the threads of a server share, each behind a lock of its own: the frames to a peer with their connection, a
-//! client's place, and turns at the node; and a thread's way into the inbox.
+//! client's place, and turns at the node; and what one thread has: its way into the inbox, what comes before the inbox,
+//! a client's stream.
 //!
-//! `specs/Counts.antt` says which frames are lost, whose turn it is, and when a connection is given up.
+//! `specs/Counts.antt` says which frames are lost and when a connection is given up, `Turns.antt` whose turn is next.
 #![tactic(auto)]
 
+mod client_stream;
+mod front;
 mod job_queue;
 mod outbox;
 mod slot;
 mod tickets;
 
+pub use client_stream::{Farewell, LineReader, is_http};
+pub use front::{Done, Front, MOST_BATCH};
 pub use job_queue::{JobQueue, job_queues};
 pub use outbox::Outbox;
 pub use slot::{Place, Slot};
-pub use tickets::{TicketLock, Tickets};
+pub use tickets::{Purpose, TicketLock};

@@ -1,18 +1,47 @@
-//! Turns at the node, in the order in which threads ask for them.
+//! Turns at the node: who looks comes before who works, and each kind in the order in which threads ask.
 
-ghost use Rattle.std.specs.Prelude.{◌≡◌};
-ghost use Rattle.server_locks.specs.Counts.{ticket_taken, turn_ended, has_others};
+ghost use Rattle.std.specs.Prelude.{◌≡◌, true, None, is_some};
+ghost use Rattle.server_locks.specs.Turns.{has_waiting, ticket_taken, called, asked, turn_due, passed_due};
 
 use std::sync::{Condvar, Mutex, Wait};
 
-/// The number of the next ticket, and of the one whose turn it is.
+/// So many looks in a row come before work that waits: one of each client.
+const MOST_LOOKS: u32 = 16;
+
+/// What a turn is for: to look, which is short where all is kept, or to work, which ends with a sync.
+#[derive(Clone, Copy, Debug, PartialEq, Eq)]
+pub enum Purpose {
+    Look,
+    Work,
+}
+
+/// The turn of one thread.
+#[derive(Clone, Copy, Debug, PartialEq, Eq)]
+pub struct Turn {
+    pub purpose: Purpose,
+    pub ticket: u64,
+}
+
+/// The number of the next ticket for one purpose, and of the first that has not been called.
 #[derive(Clone, Copy, Debug, PartialEq, Eq)]
 pub struct Tickets {
     pub next: u64,
-    pub turn: u64,
+    pub first: u64,
 }
 
 impl Tickets {
+    /// No ticket was taken.
+    fn new() -> Tickets {
+        Tickets { next: 0, first: 0 }
+    }
+
+    /// Whether one was taken that has not been called.
+    fn has_waiting(&self) -> bool
+        ensures { result ≡ has_waiting self.now }
+    {
+        self.first != self.next
+    }
+
     /// Takes a ticket.
     fn take(&mut self) -> u64
         ensures ticket { result ≡ self.old.next }
@@ -23,20 +52,81 @@ impl Tickets {
         ticket
     }
 
-    /// The turn has ended, and the next one's begins. Whether somebody waits for it.
-    fn end_turn(&mut self) -> bool
-        ensures waits { result ≡ has_others self.new }
-        ensures ended { self.new ≡ turn_ended self.old }
+    /// Calls the first that waits.
+    fn call(&mut self) -> u64
+        ensures ticket { result ≡ self.old.first }
+        ensures called { self.new ≡ called self.old }
     {
-        self.turn = self.turn.wrapping_add(1);
-        self.turn != self.next
+        let ticket = self.first;
+        self.first = ticket.wrapping_add(1);
+        ticket
     }
 }
 
-/// Gives threads their turns in the order in which they ask, which a mutex alone does not.
+/// Who waits for a turn, and whose turn it is.
+#[derive(Clone, Copy, Debug, PartialEq, Eq)]
+pub struct Turns {
+    pub looks: Tickets,
+    pub works: Tickets,
+    /// The turn that was called and has not ended.
+    pub turn: Option<Turn>,
+    /// How many looks in a row were called while work waited.
+    pub passed: u32,
+}
+
+impl Turns {
+    /// Takes a ticket. Where nobody has a turn it is this one's.
+    fn ask(&mut self, purpose: Purpose) -> Turn
+        ensures waits { is_some self.old.turn ≡ true → self.new.turn ≡ self.old.turn }
+        ensures next { self.old.turn ≡ None → self.new.turn ≡ turn_due (asked self.old purpose) }
+    {
+        let ticket = match purpose {
+            Purpose::Look => self.looks.take(),
+            Purpose::Work => self.works.take(),
+        };
+        if self.turn.is_none() {
+            self.call_next();
+        }
+        Turn { purpose, ticket }
+    }
+
+    /// The turn has ended, and the next one is called. Whether there is one.
+    fn end(&mut self) -> bool
+        ensures turn { self.new.turn ≡ turn_due self.old }
+        ensures next { result ≡ is_some self.new.turn }
+        ensures passed { self.new.passed ≡ passed_due self.old }
+    {
+        self.call_next();
+        self.turn.is_some()
+    }
+
+    /// Calls the first that waits to look, if work does not wait for long already, else the first that waits to work.
+    fn call_next(&mut self)
+        ensures turn { self.new.turn ≡ turn_due self.old }
+        ensures passed { self.new.passed ≡ passed_due self.old }
+    {
+        let works_wait = self.works.has_waiting();
+        if self.looks.has_waiting() && !(works_wait && self.passed >= MOST_LOOKS) {
+            self.passed = if works_wait { self.passed + 1 } else { 0 };
+            let ticket = self.looks.call();
+            let purpose = Purpose::Look;
+            self.turn = Some(Turn { purpose, ticket });
+        } else {
+            self.passed = 0;
+            self.turn = None;
+            if works_wait {
+                let ticket = self.works.call();
+                let purpose = Purpose::Work;
+                self.turn = Some(Turn { purpose, ticket });
+            }
+        }
+    }
+}
+
+/// Gives threads their turns at the node. A mutex alone knows no order.
 #[derive(Drop)]
 pub struct TicketLock {
-    tickets: Mutex<Tickets>,
+    turns: Mutex<Turns>,
     called: Condvar,
 }
 
@@ -44,23 +134,28 @@ impl TicketLock {
     /// The first to ask has its turn at once.
     pub fn new() -> TicketLock {
         TicketLock {
-            tickets: Mutex::new(Tickets { next: 0, turn: 0 }),
+            turns: Mutex::new(Turns {
+                looks: Tickets::new(),
+                works: Tickets::new(),
+                turn: None,
+                passed: 0,
+            }),
             called: Condvar::new(),
         }
     }
 
     /// Waits for this thread's turn, which lasts until [`end_turn`](Self::end_turn).
-    pub fn wait_for_turn<R: Wait>(&self, rt: &R) {
-        let mut tickets = self.tickets.lock(rt);
-        let ticket = tickets.take();
+    pub fn wait_for_turn<R: Wait>(&self, rt: &R, purpose: Purpose) {
+        let mut turns = self.turns.lock(rt);
+        let turn = turns.ask(purpose);
         let _ = self
             .called
-            .wait_while(rt, tickets, |tickets| tickets.turn != ticket);
+            .wait_while(rt, turns, |turns| turns.turn != Some(turn));
     }
 
     /// Ends this thread's turn.
     pub fn end_turn<R: Wait>(&self, rt: &R) {
-        if self.tickets.lock(rt).end_turn() {
+        if self.turns.lock(rt).end() {
             self.called.notify_all();
         }
     }

@@ -4,7 +4,8 @@ ghost use Rattle.std.specs.Prelude.{◌≡◌, ◌+◌, ◌≤◌, None, false, 
 ghost use Rattle.peer_windows.specs.Pauses.{most_time};
 ghost use Rattle.served_node.specs.Served.{grows};
 
-use crate::workers::MOST_BATCH;
+use crate::job_queue::JobQueue;
+use crate::outbox::Outbox;
 use frame_queues::{Caller, FirstPackets};
 use link_frames::{Message, Packet};
 use node_lock::{Call, Job, Outcome, Seat};
@@ -13,11 +14,13 @@ use peer_windows::{ENOUGH_ROOM, NEVER, Owed, Pairs, Share};
 use quorum_sizes::{NodeName, Sizes};
 use role_node::{Event, NodeFault, Reply};
 use served_node::{HeldNode, owed_to};
-use server_locks::{JobQueue, Outbox};
 use std::alloc::{AllocError, Global};
 use std::collections::VecDeque;
 use std::mem;
 use std::sync::Wait;
+
+/// The most jobs that a worker takes at once.
+pub const MOST_BATCH: usize = 192;
 
 /// For how many milliseconds it waits at most to be told what has the node send nothing, and no client waits for.
 const LONGEST_UNTOLD: u64 = 10;
