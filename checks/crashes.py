@@ -30,11 +30,14 @@ import time
 sys.dont_write_bytecode = True
 from cluster import PATIENCE, ROLE, TOP, program_of, tundelca  # noqa: E402
 from lives import Failed, Lives, compiled  # noqa: E402
+from loads import Load, ask_on  # noqa: E402
 
 RESTART = 1.0  # seconds from a start to the first answer, beside what two syncs take meanwhile
 SOON = 15  # seconds in which all reaches agree after the last crash
 COMMANDS = 1_000  # that are answered in a case with crashes
 LONGEST = 40  # seconds of crashes, however few commands came through
+CROWDED = 100  # commands beside a crowd of clients
+CROWD_WAITS = 5  # seconds that each of them, or a check, takes at most
 
 
 def run(words, **given):
@@ -395,8 +398,36 @@ def lonely(program, rng, folder):
         return f"12 owners ended, all their commands delivered {took:.1f} s later"
 
 
+def crowded(program, rng, folder):
+    """Fourteen clients that ask for one check after another, and a few behind an act, hold up no command, nor these
+    another's checks, where a sync takes up to four milliseconds."""
+    with Lives(program, nodes=4, library=compiled("checks/tear.c", folder), is_silent=True) as lives:
+        with lives.client(0) as owner, lives.client(0) as other:
+            owner.ask("assign", user=1, role=ROLE)
+            session = owner.open(1)
+            check = b'{"op":"check","session":%d,"user":1,"operation":1,"object":1}\n' % session
+            act = b'{"op":"%s","session":%d,"user":1,"role":%d}\n'
+            acts = [act % (word, session, ROLE) for word in (b"activate", b"drop")]
+            waits, checks = [], []
+            with Load(ask_on, lives.clients[0], 12, check * 30) as load:
+                with Load(ask_on, lives.clients[0], 2, b"".join(one + check * 3 for one in acts)) as behind:
+                    for user in range(CROWDED):
+                        begin = time.monotonic()
+                        place = owner.ask("assign", user=user + 2, role=ROLE)["issued"]
+                        waits.append(time.monotonic() - begin)
+                        lives.published.setdefault(0, {})[place] = user + 2
+                        other.check(session, 1, 1, 1)
+                        checks.append(time.monotonic() - begin - waits[-1])
+                    told = f"{load.told()} and {behind.told()}"
+        took = lives.settle(SOON)
+        if max(waits + checks) > CROWD_WAITS:
+            raise Failed(f"a command took {max(waits):.2f} s, a check {max(checks):.2f}, beside {told}")
+        return (f"{CROWDED} commands took {1000 * max(waits):.0f} ms at most, checks {1000 * max(checks):.0f}, beside "
+                f"{told}; all delivered {took:.1f} s later")
+
+
 CASES = [("said", said), ("refused", refused), ("killed", killed), ("torn", torn), ("ended", ended), ("broken", broken),
-         ("lonely", lonely), ("failing", failing), ("full", full)]
+         ("lonely", lonely), ("crowded", crowded), ("failing", failing), ("full", full)]
 
 
 def main():

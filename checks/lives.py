@@ -1,5 +1,4 @@
 """Nodes with journals that live several times, and what is held against what they said. For checks/crashes.py."""
-import contextlib
 import hashlib
 import hmac
 import json
@@ -20,15 +19,12 @@ import time
 sys.dont_write_bytecode = True
 from cluster import ECHO, PATIENCE, READY, ROLE, SEND, TOP, Cluster, assign, tundelca  # noqa: E402
 from forwarders import FRAME  # noqa: E402
+from loads import Failed  # noqa: E402
 
 MOST_SESSIONS = 300  # of a node
 AHEAD = 16  # places for which the liar offers two stories
 SYNCS = 2  # that a node makes at its start, at most
 PACE = 0.03  # seconds between two commands of an owner, and two looks at sessions
-
-
-class Failed(Exception):
-    pass
 
 
 def compilers():

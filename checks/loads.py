@@ -158,12 +158,16 @@ def flood_of(is_over, cluster, to, frame):
 
 def ask_again(is_over, cluster, to, owner):
     """Fifteen clients have a node send again what it sent at place 0 of an owner, as often as it does it."""
-    block, answered = b'{"op":"again","owner":%d,"place":0}\n' % owner * 200, 0
-    left = {}  # of each client what it has to send yet
+    return ask_on(is_over, cluster.clients[to], CLIENTS, b'{"op":"again","owner":%d,"place":0}\n' % owner * 200)
+
+
+def ask_on(is_over, port, clients, block):
+    """So many clients send a block of lines again and again, and read the answers. How many came, as a text."""
+    left, answered = {}, 0  # of each client what it has to send yet
     with contextlib.ExitStack() as stack:
         while not is_over():
-            while len(left) < CLIENTS:
-                one = stack.enter_context(socket.create_connection((tundelca.LOOPBACK, cluster.clients[to]), PATIENCE))
+            while len(left) < clients:
+                one = stack.enter_context(socket.create_connection((tundelca.LOOPBACK, port), PATIENCE))
                 one.setblocking(False)
                 left[one] = block
             for one in select.select(list(left), [], [], 0.001)[0]:

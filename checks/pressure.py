@@ -8,7 +8,6 @@ ended. Needs Python 3 and nothing beside it.
 import argparse
 import contextlib
 import json
-import select
 import signal
 import socket
 import struct
@@ -20,7 +19,7 @@ from statistics import median
 
 sys.dont_write_bytecode = True
 from cluster import ECHO, FRAME, PATIENCE, SEND, TOP, Cluster, assign, flood, program_of  # noqa: E402
-from loads import Failed, Load  # noqa: E402
+from loads import Failed, Load, ask_on  # noqa: E402
 
 PROGRAM = None  # main sets it
 SOON = 5  # seconds: on a machine that isn't busy an answer comes within one, and so does the end after `stop`
@@ -435,24 +434,6 @@ def listings_that_nobody_reads():
         return f"{most:.0f} MB at most, a listing is {size:,} bytes; the slowest check in {client.slowest:.3f} s"
 
 
-def list_on(is_over, port, clients, line):
-    """So many clients ask for one listing after another, 64 lines at once, and read the answers. How many came."""
-    left, came = {}, 0
-    for _ in range(clients):
-        one = socket.create_connection(("127.0.0.1", port))
-        one.setblocking(False)
-        left[one] = b""
-    while not is_over():
-        for one in select.select(list(left), [], [], 0.1)[0]:
-            with contextlib.suppress(BlockingIOError):
-                came += one.recv(1 << 18).count(b"\n")
-        for one in left:
-            with contextlib.suppress(BlockingIOError):
-                left[one] = left[one] or line * 64
-                left[one] = left[one][one.send(left[one]):]
-    return came
-
-
 def listings_hold_up_nobody():
     """14 clients of node 1 that ask for one listing of 30,000 users after another, while node 2 issues commands"""
     with Cluster(PROGRAM, 4, 1, owners=4) as cluster:
@@ -469,17 +450,17 @@ def listings_hold_up_nobody():
                 took.append(1000 * (time.time() - begin))
             return median(took), max(took)
 
-        alone, beside, came = [], [], 0
+        alone, beside = [], []
         for first in range(0, 600, 200):
             alone.append(times(first))
-            with Load(list_on, cluster.clients[1], 14, b'{"op":"assigned_users","role":2}\n') as load:
+            with Load(ask_on, cluster.clients[1], 14, b'{"op":"assigned_users","role":2}\n' * 64) as load:
                 time.sleep(0.5)
                 beside.append(times(first + 100))
-                came += load.told()
+                came = load.told()
         middle, most = (median(of) for of in zip(*beside))
         by_itself, slowest = (median(of) for of in zip(*alone))
         text = (f"{middle:.1f} ms in the median, {most:.0f} at most; {by_itself:.1f} and {slowest:.0f} alone; "
-                f"{came:,} listings")
+                f"{came} in the last part")
         if middle > MIDDLE + 10 * by_itself or most > SLOWEST:
             raise Failed(text)
         return text
