@@ -6,12 +6,12 @@ ghost use Rattle.link_frames.specs.lines.Aheads.{front_of};
 ghost use Rattle.link_frames.specs.lines.Nexts.{Begins};
 ghost use Rattle.node_lock.specs.Inboxes.{after_put};
 ghost use Rattle.role_node.specs.Windows.{messages_of};
-ghost use Rattle.node_server.specs.Jobs.{again_number, own_jobs};
+ghost use Rattle.server_locks.specs.Jobs.{again_number, own_jobs};
 
 use crate::server::Server;
 use client_lines::{ClientAnswer, LineFault, MOST_LINE_BYTES, Request, RequestReader};
 use frame_queues::{Caller, FrameKeys, MOST_LINES, NO_LINE};
-use link_frames::{Ahead, AheadFault, Held, Message, Next, Packet, Place, Watched};
+use link_frames::{Ahead, AheadFault, Held, Message, Next, Place, Watched};
 use node_lock::{Call, Job, View};
 use operator_lines::{OperatorAnswer, OperatorFault, read_operator};
 use peer_windows::push_again;
@@ -20,19 +20,16 @@ use role_node::{Event, NodeAgain, Question};
 use served_node::answers::{hold_answer, hold_operator_answer, sent_count};
 use served_node::{HeldNode, Said};
 use server_locks::{Farewell, JobQueue, LineReader, Slot, is_http};
+use std::mem;
 use std::net::{Shutdown, TcpStream};
 use std::sync::Wait;
-use std::time::{Clock, Duration};
-use std::{mem, thread};
+use std::time::Clock;
 
 /// For how many milliseconds in all a client is listened to that is answered no more.
 const LAST_READS: u64 = 2_000;
 
 /// The milliseconds in which a client has to take its last answers.
 const LAST_WRITES: u64 = 1_000;
-
-/// The milliseconds before a job is put again that the inbox did not take.
-const NEXT_PUT: u64 = 1;
 
 /// What is to be done after a client's line.
 #[derive(Clone, Copy, Debug, PartialEq, Eq)]
@@ -323,19 +320,19 @@ impl<N: HeldNode, K: FrameKeys, R: Wait + Clock> Client<'_, '_, N, K, R> {
     fn put(&mut self, job: &Job) -> Result<(), AheadFault>
         ensures { OnOk result (self.new.queue.pass ≡ after_put self.old.queue.pass job.now) }
     {
-        for _turn in self.server.rt.forever() {
-            if self.queue.put(self.server.rt, *job).is_ok() {
-                self.put = self.put.saturating_add(1);
-                return Ok(());
-            }
+        if self.queue.put(self.server.rt, *job).is_err() {
             self.server.ring();
             self.held.write_all(&mut self.writer)?;
-            if self.server.has_ended() {
+            let server = self.server;
+            if !self
+                .queue
+                .put_patiently(server.rt, &|| server.ring_on(), job)
+            {
                 return Err(AheadFault::Device);
             }
-            thread::sleep(self.server.rt, Duration::from_millis(NEXT_PUT));
         }
-        unreachable!()
+        self.put = self.put.saturating_add(1);
+        Ok(())
     }
 
     /// Has the answers to all lines that are in flight, and holds them. Those that are held are written first where
@@ -400,19 +397,22 @@ impl<N: HeldNode, K: FrameKeys, R: Wait + Clock> Client<'_, '_, N, K, R> {
         self.take_again(me, &messages)
     }
 
-    /// Has the node take messages that it sends to itself.
+    /// Has the node take messages that it sends to itself. No answer is held back meanwhile.
     fn take_again(&mut self, me: NodeName, messages: &[Message]) -> Result<(), AheadFault>
         ensures { OnOk result (self.new.queue.pass.put
             ≡ self.old.queue.pass.put ++ own_jobs (again_number self.old.number) me messages.now) }
     {
         let (slot, line) = (self.number, NO_LINE);
         let number = Caller::Client { slot, line }.number();
-        for message in messages {
-            if let Some(packet) = Packet::new(me, me, *message) {
-                let call = Call::Step(Event::Take(packet));
-                self.put(&Job { number, call })?;
+        self.held.write_all(&mut self.writer)?;
+        let server = self.server;
+        let queue = &mut self.queue;
+        match queue.put_own(server.rt, &|| server.ring_on(), number, me, messages) {
+            Some(count) => {
+                self.put = self.put.saturating_add(count);
+                Ok(())
             }
+            None => Err(AheadFault::Device),
         }
-        Ok(())
     }
 }

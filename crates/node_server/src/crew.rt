@@ -76,6 +76,15 @@ impl<'a, N: HeldNode, K: FrameKeys, R: Wait + Clock> Server<'a, N, K, R> {
         }
     }
 
+    /// Jobs were put, for which the inbox has no room. Whether the node goes on.
+    pub fn ring_on(&self) -> bool {
+        let goes_on = !self.has_ended();
+        if goes_on {
+            self.ring();
+        }
+        goes_on
+    }
+
     /// Does jobs that are left to others, until the end.
     pub fn do_jobs(&self) {
         for _ in self.rt.forever() {

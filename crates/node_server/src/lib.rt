@@ -34,7 +34,7 @@ use ports::{Ports, poll_of};
 use served_node::{Heard, SyncTally, millis};
 pub use served_node::{HeldNode, NotKept, Said};
 use server::Server;
-use server_locks::{Front, JobQueue, Outbox, Slot, TicketLock, job_queues};
+use server_locks::{Front, JobQueue, Outbox, Slot, TicketLock, job_queues, most_batch};
 use std::alloc::{AllocError, Global};
 use std::net::{Net, SocketAddr, TcpListener, TcpStream};
 use std::sync::{Condvar, Mutex, Wait};
@@ -167,7 +167,8 @@ fn server_of<'a, N: HeldNode + Drop, K: FrameKeys + Drop, R: Clock>(
     for _ in 0..MOST_CLIENTS {
         slots.push(Slot::new(alloc, queues.pop().ok_or(AllocError)?)?)?;
     }
-    let front = Front::new(alloc, keys.sizes(), keys.me(), millis(rt))?;
+    let (most, now) = (most_batch::<N>(), millis(rt));
+    let front = Front::new(alloc, keys.sizes(), keys.me(), most, now)?;
     let crew = crew_of(alloc, seats, queues, front, keys.sizes().n())?;
     let heard = Heard::new(alloc, keys.sizes().n())?;
     Ok(Server {

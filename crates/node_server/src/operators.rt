@@ -7,7 +7,7 @@ use frame_queues::FrameKeys;
 use operator_lines::{JournalStanding, OperatorAnswer, OperatorRequest, PeerStanding, Status};
 use role_commands::Items;
 use served_node::{HeldNode, millis, node_answer};
-use server_locks::Purpose;
+use server_locks::{Purpose, keep};
 use std::alloc::AllocError;
 use std::sync::Wait;
 use std::time::Clock;
@@ -29,7 +29,7 @@ impl<N: HeldNode, K: FrameKeys, R: Wait + Clock> Server<'_, N, K, R> {
         let has_turn = self.begin_turn(Purpose::Look);
         let mut node = self.node.lock(self.rt);
         // where that fails nothing is said, and the next batch ends the node
-        let _ = self.keep(&mut *node);
+        let _ = keep(self.rt, &self.syncs, &mut *node);
         let answer = node
             .kept()
             .and_then(|node| node_answer(self.alloc, node, request));

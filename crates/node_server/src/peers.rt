@@ -1,28 +1,22 @@
 //! The connections of peers: frames in.
 
-ghost use Rattle.std.specs.Prelude.{◌≡◌, IsTrue, IsFalse};
-ghost use Rattle.node_lock.specs.Inboxes.{after_put};
-ghost use Rattle.node_server.specs.Jobs.{peer_job};
-
 use crate::crew::REFUSED;
 use crate::server::Server;
 use frame_queues::{
-    BLOCK_FRAMES, Caller, Came, Connected, FrameBlock, FrameKeys, MOST_PEERS, PeerName, Turn,
-    Turns, place_for, third_of,
+    BLOCK_FRAMES, Came, Connected, FrameBlock, FrameKeys, MOST_PEERS, PeerName, Turn, Turns,
+    place_for, third_of,
 };
-use link_frames::{Frame, Packet};
+use link_frames::Frame;
 use mio::unix::SourceFd;
 use mio::{Interest, Registry, Token};
-use node_lock::{Call, Job};
-use role_node::Event;
 use served_node::{Heard, HeldNode, millis};
 use server_locks::JobQueue;
 use std::alloc::AllocError;
+use std::io;
 use std::net::TcpStream;
 use std::os::fd::AsRawFd;
 use std::sync::Wait;
-use std::time::{Clock, Duration};
-use std::{io, thread};
+use std::time::Clock;
 
 /// How many places there are.
 pub const PLACES: usize = MOST_PEERS as usize;
@@ -32,9 +26,6 @@ const FIRST_FRAME: u64 = 2_000;
 
 /// After so many frames the jobs are done before more are put.
 const MOST_PUT: usize = 256;
-
-/// The milliseconds before a job is put again that the inbox did not take.
-const NEXT_PUT: u64 = 1;
 
 /// Of a number each next lot is this many times the one before, and one.
 const LOT_FACTOR: u64 = 6_364_136_223_846_793_005;
@@ -266,7 +257,10 @@ impl<'a, 'b, N: HeldNode, K: FrameKeys, R: Wait + Clock> Peers<'a, 'b, N, K, R> 
             if let Some(packet) = server.keys.open(frame) {
                 opened = opened.or(Some(server.keys.peer(&packet)));
                 has_opened = true;
-                if put_packet(server, &mut self.queue, slot, packet) {
+                if self
+                    .queue
+                    .put_packet(server.rt, &|| server.ring_on(), slot, packet)
+                {
                     count = count.saturating_add(1);
                 }
             } else {
@@ -311,30 +305,4 @@ impl<'a, 'b, N: HeldNode, K: FrameKeys, R: Wait + Clock> Peers<'a, 'b, N, K, R> 
         }
         goes_on
     }
-}
-
-/// Puts a packet into the inbox. Where that has no room this thread does jobs and tries again, up to the node's end.
-/// Whether it is put.
-fn put_packet<N: HeldNode, K: FrameKeys, R: Wait + Clock>(
-    server: &Server<'_, N, K, R>,
-    queue: &mut JobQueue<'_>,
-    slot: u32,
-    packet: Packet,
-) -> bool
-    ensures put { IsTrue result → queue.new.pass ≡ after_put queue.old.pass (peer_job slot packet) }
-    ensures same { IsFalse result → queue.new.pass ≡ queue.old.pass }
-{
-    for _turn in server.rt.forever() {
-        let number = Caller::Peer { slot }.number();
-        let call = Call::Step(Event::Take(packet));
-        if queue.put(server.rt, Job { number, call }).is_ok() {
-            return true;
-        }
-        if server.has_ended() {
-            return false;
-        }
-        server.ring();
-        thread::sleep(server.rt, Duration::from_millis(NEXT_PUT));
-    }
-    unreachable!()
 }

@@ -9,7 +9,7 @@ use peer_windows::Share;
 use quorum_sizes::NodeName;
 use role_node::Question;
 use served_node::{Heard, HeldNode, Said, SyncTally, frames_to, millis};
-use server_locks::{Outbox, Purpose, Slot, TicketLock};
+use server_locks::{Outbox, Purpose, Slot, TicketLock, keep};
 use std::alloc::Global;
 use std::sync::{Condvar, Mutex, Wait};
 use std::time::{Clock, Duration};
@@ -121,7 +121,7 @@ impl<N: HeldNode, K: FrameKeys, R: Wait + Clock> Server<'_, N, K, R> {
             return None;
         }
         let untold = node.hold(&mut seat, call, owner, place).ok()?;
-        self.keep(&mut *node).ok()?;
+        keep(self.rt, &self.syncs, &mut *node).ok()?;
         node.release(untold)
     }
 

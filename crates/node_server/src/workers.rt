@@ -1,7 +1,6 @@
 //! The workers, who make the calls of all jobs.
 
-ghost use Rattle.std.specs.Prelude.{◌≡◌, ◌≤◌, OnOk};
-ghost use Rattle.node_lock.specs.Holds.{end_of};
+ghost use Rattle.std.specs.Prelude.{◌≤◌};
 ghost use Rattle.peer_windows.specs.Pauses.{most_time};
 
 use crate::server::Server;
@@ -10,8 +9,8 @@ use link_frames::{Frame, Message, Packet};
 use node_lock::Seat;
 use peer_windows::{NEVER, Owed};
 use quorum_sizes::NodeName;
-use served_node::{HeldNode, NotKept, Said, make_call, micros, millis, taken_packet};
-use server_locks::{Done, Front, JobQueue, MOST_BATCH, Purpose};
+use served_node::{HeldNode, NotKept, Said, make_call, millis, taken_packet};
+use server_locks::{Done, Front, JobQueue, Purpose, keep, most_batch};
 use std::alloc::{AllocError, Global};
 use std::mem;
 use std::sync::Wait;
@@ -45,15 +44,16 @@ impl<'a, N: HeldNode> Worker<'a, N> {
         seat: Seat<N::Ledger>,
         nodes: u8,
     ) -> Result<Worker<'a, N>, AllocError> {
+        let most = most_batch::<N>();
         Ok(Worker {
             queue,
             seat,
-            untold: Vec::with_capacity(alloc, MOST_BATCH)?,
-            told: Vec::with_capacity(alloc, MOST_BATCH)?,
-            messages: Vec::with_capacity(alloc, MOST_BATCH)?,
+            untold: Vec::with_capacity(alloc, most)?,
+            told: Vec::with_capacity(alloc, most)?,
+            messages: Vec::with_capacity(alloc, most)?,
             owed: Owed::new(alloc, nodes)?,
-            frames: Vec::with_capacity(alloc, MOST_BATCH)?,
-            heard: Vec::with_capacity(alloc, MOST_BATCH)?,
+            frames: Vec::with_capacity(alloc, most)?,
+            heard: Vec::with_capacity(alloc, most)?,
         })
     }
 
@@ -74,12 +74,12 @@ impl<'a, N: HeldNode> Worker<'a, N> {
     ) -> Result<bool, NotKept>
         requires { now ≤ most_time }
     {
-        for _ in 0..MOST_BATCH {
+        for _ in 0..most_batch::<N>() {
             let is_full = self.make_calls(server.rt, node, server.keys.me(), front, now);
             if !is_full && !tells_now(&*node, front, now) {
                 return Ok(false);
             }
-            server.keep(node)?;
+            keep(server.rt, &server.syncs, node)?;
             self.release(node, front, now);
             // packets may wait for a stream that has grown
             let is_left = front.has_grown() || is_full;
@@ -102,7 +102,7 @@ impl<'a, N: HeldNode> Worker<'a, N> {
     ) -> bool
         requires { now ≤ most_time }
     {
-        for _ in self.told.len().saturating_add(front.untold.len())..MOST_BATCH {
+        for _ in self.told.len().saturating_add(front.untold.len())..most_batch::<N>() {
             let Some(job) = front.next_job(rt, &mut self.queue) else {
                 return false;
             };
@@ -200,28 +200,6 @@ impl<'a, N: HeldNode, K: FrameKeys, R: Wait + Clock> Server<'a, N, K, R> {
                 false
             }
         }
-    }
-
-    /// Keeps what was recorded. How long that takes is noted where it may be long, if there is anything to be kept.
-    ///
-    /// # Errors
-    ///
-    /// It could not be kept.
-    pub fn keep(&self, node: &mut N) -> Result<(), NotKept>
-        ensures kept { OnOk result
-            ((u : N.Untold) → (N.said u).view.at ≤ end_of (N.held node.new) → N.may_leave node.new u) }
-        ensures same { N.held node.new ≡ N.held node.old }
-    {
-        if !N::may_sync_long() || node.kept().is_some() {
-            return node.sync();
-        }
-        let began = micros(self.rt);
-        let kept = node.sync();
-        if let (Some(began), Some(ended)) = (began, micros(self.rt)) {
-            let mut tally = self.syncs.lock(self.rt);
-            tally.note(ended.saturating_sub(began));
-        }
-        kept
     }
 
     /// Sends what a worker's calls have the node send, and tells the clients what was said to their lines.

@@ -19,8 +19,13 @@ use std::collections::VecDeque;
 use std::mem;
 use std::sync::Wait;
 
-/// The most jobs that a worker takes at once.
-pub const MOST_BATCH: usize = 192;
+/// The most jobs that a worker takes at once: where a sync may take long, about as many as come meanwhile. A journal has
+/// room for 1,024 between two syncs.
+pub fn most_batch<N: HeldNode>() -> usize
+    ensures { result ≤ 960 }
+{
+    if N::may_sync_long() { 960 } else { 192 }
+}
 
 /// For how many milliseconds it waits at most to be told what has the node send nothing, and no client waits for.
 const LONGEST_UNTOLD: u64 = 10;
@@ -55,12 +60,18 @@ pub struct Front<U> {
 }
 
 impl<U: Drop> Front<U> {
-    /// Nothing comes before the inbox.
+    /// Nothing comes before the inbox. There is room for so many jobs that are told later.
     ///
     /// # Errors
     ///
     /// Only for want of memory.
-    pub fn new(alloc: Global, sizes: Sizes, me: NodeName, now: u64) -> Result<Front<U>, AllocError>
+    pub fn new(
+        alloc: Global,
+        sizes: Sizes,
+        me: NodeName,
+        most: usize,
+        now: u64,
+    ) -> Result<Front<U>, AllocError>
         requires { now ≤ most_time }
     {
         Ok(Front {
@@ -69,7 +80,7 @@ impl<U: Drop> Front<U> {
             pairs: Pairs::new(alloc, sizes, me, now)?,
             has_grown: false,
             connected: Vec::with_capacity(alloc, usize::from(sizes.n()))?,
-            untold: Vec::with_capacity(alloc, MOST_BATCH)?,
+            untold: Vec::with_capacity(alloc, most)?,
             tell_by: NEVER,
             rooms: Vec::from_elem(alloc, None, usize::from(sizes.n()))?,
             me,

@@ -1,11 +1,21 @@
 //! The way of jobs into the inbox and out of it.
 
-ghost use Rattle.std.specs.Prelude.{◌≡◌, All, OnOk, OnErr, MatchOption};
+ghost use Rattle.std.specs.Prelude.{◌≡◌, ◌++◌, All, IsTrue, IsFalse, OnOk, OnErr, OnSome, MatchOption};
 ghost use Rattle.node_lock.specs.Inboxes.{IsPassTo, IsNewPassTo, after_put, after_take};
+ghost use Rattle.server_locks.specs.Jobs.{own_jobs, peer_job};
 
-use node_lock::{Inbox, InboxPass, Job};
+use frame_queues::Caller;
+use link_frames::{Message, Packet};
+use node_lock::{Call, Inbox, InboxPass, Job};
+use quorum_sizes::NodeName;
+use role_node::Event;
 use std::alloc::{AllocError, Global};
 use std::sync::Wait;
+use std::thread;
+use std::time::{Clock, Duration};
+
+/// The milliseconds before a job is put again that the inbox did not take.
+const NEXT_PUT: u64 = 1;
 
 /// One thread's leave to put jobs into the inbox and to take them out.
 #[derive(Drop)]
@@ -26,6 +36,75 @@ impl<'a> JobQueue<'a> {
         ensures full { OnErr result (self.new.pass ≡ self.old.pass) }
     {
         self.inbox.put(rt, &mut self.pass, job)
+    }
+
+    /// Puts a job into the inbox. Where that has no room `ring` tells those who do the jobs of it, and this thread tries
+    /// again, as long as `ring` says that they do any. Whether it is put.
+    pub fn put_patiently<R: Wait + Clock, F: Fn() -> bool>(
+        &mut self,
+        rt: &R,
+        ring: &F,
+        job: &Job,
+    ) -> bool
+        requires ring { F.IsAlwaysCallable ring.now }
+        ensures put { IsTrue result → self.new.pass ≡ after_put self.old.pass job.now }
+        ensures same { IsFalse result → self.new.pass ≡ self.old.pass }
+    {
+        for _turn in rt.forever() {
+            if self.put(rt, *job).is_ok() {
+                return true;
+            }
+            if !ring() {
+                return false;
+            }
+            thread::sleep(rt, Duration::from_millis(NEXT_PUT));
+        }
+        unreachable!()
+    }
+
+    /// Puts a packet that came over the connection of a peer at this place, as [`put_patiently`](Self::put_patiently)
+    /// does. Whether it is put.
+    pub fn put_packet<R: Wait + Clock, F: Fn() -> bool>(
+        &mut self,
+        rt: &R,
+        ring: &F,
+        slot: u32,
+        packet: Packet,
+    ) -> bool
+        requires ring { F.IsAlwaysCallable ring.now }
+        ensures put { IsTrue result → self.new.pass ≡ after_put self.old.pass (peer_job slot packet) }
+        ensures same { IsFalse result → self.new.pass ≡ self.old.pass }
+    {
+        let number = Caller::Peer { slot }.number();
+        let call = Call::Step(Event::Take(packet));
+        self.put_patiently(rt, ring, &Job { number, call })
+    }
+
+    /// Puts messages that the node sends to itself, each as a job of this number, as
+    /// [`put_patiently`](Self::put_patiently) does. How many; `None` where those who do the jobs have ended.
+    pub fn put_own<R: Wait + Clock, F: Fn() -> bool>(
+        &mut self,
+        rt: &R,
+        ring: &F,
+        number: u32,
+        me: NodeName,
+        messages: &[Message],
+    ) -> Option<u32>
+        requires ring { F.IsAlwaysCallable ring.now }
+        ensures { OnSome result
+            (self.new.pass.put ≡ self.old.pass.put ++ own_jobs number me messages.now) }
+    {
+        let mut count = 0u32;
+        for message in messages {
+            if let Some(packet) = Packet::new(me, me, *message) {
+                let call = Call::Step(Event::Take(packet));
+                if !self.put_patiently(rt, ring, &Job { number, call }) {
+                    return None;
+                }
+                count = count.saturating_add(1);
+            }
+        }
+        Some(count)
     }
 
     /// Takes the next job.

@@ -8,13 +8,15 @@
 mod client_stream;
 mod front;
 mod job_queue;
+mod keeping;
 mod outbox;
 mod slot;
 mod tickets;
 
 pub use client_stream::{Farewell, LineReader, is_http};
-pub use front::{Done, Front, MOST_BATCH};
+pub use front::{Done, Front, most_batch};
 pub use job_queue::{JobQueue, job_queues};
+pub use keeping::keep;
 pub use outbox::Outbox;
 pub use slot::{Place, Slot};
 pub use tickets::{Purpose, TicketLock};

@@ -1,7 +1,7 @@
 //! A node of the registry that keeps its state.
 //!
-//! `cluster_hosts` says what it takes of a cluster text, `specs/Keeping.antt` what of a node with a journal may leave,
-//! and `specs/Statuses.antt` with which status it ends.
+//! `cluster_hosts` says what it takes of a cluster text, `node_journal` what of a node with a journal may leave, and
+//! `specs/Statuses.antt` with which status it ends.
 #![tactic(auto)]
 
 ghost use Rattle.std.specs.Prelude.{IfOk};
@@ -9,9 +9,6 @@ ghost use Rattle.cluster_text.specs.Setups.{IsNodeSetup, IsServerSetup};
 ghost use Rattle.cluster_hosts.specs.Hosts.{HasHosts};
 
 mod fault;
-mod held;
-mod journal_file;
-mod keeping;
 mod report;
 mod serve;
 mod version;
@@ -19,9 +16,9 @@ mod words;
 
 use cluster_hosts::{Given, GivenFault, read_given};
 use fault::{Fault, WordsFault};
-use journal_file::{make_journal, open_journal, open_to_look, remove_beside};
-use keeping::{begin, look};
 use link_frames::Watched;
+use node_journal::{begin, look, make_journal, open_journal, open_to_look, remove_beside};
+use node_server::SEATS;
 use report::{report_of, sight_text};
 use serve::{serve_in_memory, serve_kept};
 use sqlite_std_file::Unknown;
@@ -83,7 +80,7 @@ fn check(rt: &HostRuntime, given: Given, path: &str) -> Result<(), Fault>
     let Given { setup, .. } = given;
     let key = setup.own_key();
     let (mut files, is_made) = open_to_look(rt, path, Unknown)?;
-    let sight = look(rt.alloc(), setup.config, setup.me, &key, &mut files);
+    let sight = look(rt.alloc(), SEATS, setup.config, setup.me, &key, &mut files);
     if is_made {
         remove_beside(rt, path);
     }

@@ -3,8 +3,8 @@
 ghost use Rattle.cluster_text.specs.Setups.{IsServerSetup};
 ghost use Rattle.cluster_hosts.specs.Hosts.{HasHosts};
 
-use crate::keeping::Sight;
 use cluster_hosts::{Given, of_common, of_key};
+use node_journal::Sight;
 use role_commands::RoleTable;
 use std::alloc::{AllocError, Global};
 use std::fmt::Write;

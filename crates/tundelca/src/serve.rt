@@ -1,19 +1,17 @@
 //! The node over TCP: frames of its peers at its host, and lines of its clients on this machine's own address.
 
 ghost use Rattle.std.specs.Prelude.{◌≡◌, IsTrue, IfOk};
-ghost use Rattle.cluster_text.specs.Linked.{ring_of};
 ghost use Rattle.cluster_text.specs.Setups.{IsNodeSetup, IsServerSetup};
 ghost use Rattle.cluster_hosts.specs.Hosts.{HasHosts, AreAddresses};
 
 use crate::fault::Fault;
-use crate::keeping::restored;
 use cluster_hosts::Given;
-use cluster_text::cluster::Setup;
+use node_journal::{keys_of, restored};
 use node_lock::SharedNode;
-use node_server::{ClusterKeys, SEATS, Site, listen};
+use node_server::{SEATS, Site, listen};
 use role_node::Node;
 use sqlite_disk::{Disk, Files};
-use std::alloc::{AllocError, Global};
+use std::alloc::Global;
 use std::marker::Brand;
 use std::net::{Ipv4Addr, Net, SocketAddr, SocketAddrV4, TcpListener, TcpStream};
 use std::sync::Wait;
@@ -110,7 +108,8 @@ where
     let Given { setup, .. } = given;
     let keys = keys_of(alloc, &setup)?;
     let own = setup.own_key();
-    let (node, seats) = restored::<L, D>(alloc, blank, setup.config, setup.me, &own, files)?;
+    let (config, me) = (setup.config, setup.me);
+    let (node, seats) = restored::<L, D>(alloc, blank, SEATS, config, me, &own, files)?;
     node_server::serve(rt, alloc, node, seats, keys, site)?;
     Ok(())
 }
@@ -136,20 +135,4 @@ where
         idle: Duration::from_millis(IDLE),
         operators: true,
     })
-}
-
-/// The keys of the node of a setup, in its cluster.
-///
-/// # Errors
-///
-/// Only for want of memory.
-pub fn keys_of(alloc: Global, setup: &Setup) -> Result<ClusterKeys, AllocError>
-    requires me { IsNodeSetup setup.now }
-    requires peers { IsServerSetup setup.now }
-    ensures keys { IfOk result (λ made. made.keys ≡ ring_of setup.now) }
-    ensures cluster { IfOk result (λ made. made.cluster ≡ setup.now.config.cluster) }
-{
-    let keys = setup.pair_keys(alloc)?;
-    let sizes = setup.config.roles().sizes();
-    Ok(ClusterKeys::new(keys, sizes, setup.config.cluster(), setup.me))
 }

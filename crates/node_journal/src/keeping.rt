@@ -3,6 +3,7 @@
 ghost use Rattle.std.specs.Prelude.{◌≡◌, ◌<◌, ◌≤◌, ℕ, List, [], IsTrue, IfOk};
 ghost use Rattle.batch_journal.specs.Faults.{IsBlank};
 ghost use Rattle.node_lock.specs.Holds.{end_of, Fits};
+ghost use Rattle.node_lock.specs.Seats.{most_seats};
 ghost use Rattle.kept_node.specs.Keeping.{StandsFor, Survives};
 ghost use Rattle.kept_node.specs.NodeHeads.{IsHeadOf};
 ghost use Rattle.cluster_text.specs.Linked.{own_key};
@@ -14,7 +15,6 @@ use batch_journal::{Journal, JournalFault, read};
 use cluster_text::cluster::Setup;
 use kept_node::{Kept, NotNew, ReplayFault, Unrestored, head_of, new_locked, replay_events};
 use node_lock::{Locked, Seat, SharedNode};
-use node_server::SEATS;
 use quorum_sizes::NodeName;
 use role_node::{Config, Node};
 use sqlite_disk::{Disk, Files};
@@ -48,7 +48,7 @@ pub fn begin<D: Disk + Drop>(
     }
 }
 
-/// A node that has recorded what its journal stands for, and its seats.
+/// A node that has recorded what its journal stands for, and its seats, so many.
 ///
 /// # Errors
 ///
@@ -56,13 +56,15 @@ pub fn begin<D: Disk + Drop>(
 pub fn restored<L: Ledger, D: Disk + Drop>(
     alloc: Global,
     blank: Blank,
+    seats: u8,
     config: Config,
     me: NodeName,
     key: &[u8; 32],
     files: Files<D>,
 ) -> Result<(Journaled<L, D>, Vec<Seat<L>>), KeptFault>
     requires name { blank.name ≡ L.name }
-    requires parts { (blank.parts ≡ L.parts) × (SEATS ≡ L.parts) }
+    requires parts { (blank.parts ≡ L.parts) × (seats ≡ L.parts) }
+    requires seats { (0 < seats) × (seats ≤ most_seats) }
     requires me { me < config.roles.sizes.nodes }
     requires beside { IsTrue (D.Disk.is_usable files.log) }
     requires usable { IsTrue (D.Disk.is_usable files.db) }
@@ -72,13 +74,13 @@ pub fn restored<L: Ledger, D: Disk + Drop>(
     ensures key { IfOk result (λ r. r.0.kept.key ≡ key.now) }
     ensures crash { IfOk result (λ r. Survives D.Disk.may_leave D.Disk.is_clean r.0.kept) }
 {
-    let (locked, mut seat, mut seats) = fresh(alloc, blank, config, me)?;
+    let (locked, mut seat, mut others) = fresh(alloc, blank, seats, config, me)?;
     match Kept::restore(alloc, locked, &mut seat, key, files) {
         Ok(kept) => {
-            if seats.push(seat).is_err() {
+            if others.push(seat).is_err() {
                 return Err(KeptFault::Journal(JournalFault::Memory));
             }
-            Ok((Journaled { kept }, seats))
+            Ok((Journaled { kept }, others))
         }
         Err(Unrestored::Unopened { fault, .. }) => Err(KeptFault::Journal(fault)),
         Err(Unrestored::Illegal { .. }) => Err(KeptFault::Illegal),
@@ -86,7 +88,7 @@ pub fn restored<L: Ledger, D: Disk + Drop>(
     }
 }
 
-/// A node that has recorded nothing, one of its seats, and the others.
+/// A node that has recorded nothing, one of its seats, so many, and the others.
 ///
 /// # Errors
 ///
@@ -94,20 +96,22 @@ pub fn restored<L: Ledger, D: Disk + Drop>(
 fn fresh<L: Ledger>(
     alloc: Global,
     blank: Blank,
+    seats: u8,
     config: Config,
     me: NodeName,
 ) -> Result<(Locked<L>, Seat<L>, Vec<Seat<L>>), AllocError>
     requires name { blank.name ≡ L.name }
-    requires parts { (blank.parts ≡ L.parts) × (SEATS ≡ L.parts) }
+    requires parts { (blank.parts ≡ L.parts) × (seats ≡ L.parts) }
+    requires seats { (0 < seats) × (seats ≤ most_seats) }
     requires me { me < config.roles.sizes.nodes }
     ensures new { IfOk result (λ r. r.0.node.history ≡ []) }
     ensures fits { IfOk result (λ r. Fits r.0 r.1) }
 {
     let node = Node::new(alloc, config, me)?;
-    let (shared, mut seats) = SharedNode::<L>::new(alloc, blank, node, SEATS)?;
-    let mut seat = seats.pop().ok_or(AllocError)?;
+    let (shared, mut others) = SharedNode::<L>::new(alloc, blank, node, seats)?;
+    let mut seat = others.pop().ok_or(AllocError)?;
     match new_locked(shared, &mut seat) {
-        Ok(locked) => Ok((locked, seat, seats)),
+        Ok(locked) => Ok((locked, seat, others)),
         Err(NotNew) => Err(AllocError),
     }
 }
@@ -125,38 +129,43 @@ pub struct Sight {
     pub is_torn: bool,
 }
 
-/// Looks at the journal of a node, and changes nothing.
+/// Looks at the journal of a node with so many seats, and changes nothing.
 ///
 /// # Errors
 ///
 /// As [`restored`].
 pub fn look<D: Disk + Drop>(
     alloc: Global,
+    seats: u8,
     config: Config,
     me: NodeName,
     key: &[u8; 32],
     files: &mut Files<D>,
 ) -> Result<Sight, KeptFault>
+    requires seats { (0 < seats) × (seats ≤ most_seats) }
     requires me { me < config.roles.sizes.nodes }
     requires beside { IsTrue (D.Disk.is_usable files.old.log) }
     requires usable { IsTrue (D.Disk.is_usable files.old.db) }
     ensures seen { D.Disk.seen files.new.db ≡ D.Disk.seen files.old.db }
     ensures crash { (c : List ℕ) → D.Disk.may_leave files.new.db c → D.Disk.may_leave files.old.db c }
 {
-    look_at::<Brand, D>(alloc, Blank::new(u64::from(SEATS)), config, me, key, files)
+    let blank = Blank::new(u64::from(seats));
+    look_at::<Brand, D>(alloc, blank, seats, config, me, key, files)
 }
 
 /// The same at a ledger with one part for each seat.
 fn look_at<L: Ledger, D: Disk + Drop>(
     alloc: Global,
     blank: Blank,
+    seats: u8,
     config: Config,
     me: NodeName,
     key: &[u8; 32],
     files: &mut Files<D>,
 ) -> Result<Sight, KeptFault>
     requires name { blank.name ≡ L.name }
-    requires parts { (blank.parts ≡ L.parts) × (SEATS ≡ L.parts) }
+    requires parts { (blank.parts ≡ L.parts) × (seats ≡ L.parts) }
+    requires seats { (0 < seats) × (seats ≤ most_seats) }
     requires me { me < config.roles.sizes.nodes }
     requires beside { IsTrue (D.Disk.is_usable files.old.log) }
     requires usable { IsTrue (D.Disk.is_usable files.old.db) }
@@ -171,7 +180,7 @@ fn look_at<L: Ledger, D: Disk + Drop>(
         found.end as usize,
         found.size as usize,
     )?;
-    let (mut locked, mut seat, _seats) = fresh::<L>(alloc, blank, config, me)?;
+    let (mut locked, mut seat, _others) = fresh::<L>(alloc, blank, seats, config, me)?;
     match replay_events(&mut locked, &mut seat, &found.digits) {
         Ok(events) => Ok(Sight {
             events,

@@ -19,7 +19,7 @@ pub struct Journaled<L: Ledger, D: Disk> {
 impl<L: Ledger + Send + Sync, D: Disk> HeldNode for Journaled<L, D> {
     ghost use Rattle.std.specs.Prelude.{◌≡◌, ◌≤◌, option_map};
     ghost use Rattle.kept_node.specs.Keeping as keeping;
-    ghost use Rattle.tundelca.specs.Keeping.{said_of, MayLeave};
+    ghost use Rattle.node_journal.specs.Keeping.{said_of, MayLeave};
 
     type Ledger = L;
 
