@@ -19,10 +19,11 @@ use std::collections::VecDeque;
 use std::mem;
 use std::sync::Wait;
 
-/// The most jobs that a worker takes at once: where a sync may take long, about as many as come meanwhile. A journal has
-/// room for 1,024 between two syncs.
+/// The most jobs that a worker takes at once: where a sync may take long, about as many as come meanwhile. A journal
+/// has room for 1,024 between two syncs.
 pub fn most_batch<N: HeldNode>() -> usize
-    ensures { result ≤ 960 }
+    ensures least { 192 ≤ result }
+    ensures most { result ≤ 960 }
 {
     if N::may_sync_long() { 960 } else { 192 }
 }

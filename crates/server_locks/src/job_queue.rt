@@ -38,8 +38,8 @@ impl<'a> JobQueue<'a> {
         self.inbox.put(rt, &mut self.pass, job)
     }
 
-    /// Puts a job into the inbox. Where that has no room `ring` tells those who do the jobs of it, and this thread tries
-    /// again, as long as `ring` says that they do any. Whether it is put.
+    /// Puts a job into the inbox. Where that has no room `ring` tells those who do the jobs of it, and this thread
+    /// tries again, as long as `ring` says that they do any. Whether it is put.
     pub fn put_patiently<R: Wait + Clock, F: Fn() -> bool>(
         &mut self,
         rt: &R,

@@ -2,7 +2,8 @@
 //! client's place, and turns at the node; and what one thread has: its way into the inbox, what comes before the inbox,
 //! a client's stream.
 //!
-//! `specs/Counts.antt` says which frames are lost and when a connection is given up, `Turns.antt` whose turn is next.
+//! `specs/Counts.antt` says which frames are lost and when a connection is given up, `Jobs.antt` which jobs are put,
+//! `Turns.antt` whose turn is next.
 #![tactic(auto)]
 
 mod client_stream;
