@@ -1,6 +1,6 @@
 //! The way of jobs into the inbox and out of it.
 
-ghost use Rattle.std.specs.Prelude.{◌≡◌, ◌++◌, All, IsTrue, IsFalse, OnOk, OnErr, OnSome, MatchOption};
+ghost use Rattle.std.specs.Prelude.{◌≡◌, ◌++◌, ◌-◌, ◌^◌, All, IsTrue, IsFalse, OnOk, OnErr, OnSome, IfSome, MatchOption, length, min};
 ghost use Rattle.node_lock.specs.Inboxes.{IsPassTo, IsNewPassTo, after_put, after_take};
 ghost use Rattle.server_locks.specs.Jobs.{own_jobs, peer_job};
 
@@ -91,8 +91,10 @@ impl<'a> JobQueue<'a> {
         messages: &[Message],
     ) -> Option<u32>
         requires ring { F.IsAlwaysCallable ring.now }
-        ensures { OnSome result
+        ensures put { OnSome result
             (self.new.pass.put ≡ self.old.pass.put ++ own_jobs number me messages.now) }
+        ensures count { IfSome result
+            (λ count. count ≡ min (length (own_jobs number me messages.now)) (2 ^ 32 - 1)) }
     {
         let mut count = 0u32;
         for message in messages {
