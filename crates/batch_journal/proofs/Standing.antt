@@ -325,6 +325,9 @@ head_or_zero (x ∷ whole) rest (c ∷ left) f = step (nat_eq c x) refl (head_or
         let none : agreeing (x ∷ whole) (c ∷ left) ≡ 0 = rw e refl in
         inr (ap (λ n. get_or (c ∷ left) n 0) none ∙ zero_or_same c x f.0 e)
 
+seam : (c x : ℕ) (left whole b : List ℕ) → c ≡ x → left ≡ whole ++ b → c ∷ left ≡ x ∷ (whole ++ b)
+seam c x left whole b same e = ap (λ y. y ∷ left) same ∙ ap (λ (l : List ℕ). x ∷ l) e
+
 fades_behind : (whole rest left : List ℕ) → Fades (whole ++ rest) left → agreeing whole left ≡ length whole →
     (b : List ℕ) × (left ≡ whole ++ b) × Fades rest b
 fades_behind [] rest left f all = (left, refl, f)
@@ -333,13 +336,20 @@ fades_behind (x ∷ whole) rest (c ∷ left) f all =
     let same : c ≡ x = grind (arith, nat_tests) in
     let more : agreeing whole left ≡ length whole = grind (arith, nat_tests) in
     let b = fades_behind whole rest left f.1 more in
-    (b.0, ap (λ y. y ∷ left) same ∙ ap (λ (l : List ℕ). x ∷ l) b.1, b.2)
+    (b.0, seam c x left whole b.0 same b.1, b.2)
 
 -- a head begins with no 0
 no_head : (key : List ℕ) (head : Head) (bytes : List ℕ) → get_or bytes 0 0 ≡ 0 → agreeing (head_of key head) bytes ≡ 0
 unfolding head_of opened_head
 no_head key head [] e = refl
 no_head key head (c ∷ bytes) e = let other : nat_eq c 249 ≡ false = differs c 249 (omega (arith, e)) in rw other refl
+
+-- a head with faded zeros behind it is an empty journal
+empty_stands : (key : List ℕ) (head : Head) (count : ℕ) (left rest : List ℕ) → left ≡ head_of key head ++ rest →
+    room_behind ≤ count → Fades (replicate count 0) rest → reading key head left ≡ Ok []
+empty_stands key head count left rest is room f =
+    ap (reading key head) (is ∙ ap (λ (l : List ℕ). l ++ rest) (sym (append-nil (head_of key head))))
+    ∙ zeros_stand key head [] count rest tt room f
 
 -- what a crash leaves of a file on which a head was begun is an empty journal, or none
 pub begun_stands : (key : List ℕ) (head : Head) (left : List ℕ) → IsBegun (head_of key head) left →
@@ -369,7 +379,6 @@ begun_stands key head left (inr (inr p)) = step (nat_eq (agreeing whole left) (l
     step true e =
         let all : agreeing whole left ≡ length whole = grind (arith, nat_tests) in
         let b = fades_behind whole (replicate p.count 0) left fades all in
-        inl (ap (reading key head) (b.1 ∙ ap (λ (l : List ℕ). l ++ b.0) (sym (append-nil whole)))
-        ∙ zeros_stand key head [] p.count b.0 tt p.room b.2)
+        inl (empty_stands key head p.count left b.0 b.1 p.room b.2)
     step false e = inr (⊎_elim (λ all. absurd (not_same (agreeing whole left) (length whole) all e))
         (λ none. reading_cut key head left e none) (head_or_zero whole (replicate p.count 0) left fades))

@@ -1,29 +1,17 @@
 -- What the calls of a kept node make of its fields.
-use Rattle.std.proofs.Common.{◌≡◌, ℕ, ◌+◌, ◌-◌, ◌<◌, ◌≤◌, Bool, true, false, Option, Some, List, [], ◌∷◌, ◌++◌}
-use Rattle.std.proofs.Common.{length, take, ap, sym, ◌∙◌, subst, arith, append-nil, inl, inr, ⊎_elim}
-use Rattle.std.proofs.Common.{Result, Ok, Err, length-append}
-use Rattle.std.specs.Prelude.{IsTrue, IfSome, IfErr, OnOk, OnErr, is_err, nat_le}
-use Rattle.std.proofs.Math.Seq.{take-append_seam}
+use Rattle.std.proofs.Common.{◌≡◌, ℕ, ◌+◌, ◌-◌, ◌<◌, ◌≤◌, Bool, false, Option, Some, List, [], ◌∷◌, ◌++◌}
+use Rattle.std.proofs.Common.{length, ap, sym, ◌∙◌, subst, arith, inl, inr}
+use Rattle.std.proofs.Common.{Result, Err, length-append}
+use Rattle.std.specs.Prelude.{IfSome, IfErr, OnErr, nat_le}
 use Rattle.std.proofs.lemmas.Bool.{cases_lt}
 use Rattle.std.proofs.lemmas.Bool.Decides.{nat_tests}
-use Rattle.sqlite_disk.specs.declared.files.Files.{Files}
-use Rattle.batch_journal.specs.Faults.{IsRefused}
-use Rattle.batch_journal.specs.Journals as journals
-use Rattle.batch_journal.specs.Journals.{JournalValue, LeavesTheSame}
-use Rattle.batch_journal.specs.Readings.{reading}
-use Rattle.batch_journal.specs.declared.fault.JournalFault.{JournalFault}
-use Rattle.batch_journal.specs.declared.fault.JournalFault.TheVariants as journal_fault
-use Rattle.batch_journal.specs.declared.head.Head.{Head}
-use Rattle.role_node.specs.Configs.{ConfigValue}
+use Rattle.batch_journal.specs.Journals.{JournalValue}
 use Rattle.role_node.specs.declared.event.Event.{Event}
 use Rattle.node_lock.specs.Holds.{Held, end_of}
 use Rattle.node_lock.specs.Seats.{Sitting}
 use Rattle.node_lock.specs.Views.{held_after_hold}
 use Rattle.node_lock.specs.declared.receipt.Call.{Call}
 use Rattle.kept_node.specs.Events.{IsEvent, event_digits}
-use Rattle.kept_node.specs.NodeHeads.{IsHeadOf}
-use Rattle.kept_node.specs.Restoring.{IsUnrestored, LeavesAsBefore}
-use Rattle.kept_node.specs.declared.fault.Unrestored.TheVariants.{Unopened}
 use Rattle.kept_node.specs.inside.Fields.{IsKept, event_in}
 use Rattle.kept_node.proofs.HeldLemmas.{held_put, held_same, recorded_is_of}
 use Rattle.kept_node.proofs.KeptLemmas.{kept_put}
@@ -37,23 +25,8 @@ at_err {T} {E} r x P e h = subst (λ (q : Result T E). IfErr q P) e h
 pub on_err : {T E : Type 0} (r : Result T E) (x : E) (P : Type 0) → r ≡ Err x → OnErr r P → P
 on_err {T} {E} r x P e h = subst (λ (q : Result T E). OnErr q P) e h
 
-pub not_err : {T E : Type 0} (r : Result T E) (b : Bool) (P : Type 0) → OnOk r P → b ≡ is_err r → b ≡ false → P
-not_err (Ok x) b P h e f = h
-not_err (Err x) b P h e f = let apart : true ≡ false = sym e ∙ f in absurd cc
-
 room_left : (waits : ℕ) → nat_le 1024 waits ≡ false → waits < 1024
 room_left waits h = grind (arith, nat_tests)
-
-pub unopened_leaves : (key : List ℕ) (config : ConfigValue) (me : ℕ) (head : Head) (file : List ℕ)
-    (old new : List ℕ → Type 0) → IsHeadOf config me head → LeavesTheSame key head file old new →
-    LeavesAsBefore key config me file old new
-unopened_leaves key config me head file old new names leaves c may =
-    ⊎_elim (λ was. inl was) (λ same. inr (head, names, same)) (leaves c may)
-
-pub head_names : (config told : ConfigValue) (me name : ℕ) (head : Head) → told ≡ config → name ≡ me →
-    IsHeadOf told name head → IsHeadOf config me head
-head_names config told me name head c n h =
-    subst (λ (x : ConfigValue). IsHeadOf x me head) c (subst (λ (x : ℕ). IsHeadOf told x head) n h)
 
 module _ {D : Type 0} where
   -- after a hold
@@ -109,26 +82,3 @@ module _ {D : Type 0} where
             survives = k.survives;
             written = k.written;
           })))
-
-  -- ---- why a node is not restored, and what is then left
-
-  pub unopened_is : (seen : D → List ℕ) (faults : D → ℕ) (is_clean is_mixing : D → Bool) (key : List ℕ)
-      (config : ConfigValue) (me : ℕ) (old files : Files D) (head : Head) (fault : JournalFault) →
-      IsHeadOf config me head → IsRefused seen faults is_clean is_mixing key head old files fault →
-      IsUnrestored seen faults is_clean is_mixing key config me old (Unopened fault files)
-  unopened_is seen faults is_clean is_mixing key config me old files head journal_fault.Memory names refused = tt
-  unopened_is seen faults is_clean is_mixing key config me old files head fault names refused = (head, names, refused)
-
-  -- of a journal that was opened
-  pub opened_leaves : (may_leave : D → List ℕ → Type 0) (is_clean : D → Bool) (j : JournalValue D) (config :
-      ConfigValue)
-      (me : ℕ) (file : List ℕ) (old : List ℕ → Type 0) → IsHeadOf config me j.head →
-      journals.Survives may_leave is_clean j → j.synced ≡ length j.batches → IsTrue (is_clean j.disk) →
-      reading j.key j.head file ≡ Ok j.batches → LeavesAsBefore j.key config me file old (may_leave j.disk)
-  opened_leaves may_leave is_clean j config me file old names survives settled clean reads c may =
-      let f = survives clean c may in
-      let all : f.count ≡ length j.batches = omega (arith, f.enough, f.within, settled) in
-      let same : take f.count j.batches ≡ j.batches =
-      ap (λ n. take n j.batches) all ∙ ap (take (length j.batches)) (sym (append-nil j.batches))
-      ∙ take-append_seam j.batches [] in
-      inr (j.head, names, f.is ∙ ap Ok same ∙ sym reads)

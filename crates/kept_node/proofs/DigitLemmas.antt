@@ -81,6 +81,12 @@ pub then_some : {A B : Type 0} (f : A → Option B) (o : Option A) (b : B) → o
 then_some f None b e = absurd cc
 then_some f (Some a) b e = (a, refl, e)
 
+-- what follows of a value that was there, whatever it is
+pub then_by : {A B P : Type 0} (f : A → Option B) (o : Option A) (b : B) → option_and_then f o ≡ Some b →
+    ((a : A) → o ≡ Some a → f a ≡ Some b → P) → P
+then_by f None b e k = absurd cc
+then_by f (Some a) b e k = k a refl e
+
 pub some_pair : {A B : Type 0} (a c : A) (b d : B) → ◌≡◌ {A = Option (A × B)} (Some (a, b)) (Some (c, d)) →
     (a ≡ c) × (b ≡ d)
 some_pair {A} {B} a c b d e =

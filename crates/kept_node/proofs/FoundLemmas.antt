@@ -22,7 +22,7 @@ use Rattle.kept_node.specs.Events.{behind_number, event_digits, IsAct, IsEventOf
 use Rattle.kept_node.specs.inside.EventReading.{number_at, name_at, role_and_user_at, permission_at}
 use Rattle.kept_node.specs.inside.EventReading.{session_and_role_at, command_at, packet_at, act_at}
 use Rattle.kept_node.specs.inside.EventReading.{numbered_event, event_at}
-use Rattle.kept_node.proofs.DigitLemmas.{read_found, then_some, some_is, mapped, chosen}
+use Rattle.kept_node.proofs.DigitLemmas.{read_found, then_by, some_is, mapped, chosen}
 use Rattle.kept_node.proofs.ReadingLemmas.{routed_to}
 
 -- so many digits of a number below a limit, and then others
@@ -37,15 +37,15 @@ name_found : (s : Counts) (digits : List ℕ) (r : ℕ × List ℕ) → name_at 
     (digits ≡ digits_of 2 r.0 ++ r.1) × (r.0 < s.nodes)
 unfolding name_at
 name_found s digits r e =
-    let index = then_some {A = ℕ × List ℕ} {B = ℕ × List ℕ}
-    (λ i. option_and_then {U = ℕ × List ℕ} (λ (name : ℕ). Some (name, i.1)) (name_due s i.0)) (number_at 2 127
-    digits) r e in
-    let name = then_some {A = ℕ} {B = ℕ × List ℕ} (λ name. Some (name, index.0.1)) (name_due s index.0.0) r index.2 in
-    let found = number_found 2 127 digits index.0 index.1 in
-    let there = due index.0.0 name.0 name.1 in
+    then_by {A = ℕ × List ℕ} {B = ℕ × List ℕ} (λ i.
+    option_and_then {U = ℕ × List ℕ} (λ (name : ℕ). Some (name, i.1)) (name_due s i.0)) (number_at 2 127 digits) r e
+    (λ index index_is e1. then_by {A = ℕ} {B = ℕ × List ℕ} (λ name. Some (name, index.1)) (name_due s index.0) r e1
+    (λ name name_is e2.
+    let found = number_found 2 127 digits index index_is in
+    let there = due index.0 name name_is in
     let P : ℕ × List ℕ → Type 0 = λ x. (digits ≡ digits_of 2 x.0 ++ x.1) × (x.0 < s.nodes) in
-    subst P (some_is (name.0, index.0.1) r name.2)
-    (subst (λ (n : ℕ). digits ≡ digits_of 2 n ++ index.0.1) there.0 found.0, there.1)
+    subst P (some_is (name, index.1) r e2)
+    (subst (λ (n : ℕ). digits ≡ digits_of 2 n ++ index.1) there.0 found.0, there.1)))
   where
     due : (i n : ℕ) → name_due s i ≡ Some n → (i ≡ n) × (n < s.nodes)
     due i n e = go (nat_lt i s.nodes) refl e
@@ -61,21 +61,21 @@ role_and_user_found : (digits : List ℕ) (r : (ℕ × ℕ) × List ℕ) → rol
     (digits ≡ (digits_of 3 r.0.0 ++ digits_of 5 r.0.1) ++ r.1) × (r.0.0 < 2 ^ 16) × (r.0.1 < 2 ^ 32)
 unfolding role_and_user_at
 role_and_user_found digits r e =
-    let role = then_some {A = ℕ × List ℕ} {B = (ℕ × ℕ) × List ℕ} (λ role. option_and_then {U = (ℕ × ℕ) × List ℕ}
+    then_by {A = ℕ × List ℕ} {B = (ℕ × ℕ) × List ℕ} (λ role. option_and_then {U = (ℕ × ℕ) × List ℕ}
     (λ (user : ℕ × List ℕ). Some ((role.0, user.0), user.1)) (number_at 5 4294967295 role.1))
-    (number_at 3 65535 digits) r e in
-    let user = then_some {A = ℕ × List ℕ} {B = (ℕ × ℕ) × List ℕ} (λ user. Some ((role.0.0, user.0), user.1))
-    (number_at 5 4294967295 role.0.1) r role.2 in
-    let a = number_found 3 65535 digits role.0 role.1 in
-    let b = number_found 5 4294967295 role.0.1 user.0 user.1 in
+    (number_at 3 65535 digits) r e (λ role role_is e1.
+    then_by {A = ℕ × List ℕ} {B = (ℕ × ℕ) × List ℕ} (λ user. Some ((role.0, user.0), user.1))
+    (number_at 5 4294967295 role.1) r e1 (λ user user_is e2.
+    let a = number_found 3 65535 digits role role_is in
+    let b = number_found 5 4294967295 role.1 user user_is in
     let P : (ℕ × ℕ) × List ℕ → Type 0 =
     λ x. (digits ≡ (digits_of 3 x.0.0 ++ digits_of 5 x.0.1) ++ x.1) × (x.0.0 < 2 ^ 16) × (x.0.1 < 2 ^ 32) in
-    subst P (some_is ((role.0.0, user.0.0), user.0.1) r user.2) (
-      a.0 ∙ ap (λ (l : List ℕ). digits_of 3 role.0.0 ++ l) b.0
-          ∙ sym (append_assoc (digits_of 3 role.0.0) (digits_of 5 user.0.0) user.0.1),
+    subst P (some_is ((role.0, user.0), user.1) r e2) (
+      a.0 ∙ ap (λ (l : List ℕ). digits_of 3 role.0 ++ l) b.0
+          ∙ sym (append_assoc (digits_of 3 role.0) (digits_of 5 user.0) user.1),
       omega (arith, a.1),
       omega (arith, b.1),
-    )
+    )))
 
 -- three numbers, one behind the other
 three_found : (w v u m n k : ℕ) (digits : List ℕ) (a b c : ℕ × List ℕ) → Reads w m digits a → Reads v n a.1 b →
@@ -90,58 +90,59 @@ permission_found : (digits : List ℕ) (r : (ℕ × ℕ × ℕ) × List ℕ) →
     × (r.0.0 < 2 ^ 16) × (r.0.1 < 2 ^ 16) × (r.0.2 < 2 ^ 32)
 unfolding permission_at
 permission_found digits r e =
-    let role = then_some {A = ℕ × List ℕ} {B = (ℕ × ℕ × ℕ) × List ℕ} (λ role.
+    then_by {A = ℕ × List ℕ} {B = (ℕ × ℕ × ℕ) × List ℕ} (λ role.
     option_and_then {U = (ℕ × ℕ × ℕ) × List ℕ} (λ (operation : ℕ × List ℕ).
     option_and_then {U = (ℕ × ℕ × ℕ) × List ℕ} (λ (object : ℕ × List ℕ).
     Some ((role.0, operation.0, object.0), object.1)) (number_at 5 4294967295 operation.1))
-    (number_at 3 65535 role.1)) (number_at 3 65535 digits) r e in
-    let operation = then_some {A = ℕ × List ℕ} {B = (ℕ × ℕ × ℕ) × List ℕ} (λ operation.
+    (number_at 3 65535 role.1)) (number_at 3 65535 digits) r e (λ role role_is e1.
+    then_by {A = ℕ × List ℕ} {B = (ℕ × ℕ × ℕ) × List ℕ} (λ operation.
     option_and_then {U = (ℕ × ℕ × ℕ) × List ℕ} (λ (object : ℕ × List ℕ).
-    Some ((role.0.0, operation.0, object.0), object.1)) (number_at 5 4294967295 operation.1))
-    (number_at 3 65535 role.0.1) r role.2 in
-    let object = then_some {A = ℕ × List ℕ} {B = (ℕ × ℕ × ℕ) × List ℕ} (λ object.
-    Some ((role.0.0, operation.0.0, object.0), object.1)) (number_at 5 4294967295 operation.0.1) r operation.2 in
-    let a = number_found 3 65535 digits role.0 role.1 in
-    let b = number_found 3 65535 role.0.1 operation.0 operation.1 in
-    let c = number_found 5 4294967295 operation.0.1 object.0 object.1 in
+    Some ((role.0, operation.0, object.0), object.1)) (number_at 5 4294967295 operation.1))
+    (number_at 3 65535 role.1) r e1 (λ operation operation_is e2.
+    then_by {A = ℕ × List ℕ} {B = (ℕ × ℕ × ℕ) × List ℕ} (λ object.
+    Some ((role.0, operation.0, object.0), object.1)) (number_at 5 4294967295 operation.1) r e2
+    (λ object object_is e3.
+    let a = number_found 3 65535 digits role role_is in
+    let b = number_found 3 65535 role.1 operation operation_is in
+    let c = number_found 5 4294967295 operation.1 object object_is in
     let P : (ℕ × ℕ × ℕ) × List ℕ → Type 0 =
     λ x. (digits ≡ ((digits_of 3 x.0.0 ++ digits_of 3 x.0.1) ++ digits_of 5 x.0.2) ++ x.1)
     × (x.0.0 < 2 ^ 16) × (x.0.1 < 2 ^ 16) × (x.0.2 < 2 ^ 32) in
-    subst P (some_is ((role.0.0, operation.0.0, object.0.0), object.0.1) r object.2) (
-      three_found 3 3 5 65535 65535 4294967295 digits role.0 operation.0 object.0 a b c,
+    subst P (some_is ((role.0, operation.0, object.0), object.1) r e3) (
+      three_found 3 3 5 65535 65535 4294967295 digits role operation object a b c,
       omega (arith, a.1),
       omega (arith, b.1),
       omega (arith, c.1),
-    )
+    ))))
 
 session_and_role_found : (digits : List ℕ) (r : (ℕ × ℕ × ℕ) × List ℕ) → session_and_role_at digits ≡ Some r →
     (digits ≡ ((digits_of 10 r.0.0 ++ digits_of 5 r.0.1) ++ digits_of 3 r.0.2) ++ r.1)
     × (r.0.0 < 2 ^ 64) × (r.0.1 < 2 ^ 32) × (r.0.2 < 2 ^ 16)
 unfolding session_and_role_at
 session_and_role_found digits r e =
-    let session = then_some {A = ℕ × List ℕ} {B = (ℕ × ℕ × ℕ) × List ℕ} (λ session.
+    then_by {A = ℕ × List ℕ} {B = (ℕ × ℕ × ℕ) × List ℕ} (λ session.
     option_and_then {U = (ℕ × ℕ × ℕ) × List ℕ} (λ (user : ℕ × List ℕ).
     option_and_then {U = (ℕ × ℕ × ℕ) × List ℕ} (λ (role : ℕ × List ℕ).
     Some ((session.0, user.0, role.0), role.1)) (number_at 3 65535 user.1))
-    (number_at 5 4294967295 session.1)) (number_at 10 18446744073709551615 digits) r e in
-    let user = then_some {A = ℕ × List ℕ} {B = (ℕ × ℕ × ℕ) × List ℕ} (λ user.
+    (number_at 5 4294967295 session.1)) (number_at 10 18446744073709551615 digits) r e (λ session session_is e1.
+    then_by {A = ℕ × List ℕ} {B = (ℕ × ℕ × ℕ) × List ℕ} (λ user.
     option_and_then {U = (ℕ × ℕ × ℕ) × List ℕ} (λ (role : ℕ × List ℕ).
-    Some ((session.0.0, user.0, role.0), role.1)) (number_at 3 65535 user.1))
-    (number_at 5 4294967295 session.0.1) r session.2 in
-    let role = then_some {A = ℕ × List ℕ} {B = (ℕ × ℕ × ℕ) × List ℕ} (λ role.
-    Some ((session.0.0, user.0.0, role.0), role.1)) (number_at 3 65535 user.0.1) r user.2 in
-    let a = number_found 10 18446744073709551615 digits session.0 session.1 in
-    let b = number_found 5 4294967295 session.0.1 user.0 user.1 in
-    let c = number_found 3 65535 user.0.1 role.0 role.1 in
+    Some ((session.0, user.0, role.0), role.1)) (number_at 3 65535 user.1))
+    (number_at 5 4294967295 session.1) r e1 (λ user user_is e2.
+    then_by {A = ℕ × List ℕ} {B = (ℕ × ℕ × ℕ) × List ℕ} (λ role.
+    Some ((session.0, user.0, role.0), role.1)) (number_at 3 65535 user.1) r e2 (λ role role_is e3.
+    let a = number_found 10 18446744073709551615 digits session session_is in
+    let b = number_found 5 4294967295 session.1 user user_is in
+    let c = number_found 3 65535 user.1 role role_is in
     let P : (ℕ × ℕ × ℕ) × List ℕ → Type 0 =
     λ x. (digits ≡ ((digits_of 10 x.0.0 ++ digits_of 5 x.0.1) ++ digits_of 3 x.0.2) ++ x.1)
     × (x.0.0 < 2 ^ 64) × (x.0.1 < 2 ^ 32) × (x.0.2 < 2 ^ 16) in
-    subst P (some_is ((session.0.0, user.0.0, role.0.0), role.0.1) r role.2) (
-      three_found 10 5 3 18446744073709551615 4294967295 65535 digits session.0 user.0 role.0 a b c,
+    subst P (some_is ((session.0, user.0, role.0), role.1) r e3) (
+      three_found 10 5 3 18446744073709551615 4294967295 65535 digits session user role a b c,
       omega (arith, a.1),
       omega (arith, b.1),
       omega (arith, c.1),
-    )
+    ))))
 
 -- what is read as a command is behind its number
 abbrev CommandRead : ℕ → List ℕ → Command × List ℕ → Type 0
@@ -250,20 +251,20 @@ act_found number digits r e =
         (number_at 5 4294967295 session.1))
         (number_at 10 18446744073709551615 digits) ≡ Some r) → ActRead number digits r
     closes h =
-        let session = then_some {A = ℕ × List ℕ} {B = ClientEvent × List ℕ} (λ session.
+        then_by {A = ℕ × List ℕ} {B = ClientEvent × List ℕ} (λ session.
         option_and_then {U = ClientEvent × List ℕ} (λ (user : ℕ × List ℕ). Some (Close session.0 user.0, user.1))
-        (number_at 5 4294967295 session.1)) (number_at 10 18446744073709551615 digits) r h.1 in
-        let user = then_some {A = ℕ × List ℕ} {B = ClientEvent × List ℕ} (λ user.
-        Some (Close session.0.0 user.0, user.1)) (number_at 5 4294967295 session.0.1) r session.2 in
-        let a = number_found 10 18446744073709551615 digits session.0 session.1 in
-        let b = number_found 5 4294967295 session.0.1 user.0 user.1 in
+        (number_at 5 4294967295 session.1)) (number_at 10 18446744073709551615 digits) r h.1 (λ session session_is e1.
+        then_by {A = ℕ × List ℕ} {B = ClientEvent × List ℕ} (λ user. Some (Close session.0 user.0, user.1))
+        (number_at 5 4294967295 session.1) r e1 (λ user user_is e2.
+        let a = number_found 10 18446744073709551615 digits session session_is in
+        let b = number_found 5 4294967295 session.1 user user_is in
         let is : number ≡ 23 = grind (arith, nat_tests, h.0) in
-        subst (ActRead number digits) (some_is (Close session.0.0 user.0.0, user.0.1) r user.2) (
+        subst (ActRead number digits) (some_is (Close session.0 user.0, user.1) r e2) (
           is,
-          a.0 ∙ ap (λ (l : List ℕ). digits_of 10 session.0.0 ++ l) b.0
-              ∙ sym (append_assoc (digits_of 10 session.0.0) (digits_of 5 user.0.0) user.0.1),
+          a.0 ∙ ap (λ (l : List ℕ). digits_of 10 session.0 ++ l) b.0
+              ∙ sym (append_assoc (digits_of 10 session.0) (digits_of 5 user.0) user.1),
           (omega (arith, a.1), omega (arith, b.1)),
-        )
+        )))
 
     none : ((number == 23) ≡ false) × (None ≡ Some r) → ActRead number digits r
     none h = let e = h.1 in absurd cc
@@ -281,40 +282,36 @@ packet_found : (s : Counts) (me : ℕ) (kind : Kind) (number : ℕ) (digits : Li
     packet_at s me kind number digits ≡ Some r → PacketRead s me kind number digits r
 unfolding packet_at
 packet_found s me kind number digits r e =
-    let R : Type 0 = PacketValue × List ℕ in
-    let from = then_some {A = ℕ × List ℕ} {B = PacketValue × List ℕ} (λ from.
+    then_by {A = ℕ × List ℕ} {B = PacketValue × List ℕ} (λ from.
     option_and_then {U = PacketValue × List ℕ} (λ (owner : ℕ × List ℕ).
     option_and_then {U = PacketValue × List ℕ} (λ (place : ℕ × List ℕ).
     option_and_then {U = PacketValue × List ℕ} (λ (command : Command × List ℕ).
     option_and_then {U = PacketValue × List ℕ} (λ (packet : PacketValue). Some (packet, command.1))
     (packet_due from.0 me (record { kind = kind; owner = owner.0; place = place.0; command = command.0 })))
-    (command_at number place.1)) (number_at 3 1048575 owner.1)) (name_at s from.1)) (name_at s digits) r e in
-    let owner = then_some {A = ℕ × List ℕ} {B = PacketValue × List ℕ} (λ owner.
+    (command_at number place.1)) (number_at 3 1048575 owner.1)) (name_at s from.1)) (name_at s digits) r e
+    (λ from from_is e1. then_by {A = ℕ × List ℕ} {B = PacketValue × List ℕ} (λ owner.
     option_and_then {U = PacketValue × List ℕ} (λ (place : ℕ × List ℕ).
     option_and_then {U = PacketValue × List ℕ} (λ (command : Command × List ℕ).
     option_and_then {U = PacketValue × List ℕ} (λ (packet : PacketValue). Some (packet, command.1))
-    (packet_due from.0.0 me (record { kind = kind; owner = owner.0; place = place.0; command = command.0 })))
-    (command_at number place.1)) (number_at 3 1048575 owner.1)) (name_at s from.0.1) r from.2 in
-    let place = then_some {A = ℕ × List ℕ} {B = PacketValue × List ℕ} (λ place.
+    (packet_due from.0 me (record { kind = kind; owner = owner.0; place = place.0; command = command.0 })))
+    (command_at number place.1)) (number_at 3 1048575 owner.1)) (name_at s from.1) r e1
+    (λ owner owner_is e2. then_by {A = ℕ × List ℕ} {B = PacketValue × List ℕ} (λ place.
     option_and_then {U = PacketValue × List ℕ} (λ (command : Command × List ℕ).
     option_and_then {U = PacketValue × List ℕ} (λ (packet : PacketValue). Some (packet, command.1))
-    (packet_due from.0.0 me (record { kind = kind; owner = owner.0.0; place = place.0; command = command.0 })))
-    (command_at number place.1)) (number_at 3 1048575 owner.0.1) r owner.2 in
-    let command = then_some {A = Command × List ℕ} {B = PacketValue × List ℕ} (λ command.
+    (packet_due from.0 me (record { kind = kind; owner = owner.0; place = place.0; command = command.0 })))
+    (command_at number place.1)) (number_at 3 1048575 owner.1) r e2
+    (λ place place_is e3. then_by {A = Command × List ℕ} {B = PacketValue × List ℕ} (λ command.
     option_and_then {U = PacketValue × List ℕ} (λ (packet : PacketValue). Some (packet, command.1))
-    (packet_due from.0.0 me (record { kind = kind; owner = owner.0.0; place = place.0.0; command = command.0 })))
-    (command_at number place.0.1) r place.2 in
-    let packet = then_some {A = PacketValue} {B = PacketValue × List ℕ} (λ packet. Some (packet, command.0.1))
-    (packet_due from.0.0 me
-    (record { kind = kind; owner = owner.0.0; place = place.0.0; command = command.0.0 })) r command.2 in
-    let f = name_found s digits from.0 from.1 in
-    let o = name_found s from.0.1 owner.0 owner.1 in
-    let p = number_found 3 1048575 owner.0.1 place.0 place.1 in
-    let c = command_found number place.0.1 command.0 command.1 in
-    let due = due_takes from.0.0 me
-    (record { kind = kind; owner = owner.0.0; place = place.0.0; command = command.0.0 }) packet.0 packet.1 in
-    subst (PacketRead s me kind number digits) (some_is (packet.0, command.0.1) r packet.2)
-    (made s me kind number digits from.0 owner.0 place.0 command.0 packet.0 f o p c due)
+    (packet_due from.0 me (record { kind = kind; owner = owner.0; place = place.0; command = command.0 })))
+    (command_at number place.1) r e3
+    (λ command command_is e4. then_by {A = PacketValue} {B = PacketValue × List ℕ} (λ packet. Some (packet, command.1))
+    (packet_due from.0 me (record { kind = kind; owner = owner.0; place = place.0; command = command.0 })) r e4
+    (λ packet packet_is e5.
+    subst (PacketRead s me kind number digits) (some_is (packet, command.1) r e5)
+    (made s me kind number digits from owner place command packet (name_found s digits from from_is)
+    (name_found s from.1 owner owner_is) (number_found 3 1048575 owner.1 place place_is)
+    (command_found number place.1 command command_is) (due_takes from.0 me
+    (record { kind = kind; owner = owner.0; place = place.0; command = command.0 }) packet packet_is)))))))
   where
     made : (s : Counts) (me : ℕ) (kind : Kind) (number : ℕ) (digits : List ℕ) (from owner place : ℕ × List ℕ)
         (command : Command × List ℕ) (packet : PacketValue) →
@@ -390,11 +387,11 @@ pub event_found : (s : Counts) (me : ℕ) (digits : List ℕ) (r : Event × List
     (digits ≡ event_digits r.0 ++ r.1) × IsEventOf s me r.0
 unfolding event_at event_digits
 event_found s me digits r e =
-    let number = then_some {A = ℕ × List ℕ} {B = Event × List ℕ} (λ number. numbered_event s me number.0 number.1)
-    (number_at 1 119 digits) r e in
-    let a = number_found 1 119 digits number.0 number.1 in
-    let b = numbered_found s me number.0.0 number.0.1 r number.2 in (
+    then_by {A = ℕ × List ℕ} {B = Event × List ℕ} (λ number. numbered_event s me number.0 number.1)
+    (number_at 1 119 digits) r e (λ number number_is e1.
+    let a = number_found 1 119 digits number number_is in
+    let b = numbered_found s me number.0 number.1 r e1 in (
       a.0 ∙ (λ i. digits_of 1 (b.0 i) ++ b.1 i)
           ∙ sym (append_assoc (digits_of 1 (event_number r.0)) (behind_number r.0) r.1),
       b.2,
-    )
+    ))

@@ -5,6 +5,7 @@ mod HeadLemmas
 mod HeldLemmas
 mod HistoryLemmas
 mod KeptLemmas
+mod OpeningLemmas
 mod ReadLemmas
 mod ReadingLemmas
 mod RestoreLemmas

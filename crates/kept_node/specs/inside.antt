@@ -1,2 +1,3 @@
 pub mod EventReading
 pub mod Fields
+pub mod Opening

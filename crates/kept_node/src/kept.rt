@@ -22,10 +22,9 @@ ghost use Rattle.kept_node.specs.Keeping as keeping;
 ghost use Rattle.kept_node.specs.Keeping.{Survives, StandsFor, node_if_synced};
 ghost use Rattle.kept_node.specs.Restoring.{IsUnrestored, LeavesAsBefore, file_of};
 
-use crate::event_digits::{MOST_EVENT_DIGITS, push_event};
+use crate::event_digits::push_event;
 use crate::fault::Unrestored;
-use crate::head::head_of;
-use crate::replaying::{ReplayFault, replay_events};
+use crate::opening::replay_journal;
 use crate::untold::{Synced, Untold};
 use batch_journal::{Journal, JournalFault};
 use link_frames::{Packet, Place};
@@ -40,9 +39,6 @@ use std::sync::ledger::Ledger;
 
 /// So many events at most are recorded and not yet synced.
 pub const MOST_WAITING: u64 = 1_024;
-
-/// The digits of so many events.
-const WAITING_DIGITS: usize = 1_024 * MOST_EVENT_DIGITS;
 
 /// A locked node with its journal. What a hold records waits for a sync, which writes it, and what a hold said is read
 /// by nobody before that. Whatever a crash leaves is restored as a front of the history that has all that was synced.
@@ -116,31 +112,15 @@ impl<L: Ledger, D: Disk> Kept<L, D> {
             (D.Disk.may_leave (file_of e))) }
     {
         let mut locked = locked;
-        let head = match head_of(alloc, locked.config(), locked.me()) {
-            Ok(head) => head,
-            Err(_) => return Err(wanting(files)),
-        };
-        let waiting = match Vec::with_capacity(alloc, WAITING_DIGITS) {
-            Ok(waiting) => waiting,
-            Err(_) => return Err(wanting(files)),
-        };
-        let (mut journal, digits) = match Journal::open(alloc, files, key, head) {
-            Ok(opened) => opened,
-            Err((fault, files)) => return Err(Unrestored::Unopened { fault, files }),
-        };
-        if journal.make_room(WAITING_DIGITS).is_err() {
-            return Err(Unrestored::Memory { journal });
-        }
-        match replay_events(&mut locked, seat, &digits) {
-            Ok(count) => Ok(Kept {
+        match replay_journal(alloc, &mut locked, seat, key, files) {
+            Ok((journal, waiting, count)) => Ok(Kept {
                 locked,
                 journal,
                 waiting,
                 recorded: count,
                 synced: count,
             }),
-            Err(ReplayFault::Illegal { place }) => Err(Unrestored::Illegal { place, journal }),
-            Err(ReplayFault::Memory) => Err(Unrestored::Memory { journal }),
+            Err(unrestored) => Err(unrestored),
         }
     }
 
@@ -298,16 +278,6 @@ impl<L: Ledger, D: Disk> Kept<L, D> {
             return Ok(());
         }
         pairs.gather(&mut self.locked, seat, now, rooms, owed)
-    }
-}
-
-/// What is handed back where memory is wanting before the journal is opened.
-fn wanting<D: Disk>(files: Files<D>) -> Unrestored<D>
-    ensures { result ≡ Unrestored.Unopened journal_fault.Memory files }
-{
-    Unrestored::Unopened {
-        fault: JournalFault::Memory,
-        files,
     }
 }
 

@@ -11,6 +11,7 @@ mod fault;
 mod head;
 mod kept;
 pub mod laws;
+mod opening;
 mod replaying;
 mod unkept;
 mod untold;
