@@ -1,15 +1,14 @@
 -- What was read under the lock, place by place.
-use Rattle.std.proofs.Common.{◌≡◌, ℕ, zero, suc, ◌+◌, ◌-◌, ◌<◌, ◌≤◌, List, [], ◌∷◌, ◌++◌, length, take, refl, sym, ap}
+use Rattle.std.proofs.Common.{◌≡◌, ℕ, zero, suc, ◌+◌, ◌-◌, ◌≤◌, List, [], ◌∷◌, ◌++◌, length, take, refl, sym, ap}
 use Rattle.std.proofs.Common.{◌∙◌, subst, arith, append-nil, append_assoc, length-append, ◌≢◌}
 use Rattle.std.specs.Prelude.{max}
 use Rattle.std.specs.List.{flat_map, range_with_len}
 use Rattle.std.proofs.lemmas.Grind.{flat_map-append}
 use Rattle.std.proofs.lemmas.List.{length-take, take-take, take_at}
-use Rattle.role_commands.specs.declared.command.Command.{Command}
 use Rattle.link_frames.specs.declared.frames.packet.Message.{Message}
 use Rattle.role_node.specs.Windows.{messages_of}
 use Rattle.role_node.specs.declared.event.NodeAgain.{NodeAgain}
-use Rattle.node_lock.specs.Holds.{Held, Fits, IsMisfit, count_of, seat_after_question, end_of}
+use Rattle.node_lock.specs.Holds.{Held, Fits, count_of, seat_after_question}
 use Rattle.node_lock.specs.Seats.{Sitting}
 use Rattle.node_lock.specs.declared.locked.StepFault.{StepFault}
 use Rattle.node_lock.specs.declared.locked.StepFault.TheVariants.{Behind, Strange, Memory}

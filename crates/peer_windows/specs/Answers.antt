@@ -1,12 +1,11 @@
 -- What a frame of the peer brings.
-use Rattle.std.specs.Prelude.{ℕ, ◌+◌, ◌==◌, Bool, true, false, not, ◌&&◌, nat_le, nat_lt, if◌then◌else◌}
-use Rattle.std.specs.Prelude.{Option, Some, None, min}
+use Rattle.std.specs.Prelude.{ℕ, ◌+◌, ◌==◌, Bool, not, ◌&&◌, nat_le, nat_lt, if◌then◌else◌}
+use Rattle.std.specs.Prelude.{Option, Some, None}
 use Rattle.peer_windows.specs.Pauses.{PauseValue, first_pause, begun, renewed, ended_by}
 use Rattle.peer_windows.specs.Pauses.{longest_answer, longest_beyond, probe_span}
 use Rattle.peer_windows.specs.Pairs.{is_nothing, holding_answers}
 use Rattle.peer_windows.specs.declared.seen.Level.{Level}
-use Rattle.peer_windows.specs.declared.seen.Step.{Step}
-use Rattle.peer_windows.specs.declared.seen.Step.TheVariants.{Nothing, Probe, Tail, Window, Rest}
+use Rattle.peer_windows.specs.declared.seen.Step.TheVariants.{Tail, Window, Rest}
 use Rattle.peer_windows.specs.declared.pair.Pair.{Pair}
 use Rattle.peer_windows.specs.declared.pair.Served.{Served}
 use Rattle.peer_windows.specs.declared.answers.Repeat.{Repeat}

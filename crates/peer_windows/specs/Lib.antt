@@ -4,3 +4,4 @@ pub mod Answers
 pub mod Owners
 pub mod Sent
 pub mod Owed
+pub mod Notes

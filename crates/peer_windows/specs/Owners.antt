@@ -1,8 +1,9 @@
 -- The pairs of owners and peers, and when they are looked at.
 use Rattle.std.specs.Prelude.{ℕ, ◌+◌, Bool, not, ◌&&◌, nat_le, nat_lt, length, if◌then◌else◌}
-use Rattle.std.specs.Prelude.{is_some, List, [], ◌∷◌, ◌++◌, ◌-◌, min, max}
-use Rattle.std.specs.Prelude.{slice_index_or, slice_set}
-use Rattle.peer_windows.specs.Pauses.{first_pause, never, probe_interval}
+use Rattle.std.specs.Prelude.{is_some, List, [], ◌∷◌, ◌++◌, ◌-◌, ◌*◌, ◌/◌, ◌%◌, min, max}
+use Rattle.std.specs.Prelude.{slice_index_or, slice_set, map, replicate}
+use Rattle.std.specs.List.{range_with_len}
+use Rattle.peer_windows.specs.Pauses.{first_pause, never, probe_interval, longest_look}
 use Rattle.peer_windows.specs.Pairs.{is_nothing, new_pair, anew, joined}
 use Rattle.peer_windows.specs.declared.pair.Pair.{Pair}
 
@@ -77,6 +78,38 @@ abbrev pub probed_soon : ℕ → ℕ → PairsValue → PairsValue
 probed_soon now peer a =
     let due = slice_index_or a.probes peer never in
     record a { probes = slice_set a.probes peer (min due (max (due - (probe_interval - 10000)) (now + 500))) }
+
+-- There is a new connection to a peer: its pair with each owner begins anew, the pairs of each owner are looked at now,
+-- and the peer is probed soon.
+abbrev pub connected : ℕ → ℕ → PairsValue → PairsValue
+connected now peer a =
+    probed_soon now peer (record a {
+      pairs = map (λ pairs. with_pair pairs peer (joined now a.longest (pair_in pairs peer))) a.pairs;
+      dues = map (λ due. min due now) a.dues;
+    })
+
+-- When a peer is probed first: the peers have turns, which begin elsewhere at each node, and all turns end within the
+-- time from one probe to the next.
+abbrev pub first_probe : ℕ → ℕ → ℕ → ℕ → ℕ
+first_probe now nodes me peer =
+    let turn = (256 + peer - me) % nodes in now + (turn + 1) * probe_interval / (nodes + 1)
+
+-- the pairs of an owner at first: that of the node with itself has begun, the others wait for a connection
+abbrev pub pairs_in_at_first : ℕ → ℕ → ℕ → List Pair
+pairs_in_at_first now nodes me =
+    with_pair (replicate nodes new_pair) me (anew now (longest_look nodes) new_pair)
+
+-- all pairs of a node at first
+abbrev pub pairs_at_first : ℕ → ℕ → ℕ → PairsValue
+pairs_at_first now nodes me = record {
+  me = me;
+  longest = longest_look nodes;
+  pairs = replicate nodes (pairs_in_at_first now nodes me);
+  dues = replicate nodes (now + first_pause);
+  moved = replicate nodes 0;
+  probes = map (first_probe now nodes me) (range_with_len 0 nodes);
+  turn = 0;
+}
 
 -- the least of times
 abbrev pub least : List ℕ → ℕ

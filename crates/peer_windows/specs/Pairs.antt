@@ -1,12 +1,11 @@
 -- What is sent to a peer about an owner's stream, by what is seen of them at a look.
 use Rattle.std.specs.Prelude.{ℕ, ◌+◌, ◌==◌, Bool, true, false, not, ◌&&◌, ◌||◌, nat_le, nat_lt, if◌then◌else◌}
-use Rattle.std.specs.Prelude.{Option, Some, None}
+use Rattle.std.specs.Prelude.{None}
 use Rattle.peer_windows.specs.Pauses.{first_pause, never, new_pause, begun, renewed, eased, ended_by}
 use Rattle.peer_windows.specs.Pauses.{lasting_to, asleep}
-use Rattle.peer_windows.specs.declared.seen.Level.{Level}
 use Rattle.peer_windows.specs.declared.seen.Seen.{Seen}
 use Rattle.peer_windows.specs.declared.seen.Step.{Step}
-use Rattle.peer_windows.specs.declared.seen.Step.TheVariants.{Nothing, Probe, Tail, Window, Rest}
+use Rattle.peer_windows.specs.declared.seen.Step.TheVariants.{Nothing, Tail, Window}
 use Rattle.peer_windows.specs.declared.pair.Pair.{Pair}
 
 -- the peer has voted as far as the stream reaches, and nothing was sent from there on

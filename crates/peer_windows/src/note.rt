@@ -1,7 +1,9 @@
 //! What the answers to packets and commands change.
 
 ghost use Rattle.std.specs.Prelude.{◌≡◌, ◌≤◌};
+ghost use Rattle.std.specs.Option.{option_copied};
 ghost use Rattle.peer_windows.specs.Pauses.{most_time};
+ghost use Rattle.peer_windows.specs.Notes.{noted, counted_noted, idle_noted, level_seen};
 
 use crate::answers::Repeat;
 use crate::pairs::Pairs;
@@ -25,7 +27,8 @@ impl Pairs {
         outcome: &Outcome,
     )
         requires { now ≤ most_time }
-        ensures { locked.new ≡ locked.old }
+        ensures pairs { self.new ≡ noted locked.old seat.old now (option_copied packet.entry) outcome.now self.old }
+        ensures same { locked.new ≡ locked.old }
     {
         match (outcome, packet) {
             (Outcome::Reply(Reply::Issued(message)), _) => self.grow(now, message.owner),
@@ -54,7 +57,8 @@ impl Pairs {
         packet: &Packet,
     )
         requires { now ≤ most_time }
-        ensures { locked.new ≡ locked.old }
+        ensures pairs { self.new ≡ counted_noted locked.old seat.old now packet.now self.old }
+        ensures same { locked.new ≡ locked.old }
     {
         let (owner, peer) = (packet.owner(), packet.from());
         self.grow(now, owner);
@@ -77,7 +81,8 @@ impl Pairs {
         packet: &Packet,
     )
         requires { now ≤ most_time }
-        ensures { locked.new ≡ locked.old }
+        ensures pairs { self.new ≡ idle_noted locked.old seat.old now packet.now self.old }
+        ensures same { locked.new ≡ locked.old }
     {
         let (owner, peer) = (packet.owner(), packet.from());
         if peer == self.me {
@@ -100,7 +105,8 @@ fn level_in<L: Ledger>(
     owner: NodeName,
     peer: NodeName,
 ) -> Option<Level>
-    ensures { locked.new ≡ locked.old }
+    ensures level { result ≡ level_seen locked.old seat.old owner peer }
+    ensures same { locked.new ≡ locked.old }
 {
     if locked.has(owner) && locked.has(peer) {
         level_of(locked, seat, owner, peer).ok()

@@ -1,11 +1,13 @@
 //! The pairs of all owners and peers: what changes them, and when something is due.
 
-ghost use Rattle.std.specs.Prelude.{◌≡◌, ◌≤◌, true, false};
+ghost use Rattle.std.specs.Prelude.{◌≡◌, ◌<◌, ◌≤◌, true, false, IfOk, map};
+ghost use Rattle.std.specs.List.{range_with_len};
 ghost use Rattle.quorum_sizes.specs.Sizes.{most_nodes};
 ghost use Rattle.peer_windows.specs.Pauses.{most_time, most_pause, longest_look as longest_look_of};
 ghost use Rattle.peer_windows.specs.Answers.{heard, moved_on, passed, voted_on};
 ghost use Rattle.peer_windows.specs.Owners.{with_pair_at, pair_at, begun_at, joined_at, grown, due_by, owed_now};
-ghost use Rattle.peer_windows.specs.Owners.{next_due, least as least_of, is_served, is_still, probed_soon};
+ghost use Rattle.peer_windows.specs.Owners.{next_due, least as least_of, is_served, is_still, probed_soon, connected};
+ghost use Rattle.peer_windows.specs.Owners.{first_probe, pairs_at_first};
 
 use crate::answers::Repeat;
 use crate::owner_pairs::OwnerPairs;
@@ -42,7 +44,7 @@ pub struct Pairs {
 }
 
 impl Model for Pairs {
-    ghost use Rattle.std.specs.Prelude.{◌≡◌, ◌≤◌};
+    ghost use Rattle.std.specs.Prelude.{◌≡◌, ◌<◌, ◌≤◌, length};
     ghost use Rattle.peer_windows.specs.Pauses.{most_pause};
     ghost use Rattle.peer_windows.specs.Owners.{PairsValue};
 
@@ -58,7 +60,8 @@ impl Model for Pairs {
       turn = a.turn;
     } };
 
-    ghost invariant = { λ a. a.longest ≤ most_pause };
+    ghost invariant = { λ a. (a.longest ≤ most_pause) × (length a.dues.items ≡ length a.pairs.items)
+        × (a.turn < length a.dues.items) };
 }
 
 impl Pairs {
@@ -70,6 +73,7 @@ impl Pairs {
     /// Only for want of memory.
     pub fn new(alloc: Global, sizes: Sizes, me: NodeName, now: u64) -> Result<Pairs, AllocError>
         requires { now ≤ most_time }
+        ensures { IfOk result (λ pairs. pairs ≡ pairs_at_first now sizes.nodes me) }
     {
         let nodes = sizes.n();
         let mut pairs = Vec::with_capacity(alloc, usize::from(nodes))?;
@@ -104,6 +108,7 @@ impl Pairs {
     /// that it hears of this node though it may lack nothing.
     pub fn connected(&mut self, now: u64, peer: NodeName)
         requires { now ≤ most_time }
+        ensures { self.new ≡ connected now peer self.old }
     {
         let peer = usize::from(peer.index());
         for owner in 0..self.pairs.len() {
@@ -264,7 +269,9 @@ fn longest_look(nodes: u8) -> u32
 
 /// When each peer is probed first: one after another, from the node's own name on.
 fn first_probes(alloc: Global, nodes: u8, me: NodeName, now: u64) -> Result<Vec<u64>, AllocError>
-    requires { now ≤ most_time }
+    requires now { now ≤ most_time }
+    requires nodes { 0 < nodes }
+    ensures { IfOk result (λ probes. probes.items ≡ map (first_probe now nodes me) (range_with_len 0 nodes)) }
 {
     let mut probes = Vec::with_capacity(alloc, usize::from(nodes))?;
     for peer in 0..nodes {

@@ -2,7 +2,7 @@
 
 ghost use Rattle.std.specs.Prelude.{◌≡◌, ◌<◌, ◌++◌, IfOk, IfErr, OnOk, OnErr};
 ghost use Rattle.role_node.specs.Windows.{last_vote_at, voted_to, window_from, window_to};
-ghost use Rattle.node_lock.specs.Holds.{IsMisfit};
+ghost use Rattle.node_lock.specs.Holds.{Fits, IsMisfit};
 ghost use Rattle.node_lock.specs.Views.{node_count};
 ghost use Rattle.peer_windows.specs.Sent.{window_of, rest_of, reach_of, level_at, is_settled_at};
 ghost use Rattle.peer_windows.specs.Sent.{IsReadFault, IsLookAt};
@@ -119,6 +119,7 @@ pub fn level_of<L: Ledger>(
     requires owner { owner < node_count locked.old }
     requires peer { peer < node_count locked.old }
     ensures level { IfOk result (λ level. level ≡ level_at locked.old owner peer) }
+    ensures fits { OnOk result (Fits locked.old seat.old) }
     ensures fault { IfErr result (IsMisfit locked.old seat.old) }
     ensures same { locked.new ≡ locked.old }
 {

@@ -1,6 +1,6 @@
 use Rattle.std.proofs.Common.{◌≡◌, ◌∙◌, ap}
 use Rattle.std.specs.Prelude.{◌&&◌, ◌==◌, nat_le}
-use Rattle.role_node.specs.Windows.{has_nothing_open, last_vote_at, voted_to}
+use Rattle.role_node.specs.Windows.{last_vote_at, voted_to}
 use Rattle.peer_windows.specs.Sent.{reach_of}
 use Rattle.peer_windows.proofs.Settling.{none_outstanding}
 use Rattle.peer_windows.proofs.peer_sent.seen_of.Goals as goal
