@@ -7,7 +7,7 @@ use Rattle.std.proofs.lemmas.List.{length-replicate}
 use Rattle.std.proofs.lemmas.List.Edits.{map_over_more}
 use Rattle.peer_windows.specs.Pauses.{first_pause, never, most_time, longest_look}
 use Rattle.peer_windows.specs.Pairs.{new_pair, anew, joined}
-use Rattle.peer_windows.specs.Owners.{PairsValue, pair_in, with_pair, begun_at, joined_at, pairs_in_at_first}
+use Rattle.peer_windows.specs.Owners.{PairsValue, pair_in, with_pair, begun_at, joined_at, first_pairs}
 use Rattle.peer_windows.specs.Owners.{pairs_at_first}
 use Rattle.peer_windows.specs.declared.pair.Pair.{Pair}
 
@@ -121,7 +121,7 @@ pub begun_all : (now nodes me : ℕ) → now ≤ most_time →
 begun_all now nodes me early =
     let a : PairsValue = pairs_unbegun nodes me (pairs_at_first now nodes me).probes in
     let longest : ℕ = longest_look nodes in
-    let pairs : map (begun_in now longest me) a.pairs ≡ replicate nodes (pairs_in_at_first now nodes me) =
+    let pairs : map (begun_in now longest me) a.pairs ≡ replicate nodes (first_pairs now nodes me) =
     map-replicate (begun_in now longest me) nodes (replicate nodes new_pair)
     ∙ ap (λ pair. replicate nodes (with_pair (replicate nodes new_pair) me (anew now longest pair)))
     (new_pair_in nodes me) in
@@ -132,4 +132,4 @@ begun_all now nodes me early =
     let same : length a.dues ≡ length a.pairs = length-replicate nodes never ∙ sym long in
     owners_changed_all (begun_in now longest me) (λ due. min due (now + first_pause)) nodes a (omega arith) same
     ∙ ap (λ ps. record a { pairs = ps; dues = map (λ due. min due (now + first_pause)) a.dues }) pairs
-    ∙ ap (λ ds. record a { pairs = replicate nodes (pairs_in_at_first now nodes me); dues = ds }) dues
+    ∙ ap (λ ds. record a { pairs = replicate nodes (first_pairs now nodes me); dues = ds }) dues

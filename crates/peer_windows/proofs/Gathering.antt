@@ -1,5 +1,5 @@
 -- Shares that were gathered, one after another.
-use Rattle.std.proofs.Common.{◌≡◌, ℕ, [], ◌∷◌, ◌++◌, sym, ap, ◌∙◌, append-nil, append_assoc}
+use Rattle.std.proofs.Common.{◌≡◌, ℕ, [], ◌∷◌, ◌++◌, sym, ap, ◌∙◌, append-nil, append_assoc, subst}
 use Rattle.std.specs.Prelude.{length}
 use Rattle.std.specs.List.{flat_map}
 use Rattle.std.proofs.lemmas.Grind.{flat_map-append}
@@ -31,6 +31,11 @@ gathered_more h a b c first next = record {
       next.counts;
 }
 
+-- the same, where what is behind the lock is known to be that
+pub gathered_on : (h now : Held) (a b c : OwedValue) → now ≡ h → IsGathered h a b → IsGathered now b c →
+    IsGathered h a c
+gathered_on h now a b c same first next = gathered_more h a b c first (subst (λ x. IsGathered x b c) same next)
+
 -- one
 pub pushed_gathered : (h : Held) (owner peer : ℕ) (step : Step) (count : ℕ) (old new : OwedValue) →
     IsPushed h owner peer step count old new → IsGathered h old new
@@ -44,3 +49,7 @@ pushed_gathered h owner peer step count old new pushed =
       counts = All-cons (λ s. s.count ≡ length (share_messages h s)) share [] pushed.counted
           (All-nil (λ s. s.count ≡ length (share_messages h s)));
     }
+
+pub ruleset gathered = (gathered_none, gathered_more)
+
+pub ruleset gathered_once = (gathered_none, pushed_gathered)

@@ -4,3 +4,4 @@ pub mod Gathering
 pub mod Times
 pub mod EachOwner
 pub mod Noting
+pub mod Seats

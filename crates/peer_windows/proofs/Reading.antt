@@ -1,14 +1,16 @@
 -- What was read under the lock, place by place.
 use Rattle.std.proofs.Common.{◌≡◌, ℕ, zero, suc, ◌+◌, ◌-◌, ◌≤◌, List, [], ◌∷◌, ◌++◌, length, take, refl, sym, ap}
 use Rattle.std.proofs.Common.{◌∙◌, subst, arith, append-nil, append_assoc, length-append, ◌≢◌}
-use Rattle.std.specs.Prelude.{max}
+use Rattle.std.specs.Prelude.{max, IsErrAnd, IfErr}
+use Rattle.std.specs.declared.result.Result.{Result}
+use Rattle.std.specs.declared.result.Result.TheVariants.{Ok, Err}
 use Rattle.std.specs.List.{flat_map, range_with_len}
 use Rattle.std.proofs.lemmas.Grind.{flat_map-append}
 use Rattle.std.proofs.lemmas.List.{length-take, take-take, take_at}
 use Rattle.link_frames.specs.declared.frames.packet.Message.{Message}
 use Rattle.role_node.specs.Windows.{messages_of}
 use Rattle.role_node.specs.declared.event.NodeAgain.{NodeAgain}
-use Rattle.node_lock.specs.Holds.{Held, Fits, count_of, seat_after_question}
+use Rattle.node_lock.specs.Holds.{Held, Fits, IsMisfit, count_of, seat_after_question}
 use Rattle.node_lock.specs.Seats.{Sitting}
 use Rattle.node_lock.specs.declared.locked.StepFault.{StepFault}
 use Rattle.node_lock.specs.declared.locked.StepFault.TheVariants.{Behind, Strange, Memory}
@@ -28,6 +30,20 @@ pub fault_on : (h now : Held) (s t : Sitting) (fault : StepFault) → now ≡ h 
     Fits now s → IsReadFault h t fault → IsReadFault h s fault
 fault_on h now s t fault same e fits bad =
     fault_before h s t fault (subst (λ x. t ≡ seat_after_question x s) same e) (subst (λ x. Fits x s) same fits) bad
+
+-- a misfit of the seat is a fault of reading
+pub misfit_read : (h now : Held) (s : Sitting) (fault : StepFault) → now ≡ h → IsMisfit now s fault →
+    IsReadFault h s fault
+misfit_read h now s (Behind seen found) same misfit = subst (λ x. IsMisfit x s (Behind seen found)) same misfit
+misfit_read h now s (Strange recorded found) same misfit =
+    subst (λ x. IsMisfit x s (Strange recorded found)) same misfit
+misfit_read h now s Memory same misfit = absurd misfit
+
+-- what holds of the fault that a result tells
+pub fault_told : {T : Type 0} (result : Result T StepFault) (fault : StepFault) (P : StepFault → Type 0) →
+    IsErrAnd result (λ e. e ≡ fault) → P fault → IfErr result P
+fault_told (Ok x) fault P is holds = tt
+fault_told (Err e) fault P is holds = subst P (sym is) holds
 
 -- what begins a list begins it with more behind
 pub at_begin : (xs ys zs : List Message) → take (length xs) ys ≡ xs → take (length ys) zs ≡ ys →

@@ -32,8 +32,8 @@ vote_noted now owner peer None a = a
 vote_noted now owner peer (Some level) a =
     owed_now now owner peer (with_pair_at a owner peer (voted_on now level (pair_at a owner peer)))
 
--- A packet has counted: the owner's stream has grown. Where it is a vote its sender moves on, and where a window went to
--- the sender, it may be owed what is behind that.
+-- A packet has counted: the owner's stream has grown. Where it is a vote its sender moves on, and where a window went
+-- to the sender, it may be owed what is behind that.
 abbrev pub counted_noted : Held → Sitting → ℕ → PacketValue → PairsValue → PairsValue
 counted_noted h s now packet a =
     let owner = packet.owner in

@@ -2,7 +2,10 @@
 use Rattle.std.specs.Prelude.{◌≡◌, ℕ, Bool, ◌||◌, nat_le, List, [], ◌∷◌, ◌++◌, length, All}
 use Rattle.std.specs.List.{flat_map}
 use Rattle.link_frames.specs.declared.frames.packet.Message.{Message}
-use Rattle.node_lock.specs.Holds.{Held}
+use Rattle.node_lock.specs.Holds.{Held, IsMisfit}
+use Rattle.node_lock.specs.Seats.{Sitting}
+use Rattle.node_lock.specs.declared.locked.StepFault.{StepFault}
+use Rattle.node_lock.specs.declared.locked.StepFault.TheVariants.{Behind, Strange, Memory}
 use Rattle.peer_windows.specs.Sent.{probe_of, tail_of, window_of, rest_of}
 use Rattle.peer_windows.specs.declared.seen.Step.{Step}
 use Rattle.peer_windows.specs.declared.seen.Step.TheVariants.{Nothing, Probe, Tail, Window, Rest}
@@ -30,6 +33,12 @@ pub record IsGathered (h : Held) (old new : OwedValue) : Type 0 where
   pub shares : new.shares ≡ old.shares ++ added
   pub messages : new.messages ≡ old.messages ++ flat_map (share_messages h) added
   pub counts : All (λ share. share.count ≡ length (share_messages h share)) added
+
+-- the fault of gathering: the seat does not fit, or memory is wanting
+abbrev pub IsGatherFault : Held → Sitting → StepFault → Type 0
+IsGatherFault h s (Behind seen found) = IsMisfit h s (Behind seen found)
+IsGatherFault h s (Strange recorded found) = IsMisfit h s (Strange recorded found)
+IsGatherFault h s Memory = Unit {0}
 
 -- one share more
 pub record IsPushed (h : Held) (owner peer : ℕ) (step : Step) (count : ℕ) (old new : OwedValue) : Type 0 where

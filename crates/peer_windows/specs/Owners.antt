@@ -95,8 +95,8 @@ first_probe now nodes me peer =
     let turn = (256 + peer - me) % nodes in now + (turn + 1) * probe_interval / (nodes + 1)
 
 -- the pairs of an owner at first: that of the node with itself has begun, the others wait for a connection
-abbrev pub pairs_in_at_first : ℕ → ℕ → ℕ → List Pair
-pairs_in_at_first now nodes me =
+abbrev pub first_pairs : ℕ → ℕ → ℕ → List Pair
+first_pairs now nodes me =
     with_pair (replicate nodes new_pair) me (anew now (longest_look nodes) new_pair)
 
 -- all pairs of a node at first
@@ -104,7 +104,7 @@ abbrev pub pairs_at_first : ℕ → ℕ → ℕ → PairsValue
 pairs_at_first now nodes me = record {
   me = me;
   longest = longest_look nodes;
-  pairs = replicate nodes (pairs_in_at_first now nodes me);
+  pairs = replicate nodes (first_pairs now nodes me);
   dues = replicate nodes (now + first_pause);
   moved = replicate nodes 0;
   probes = map (first_probe now nodes me) (range_with_len 0 nodes);

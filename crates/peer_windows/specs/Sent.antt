@@ -1,12 +1,12 @@
 -- What a node sends again, read from what is behind its lock.
-use Rattle.std.specs.Prelude.{◌≡◌, ℕ, ◌-◌, ◌==◌, max, Bool, if◌then◌else◌, List, [], ◌++◌, length, None}
+use Rattle.std.specs.Prelude.{◌≡◌, ℕ, ◌-◌, ◌==◌, ◌⊎◌, max, Bool, if◌then◌else◌, List, [], ◌++◌, length, None}
 use Rattle.link_frames.specs.declared.frames.packet.Message.{Message}
 use Rattle.owner_streams.specs.Places.{window}
 use Rattle.role_node.specs.Access.{reach_at, sent_at}
 use Rattle.role_node.specs.Windows.{last_vote_at, voted_to, window_from, window_to}
 use Rattle.role_node.specs.Windows.{messages_of, sent_from, window_messages, is_settled}
 use Rattle.role_node.specs.declared.event.NodeAgain.{NodeAgain}
-use Rattle.node_lock.specs.Holds.{Held, Fits, IsMisfit}
+use Rattle.node_lock.specs.Holds.{Held, Fits, IsMisfit, seat_after_question}
 use Rattle.node_lock.specs.Seats.{Sitting}
 use Rattle.node_lock.specs.declared.locked.StepFault.{StepFault}
 use Rattle.node_lock.specs.declared.locked.StepFault.TheVariants.{Behind, Strange, Memory}
@@ -74,6 +74,10 @@ abbrev pub IsReadFault : Held → Sitting → StepFault → Type 0
 IsReadFault h s (Behind seen found) = IsMisfit h s (Behind seen found)
 IsReadFault h s (Strange recorded found) = IsMisfit h s (Strange recorded found)
 IsReadFault h s Memory = Fits h s
+
+-- the seat after a reading: as it was, or it fitted and has seen the history
+pub record IsSeatAfter (h : Held) (old new : Sitting) : Type 0 where
+  pub seat : (new ≡ old) ⊎ (Fits h old × (new ≡ seat_after_question h old))
 
 -- what a look at the owner's stream shows
 pub record IsLookAt (h : Held) (owner : ℕ) (look : StreamLook) : Type 0 where

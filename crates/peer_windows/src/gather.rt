@@ -1,10 +1,10 @@
 //! What is due now is gathered, owner by owner in turn.
 
-ghost use Rattle.std.specs.Prelude.{◌≡◌, ◌≤◌, ◌<◌, IfSome};
+ghost use Rattle.std.specs.Prelude.{◌≡◌, ◌≤◌, ◌<◌, IfSome, IfErr};
 ghost use Rattle.node_lock.specs.Views.{node_count};
 ghost use Rattle.peer_windows.specs.Pauses.{most_time};
-ghost use Rattle.peer_windows.specs.Sent.{IsLookAt};
-ghost use Rattle.peer_windows.specs.Owed.{IsGathered};
+ghost use Rattle.peer_windows.specs.Sent.{IsLookAt, IsSeatAfter};
+ghost use Rattle.peer_windows.specs.Owed.{IsGathered, IsGatherFault};
 
 use crate::owed::Owed;
 use crate::pairs::{PROBE_INTERVAL, Pairs};
@@ -30,8 +30,8 @@ impl Pairs {
     ///
     /// # Errors
     ///
-    /// The seat does not fit the node, and last want of memory. What was gathered before stays.
-    #[tactic(auto, using(crate::proofs::Gathering::gathered_none, crate::proofs::Gathering::gathered_more))]
+    /// The seat does not fit the node, or memory is wanting. What was gathered before stays.
+    #[tactic(auto, using(crate::proofs::Gathering::gathered, crate::proofs::Seats::gather_seats))]
     pub fn gather<L: Ledger>(
         &mut self,
         locked: &mut Locked<L>,
@@ -42,6 +42,8 @@ impl Pairs {
     ) -> Result<(), StepFault>
         requires { now ≤ most_time }
         ensures owed { IsGathered locked.old owed.old owed.new }
+        ensures fault { IfErr result (IsGatherFault locked.old seat.old) }
+        ensures seat { IsSeatAfter locked.old seat.old seat.new }
         ensures same { locked.new ≡ locked.old }
     {
         'owners: for _ in 0..self.dues.len() {
@@ -63,7 +65,7 @@ impl Pairs {
     }
 
     /// Gathers what the pairs of an owner have the node send, if it is due.
-    #[tactic(auto, using(crate::proofs::Gathering::gathered_none, crate::proofs::Gathering::gathered_more))]
+    #[tactic(auto, using(crate::proofs::Gathering::gathered, crate::proofs::Seats::gather_seats))]
     fn gather_owner<L: Ledger>(
         &mut self,
         locked: &mut Locked<L>,
@@ -75,6 +77,8 @@ impl Pairs {
     ) -> Result<(), StepFault>
         requires { now ≤ most_time }
         ensures owed { IsGathered locked.old owed.old owed.new }
+        ensures fault { IfErr result (IsGatherFault locked.old seat.old) }
+        ensures seat { IsSeatAfter locked.old seat.old seat.new }
         ensures same { locked.new ≡ locked.old }
     {
         if owner >= self.dues.len() || self.dues[owner] > now {
@@ -97,7 +101,7 @@ impl Pairs {
     }
 
     /// Gathers what a pair has the node send. When the pair is looked at next.
-    #[tactic(auto, using(crate::proofs::Gathering::gathered_none, crate::proofs::Gathering::pushed_gathered))]
+    #[tactic(auto, using(crate::proofs::Gathering::gathered_once, crate::proofs::Seats::gather_seats))]
     fn gather_pair<L: Ledger>(
         &mut self,
         locked: &mut Locked<L>,
@@ -113,6 +117,8 @@ impl Pairs {
         requires owner { owner < node_count locked.old }
         requires look { IsLookAt locked.old owner look.now }
         ensures owed { IsGathered locked.old owed.old owed.new }
+        ensures fault { IfErr result (IsGatherFault locked.old seat.old) }
+        ensures seat { IsSeatAfter locked.old seat.old seat.new }
         ensures same { locked.new ≡ locked.old }
     {
         let Some(name) = self.name(&*locked, peer) else {
@@ -144,7 +150,7 @@ impl Pairs {
     }
 
     /// Gathers the probes of a peer, if they are due: one for each pair of it that sleeps.
-    #[tactic(auto, using(crate::proofs::Gathering::gathered_none, crate::proofs::Gathering::gathered_more))]
+    #[tactic(auto, using(crate::proofs::Gathering::gathered, crate::proofs::Seats::gather_seats))]
     fn gather_probes<L: Ledger>(
         &mut self,
         locked: &mut Locked<L>,
@@ -156,6 +162,8 @@ impl Pairs {
     ) -> Result<(), StepFault>
         requires { now ≤ most_time }
         ensures owed { IsGathered locked.old owed.old owed.new }
+        ensures fault { IfErr result (IsGatherFault locked.old seat.old) }
+        ensures seat { IsSeatAfter locked.old seat.old seat.new }
         ensures same { locked.new ≡ locked.old }
     {
         if peer >= self.probes.len() || self.probes[peer] > now {
@@ -182,7 +190,7 @@ impl Pairs {
     }
 
     /// Gathers the probe of a pair, if it sleeps.
-    #[tactic(auto, using(crate::proofs::Gathering::gathered_none, crate::proofs::Gathering::pushed_gathered))]
+    #[tactic(auto, using(crate::proofs::Gathering::gathered_once, crate::proofs::Seats::gather_seats))]
     fn gather_probe<L: Ledger>(
         &self,
         locked: &mut Locked<L>,
@@ -193,6 +201,8 @@ impl Pairs {
     ) -> Result<(), StepFault>
         requires { peer < node_count locked.old }
         ensures owed { IsGathered locked.old owed.old owed.new }
+        ensures fault { IfErr result (IsGatherFault locked.old seat.old) }
+        ensures seat { IsSeatAfter locked.old seat.old seat.new }
         ensures same { locked.new ≡ locked.old }
     {
         let Some(name) = self.name(&*locked, owner) else {

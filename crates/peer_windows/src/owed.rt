@@ -1,8 +1,9 @@
 //! Messages that go to single peers.
 
-ghost use Rattle.std.specs.Prelude.{◌≡◌, ◌<◌, [], IfOk, OnErr};
+ghost use Rattle.std.specs.Prelude.{◌≡◌, ◌<◌, [], IfOk, IfErr, OnErr};
 ghost use Rattle.node_lock.specs.Views.{node_count};
-ghost use Rattle.peer_windows.specs.Owed.{IsPushed, is_full};
+ghost use Rattle.peer_windows.specs.Sent.{IsSeatAfter};
+ghost use Rattle.peer_windows.specs.Owed.{IsPushed, IsGatherFault, is_full};
 
 use crate::peer_sent::push_step;
 use crate::seen::Step;
@@ -92,7 +93,8 @@ impl Owed {
     ///
     /// # Errors
     ///
-    /// The seat does not fit the node, and last want of memory. Nothing is put there.
+    /// The seat does not fit the node, or memory is wanting. Nothing is put there.
+    #[tactic(auto, using(crate::proofs::Seats::gather_seats))]
     pub(crate) fn push<L: Ledger>(
         &mut self,
         locked: &mut Locked<L>,
@@ -105,6 +107,8 @@ impl Owed {
         requires peer { peer < node_count locked.old }
         ensures ok { IfOk result (λ count. IsPushed locked.old owner peer step count self.old self.new) }
         ensures err { OnErr result (self.new ≡ self.old) }
+        ensures fault { IfErr result (IsGatherFault locked.old seat.old) }
+        ensures seat { IsSeatAfter locked.old seat.old seat.new }
         ensures same { locked.new ≡ locked.old }
     {
         self.shares.try_reserve(1)?;

@@ -267,7 +267,7 @@ fn longest_look(nodes: u8) -> u32
     }
 }
 
-/// When each peer is probed first: one after another, from the node's own name on.
+/// When each peer is probed first: one after another, in turns that begin elsewhere at each node.
 fn first_probes(alloc: Global, nodes: u8, me: NodeName, now: u64) -> Result<Vec<u64>, AllocError>
     requires now { now ≤ most_time }
     requires nodes { 0 < nodes }

@@ -5,7 +5,7 @@ ghost use Rattle.role_node.specs.Windows.{last_vote_at, voted_to, window_from, w
 ghost use Rattle.node_lock.specs.Holds.{Fits, IsMisfit};
 ghost use Rattle.node_lock.specs.Views.{node_count};
 ghost use Rattle.peer_windows.specs.Sent.{window_of, rest_of, reach_of, level_at, is_settled_at};
-ghost use Rattle.peer_windows.specs.Sent.{IsReadFault, IsLookAt};
+ghost use Rattle.peer_windows.specs.Sent.{IsReadFault, IsSeatAfter, IsLookAt};
 ghost use Rattle.peer_windows.specs.Owed.{step_messages};
 ghost use Rattle.peer_windows.specs.Pairs.{seems_settled};
 
@@ -46,6 +46,7 @@ pub fn push_window<L: Ledger>(
     ensures ok { OnOk result (messages.new.items ≡ messages.old.items ++ window_of locked.old owner peer) }
     ensures err { OnErr result (messages.new.items ≡ messages.old.items) }
     ensures fault { IfErr result (IsReadFault locked.old seat.old) }
+    ensures seat { IsSeatAfter locked.old seat.old seat.new }
     ensures same { locked.new ≡ locked.old }
 {
     let PeerWindow { from, to } = window_at(&*locked, owner, peer);
@@ -70,6 +71,7 @@ pub fn push_rest<L: Ledger>(
     ensures ok { OnOk result (messages.new.items ≡ messages.old.items ++ rest_of locked.old owner peer first) }
     ensures err { OnErr result (messages.new.items ≡ messages.old.items) }
     ensures fault { IfErr result (IsReadFault locked.old seat.old) }
+    ensures seat { IsSeatAfter locked.old seat.old seat.new }
     ensures same { locked.new ≡ locked.old }
 {
     let PeerWindow { from, to } = window_at(&*locked, owner, peer);
@@ -81,6 +83,7 @@ pub fn push_rest<L: Ledger>(
 /// # Errors
 ///
 /// As [`push_window`].
+#[tactic(auto, using(crate::proofs::Seats::seats))]
 pub fn push_step<L: Ledger>(
     locked: &mut Locked<L>,
     seat: &mut Seat<L>,
@@ -94,6 +97,7 @@ pub fn push_step<L: Ledger>(
     ensures ok { OnOk result (messages.new.items ≡ messages.old.items ++ step_messages locked.old owner peer step) }
     ensures err { OnErr result (messages.new.items ≡ messages.old.items) }
     ensures fault { IfErr result (IsReadFault locked.old seat.old) }
+    ensures seat { IsSeatAfter locked.old seat.old seat.new }
     ensures same { locked.new ≡ locked.old }
 {
     match step {
@@ -110,6 +114,7 @@ pub fn push_step<L: Ledger>(
 /// # Errors
 ///
 /// Only where the seat does not fit the node.
+#[tactic(auto, using(crate::proofs::Seats::seats))]
 pub fn level_of<L: Ledger>(
     locked: &mut Locked<L>,
     seat: &mut Seat<L>,
@@ -121,6 +126,7 @@ pub fn level_of<L: Ledger>(
     ensures level { IfOk result (λ level. level ≡ level_at locked.old owner peer) }
     ensures fits { OnOk result (Fits locked.old seat.old) }
     ensures fault { IfErr result (IsMisfit locked.old seat.old) }
+    ensures seat { IsSeatAfter locked.old seat.old seat.new }
     ensures same { locked.new ≡ locked.old }
 {
     let (_, view) = locked.hold(seat, None, owner, 0)?;

@@ -8,7 +8,7 @@ ghost use Rattle.role_node.specs.Windows.{messages_of};
 ghost use Rattle.owner_streams.specs.Places.{window};
 ghost use Rattle.node_lock.specs.Views.{node_count};
 ghost use Rattle.peer_windows.specs.Sent.{sent_between, probe_of, tail_of, probe_at, tail_at};
-ghost use Rattle.peer_windows.specs.Sent.{IsReadFault, IsLookAt};
+ghost use Rattle.peer_windows.specs.Sent.{IsReadFault, IsSeatAfter, IsLookAt};
 
 use crate::stream_look::StreamLook;
 use link_frames::{Kind, Message, Place};
@@ -38,6 +38,7 @@ pub fn push_sent<L: Ledger>(
     ensures ok { OnOk result (messages.new.items ≡ messages.old.items ++ sent_between locked.old owner from to) }
     ensures err { OnErr result (messages.new.items ≡ messages.old.items) }
     ensures fault { IfErr result (IsReadFault locked.old seat.old) }
+    ensures seat { IsSeatAfter locked.old seat.old seat.new }
     ensures same { locked.new ≡ locked.old }
 {
     let count = messages.len();
@@ -62,6 +63,7 @@ fn push_places<L: Ledger>(
     ensures ok { OnOk result (messages.new.items ≡ messages.old.items ++ sent_between locked.old owner from to) }
     ensures begin { take (length messages.old.items) messages.new.items ≡ messages.old.items }
     ensures fault { IfErr result (IsReadFault locked.old seat.old) }
+    ensures seat { IsSeatAfter locked.old seat.old seat.new }
     ensures same { locked.new ≡ locked.old }
 {
     for place in from..to {
@@ -120,7 +122,7 @@ fn push_kind(
 /// # Errors
 ///
 /// The seat does not fit the node, and last want of memory. The messages stay as they were.
-#[tactic(auto, using(crate::proofs::Reading::fault_before, crate::proofs::Reading::at_begin))]
+#[tactic(auto, using(crate::proofs::Seats::reading))]
 pub fn push_probe<L: Ledger>(
     locked: &mut Locked<L>,
     seat: &mut Seat<L>,
@@ -131,6 +133,7 @@ pub fn push_probe<L: Ledger>(
     ensures ok { OnOk result (messages.new.items ≡ messages.old.items ++ probe_of locked.old owner) }
     ensures err { OnErr result (messages.new.items ≡ messages.old.items) }
     ensures fault { IfErr result (IsReadFault locked.old seat.old) }
+    ensures seat { IsSeatAfter locked.old seat.old seat.new }
     ensures same { locked.new ≡ locked.old }
 {
     let (_, view) = locked.hold(seat, None, owner, 0)?;
@@ -138,6 +141,7 @@ pub fn push_probe<L: Ledger>(
 }
 
 /// The READY at the last place that a stream of this reach goes beyond.
+#[tactic(auto, using(crate::proofs::Seats::reading))]
 fn push_last_ready<L: Ledger>(
     locked: &mut Locked<L>,
     seat: &mut Seat<L>,
@@ -149,6 +153,7 @@ fn push_last_ready<L: Ledger>(
     ensures ok { OnOk result (messages.new.items ≡ messages.old.items ++ probe_at locked.old owner reach) }
     ensures err { OnErr result (messages.new.items ≡ messages.old.items) }
     ensures fault { IfErr result (IsReadFault locked.old seat.old) }
+    ensures seat { IsSeatAfter locked.old seat.old seat.new }
     ensures same { locked.new ≡ locked.old }
 {
     if reach > 0 {
@@ -174,6 +179,7 @@ pub fn push_tail<L: Ledger>(
     ensures ok { OnOk result (messages.new.items ≡ messages.old.items ++ tail_of locked.old owner) }
     ensures err { OnErr result (messages.new.items ≡ messages.old.items) }
     ensures fault { IfErr result (IsReadFault locked.old seat.old) }
+    ensures seat { IsSeatAfter locked.old seat.old seat.new }
     ensures same { locked.new ≡ locked.old }
 {
     let count = messages.len();
@@ -185,7 +191,7 @@ pub fn push_tail<L: Ledger>(
 }
 
 /// The same, where some messages may be there after an error.
-#[tactic(auto, using(crate::proofs::Reading::fault_before, crate::proofs::Reading::at_begin))]
+#[tactic(auto, using(crate::proofs::Seats::reading))]
 fn push_tail_parts<L: Ledger>(
     locked: &mut Locked<L>,
     seat: &mut Seat<L>,
@@ -196,6 +202,7 @@ fn push_tail_parts<L: Ledger>(
     ensures ok { OnOk result (messages.new.items ≡ messages.old.items ++ tail_of locked.old owner) }
     ensures begin { take (length messages.old.items) messages.new.items ≡ messages.old.items }
     ensures fault { IfErr result (IsReadFault locked.old seat.old) }
+    ensures seat { IsSeatAfter locked.old seat.old seat.new }
     ensures same { locked.new ≡ locked.old }
 {
     let (_, view) = locked.hold(seat, None, owner, 0)?;
@@ -203,7 +210,7 @@ fn push_tail_parts<L: Ledger>(
 }
 
 /// The tail of a stream of this reach, where some messages may be there after an error.
-#[tactic(auto, using(crate::proofs::Reading::fault_before, crate::proofs::Reading::at_begin))]
+#[tactic(auto, using(crate::proofs::Seats::reading))]
 fn push_tail_at<L: Ledger>(
     locked: &mut Locked<L>,
     seat: &mut Seat<L>,
@@ -215,6 +222,7 @@ fn push_tail_at<L: Ledger>(
     ensures ok { OnOk result (messages.new.items ≡ messages.old.items ++ tail_at locked.old owner reach) }
     ensures begin { take (length messages.old.items) messages.new.items ≡ messages.old.items }
     ensures fault { IfErr result (IsReadFault locked.old seat.old) }
+    ensures seat { IsSeatAfter locked.old seat.old seat.new }
     ensures same { locked.new ≡ locked.old }
 {
     let (_, end) = locked.hold(seat, None, owner, reach)?;
@@ -228,7 +236,7 @@ fn push_tail_at<L: Ledger>(
 /// # Errors
 ///
 /// The seat does not fit the node. Last want of memory, where the stream is longer than streams are.
-#[tactic(auto, using(crate::proofs::Reading::fault_before, crate::proofs::Reading::at_begin))]
+#[tactic(auto, using(crate::proofs::Seats::reading))]
 pub fn look_at<L: Ledger>(
     locked: &mut Locked<L>,
     seat: &mut Seat<L>,
@@ -237,6 +245,7 @@ pub fn look_at<L: Ledger>(
     requires { owner < node_count locked.old }
     ensures look { IfOk result (IsLookAt locked.old owner) }
     ensures fault { IfErr result (IsReadFault locked.old seat.old) }
+    ensures seat { IsSeatAfter locked.old seat.old seat.new }
     ensures same { locked.new ≡ locked.old }
 {
     let (_, view) = locked.hold(seat, None, owner, 0)?;
@@ -249,7 +258,7 @@ pub fn look_at<L: Ledger>(
 }
 
 /// How many messages were sent at the places that are open where the stream reaches so far.
-#[tactic(auto, using(crate::proofs::Reading::fault_before, crate::proofs::Reading::at_begin))]
+#[tactic(auto, using(crate::proofs::Seats::reading))]
 fn count_open<L: Ledger>(
     locked: &mut Locked<L>,
     seat: &mut Seat<L>,
@@ -260,6 +269,7 @@ fn count_open<L: Ledger>(
     requires few { reach + window < 2 ^ 32 }
     ensures count { IfOk result (λ count. count ≡ length (sent_between locked.old owner reach (reach + window))) }
     ensures fault { IfErr result (IsReadFault locked.old seat.old) }
+    ensures seat { IsSeatAfter locked.old seat.old seat.new }
     ensures same { locked.new ≡ locked.old }
 {
     let mut count = 0u32;

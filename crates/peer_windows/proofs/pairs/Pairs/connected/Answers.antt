@@ -15,4 +15,5 @@ loop-owner-preserved c =
     let same : length a.dues ≡ length a.pairs = omega arith in
     let within : c.loop-owner.owner < length a.pairs = omega arith in
     c.join.ensures
-    ∙ joined_more c.args.now c.from-peer.result c.loop-owner.owner a c.loop-owner.self within same c.loop-owner.invariant
+    ∙ joined_more c.args.now c.from-peer.result c.loop-owner.owner a c.loop-owner.self within same
+    c.loop-owner.invariant

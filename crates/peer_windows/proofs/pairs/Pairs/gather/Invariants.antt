@@ -1,4 +1,5 @@
 use Rattle.std.proofs.Common.{◌≡◌}
+use Rattle.peer_windows.specs.Sent.{IsSeatAfter}
 use Rattle.peer_windows.specs.Owed.{IsGathered}
 use Rattle.peer_windows.proofs.pairs.Pairs.gather.Given as goal
 
@@ -6,6 +7,7 @@ abbrev pub invariant-owners : goal.invariant-owners
 invariant-owners g l =
     record {
       same : l.locked ≡ l.initial.locked;
+      seat : IsSeatAfter l.initial.locked l.initial.seat l.seat;
       gathered : IsGathered l.initial.locked l.initial.owed l.owed;
     }
 
@@ -13,5 +15,6 @@ abbrev pub invariant-peers : goal.invariant-peers
 invariant-peers g l =
     record {
       same : l.locked ≡ l.initial.locked;
+      seat : IsSeatAfter l.initial.locked l.initial.seat l.seat;
       gathered : IsGathered l.initial.locked l.initial.owed l.owed;
     }

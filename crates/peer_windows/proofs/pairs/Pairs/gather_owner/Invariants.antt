@@ -1,4 +1,5 @@
 use Rattle.std.proofs.Common.{◌≡◌}
+use Rattle.peer_windows.specs.Sent.{IsSeatAfter}
 use Rattle.peer_windows.specs.Owed.{IsGathered}
 use Rattle.peer_windows.proofs.pairs.Pairs.gather_owner.Given as goal
 
@@ -6,5 +7,6 @@ abbrev pub invariant-loop-peer : goal.invariant-loop-peer
 invariant-loop-peer g l =
     record {
       same : l.locked ≡ l.initial.locked;
+      seat : IsSeatAfter l.initial.locked l.initial.seat l.seat;
       gathered : IsGathered l.initial.locked l.initial.owed l.owed;
     }
