@@ -7,8 +7,8 @@ use Rattle.std.proofs.lemmas.List.{length-replicate}
 use Rattle.std.proofs.lemmas.List.Edits.{map_over_more}
 use Rattle.peer_windows.specs.Pauses.{first_pause, never, most_time, longest_look}
 use Rattle.peer_windows.specs.Pairs.{new_pair, anew, joined}
-use Rattle.peer_windows.specs.Owners.{PairsValue, pair_in, with_pair, begun_at, joined_at, first_pairs}
-use Rattle.peer_windows.specs.Owners.{pairs_at_first}
+use Rattle.peer_windows.specs.Owners.{PairsValue, IsSameNode, pair_in, with_pair, begun_at, joined_at, probed}
+use Rattle.peer_windows.specs.Owners.{first_pairs, next_probe, pairs_at_first}
 use Rattle.peer_windows.specs.declared.pair.Pair.{Pair}
 
 -- a list whose first elements are changed
@@ -133,3 +133,53 @@ begun_all now nodes me early =
     owners_changed_all (begun_in now longest me) (λ due. min due (now + first_pause)) nodes a (omega arith) same
     ∙ ap (λ ps. record a { pairs = ps; dues = map (λ due. min due (now + first_pause)) a.dues }) pairs
     ∙ ap (λ ds. record a { pairs = replicate nodes (first_pairs now nodes me); dues = ds }) dues
+
+-- the first peers are probed
+abbrev pub probed_first : ℕ → ℕ → PairsValue → PairsValue
+probed_first now n a = record a { probes = first_changed (next_probe now) n a.probes }
+
+pub probed_more : (now peer : ℕ) (a b : PairsValue) → peer < length a.probes → b ≡ probed_first now peer a →
+    probed now peer b ≡ probed_first now (peer + 1) a
+probed_more now peer a b within is =
+    ap (probed now peer) is
+    ∙ ap (λ times. record a { probes = times }) (first_changed_more (next_probe now) a.probes peer never within)
+
+-- all of them
+pub probed_all : (now n : ℕ) (a b : PairsValue) → length a.probes ≤ n → b ≡ probed_first now n a →
+    b.probes ≡ map (next_probe now) a.probes
+probed_all now n a b all is =
+    ap (λ (x : PairsValue). x.probes) is ∙ first_changed_all (next_probe now) a.probes n all
+
+length-first_changed : {X : Type 0} (f : X → X) (n : ℕ) (xs : List X) → length (first_changed f n xs) ≡ length xs
+length-first_changed f n xs =
+    let long : length (first_changed f n xs) ≡ length (map f (take n xs)) + length (drop n xs) =
+    length-append (map f (take n xs)) (drop n xs) in
+    omega (arith, long, length-map (take n xs) f, length-take n xs, length-drop n xs)
+
+-- the same node
+pub same_node : (a b : PairsValue) → b ≡ a → IsSameNode a b
+same_node a b is = record {
+  me = ap (λ (x : PairsValue). x.me) is;
+  longest = ap (λ (x : PairsValue). x.longest) is;
+  owners = ap (λ (x : PairsValue). length x.pairs) is;
+  moved = ap (λ (x : PairsValue). x.moved) is;
+  peers = ap (λ (x : PairsValue). length x.probes) is;
+}
+
+pub same_node_more : (a b c : PairsValue) → IsSameNode a b → IsSameNode b c → IsSameNode a c
+same_node_more a b c first next = record {
+  me = next.me ∙ first.me;
+  longest = next.longest ∙ first.longest;
+  owners = next.owners ∙ first.owners;
+  moved = next.moved ∙ first.moved;
+  peers = next.peers ∙ first.peers;
+}
+
+pub same_node_probed : (now n : ℕ) (a b : PairsValue) → b ≡ probed_first now n a → IsSameNode a b
+same_node_probed now n a b is = record {
+  me = ap (λ (x : PairsValue). x.me) is;
+  longest = ap (λ (x : PairsValue). x.longest) is;
+  owners = ap (λ (x : PairsValue). length x.pairs) is;
+  moved = ap (λ (x : PairsValue). x.moved) is;
+  peers = ap (λ (x : PairsValue). length x.probes) is ∙ length-first_changed (next_probe now) n a.probes;
+}

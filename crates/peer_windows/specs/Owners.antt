@@ -1,5 +1,5 @@
 -- The pairs of owners and peers, and when they are looked at.
-use Rattle.std.specs.Prelude.{ℕ, ◌+◌, Bool, not, ◌&&◌, nat_le, nat_lt, length, if◌then◌else◌}
+use Rattle.std.specs.Prelude.{◌≡◌, ℕ, ◌+◌, Bool, not, ◌&&◌, nat_le, nat_lt, length, if◌then◌else◌}
 use Rattle.std.specs.Prelude.{is_some, List, [], ◌∷◌, ◌++◌, ◌-◌, ◌*◌, ◌/◌, ◌%◌, min, max}
 use Rattle.std.specs.Prelude.{slice_index_or, slice_set, map, replicate}
 use Rattle.std.specs.List.{range_with_len}
@@ -87,6 +87,23 @@ connected now peer a =
       pairs = map (λ pairs. with_pair pairs peer (joined now a.longest (pair_in pairs peer))) a.pairs;
       dues = map (λ due. min due now) a.dues;
     })
+
+-- when a peer that was due then is probed next: one that is due now is probed now
+abbrev pub next_probe : ℕ → ℕ → ℕ
+next_probe now due = if nat_le due now then now + probe_interval else due
+
+-- a peer is probed, if it is due
+abbrev pub probed : ℕ → ℕ → PairsValue → PairsValue
+probed now peer a =
+    record a { probes = slice_set a.probes peer (next_probe now (slice_index_or a.probes peer never)) }
+
+-- It is still the same node with as many owners and peers, the same longest pause, and nothing has grown.
+pub record IsSameNode (old new : PairsValue) : Type 0 where
+  pub me : new.me ≡ old.me
+  pub longest : new.longest ≡ old.longest
+  pub owners : length new.pairs ≡ length old.pairs
+  pub moved : new.moved ≡ old.moved
+  pub peers : length new.probes ≡ length old.probes
 
 -- When a peer is probed first: the peers have turns, which begin elsewhere at each node, and all turns end within the
 -- time from one probe to the next.

@@ -1,10 +1,11 @@
 //! What is due now is gathered, owner by owner in turn.
 
-ghost use Rattle.std.specs.Prelude.{◌≡◌, ◌≤◌, ◌<◌, IfSome, IfErr};
+ghost use Rattle.std.specs.Prelude.{◌≡◌, ◌≤◌, ◌<◌, ◌⊎◌, IfSome, IfErr, OnOk, true, map};
 ghost use Rattle.node_lock.specs.Views.{node_count};
 ghost use Rattle.peer_windows.specs.Pauses.{most_time};
 ghost use Rattle.peer_windows.specs.Sent.{IsLookAt, IsSeatAfter};
-ghost use Rattle.peer_windows.specs.Owed.{IsGathered, IsGatherFault};
+ghost use Rattle.peer_windows.specs.Owed.{IsGathered, IsGatherFault, is_full};
+ghost use Rattle.peer_windows.specs.Owners.{IsSameNode, next_probe, probed};
 
 use crate::owed::Owed;
 use crate::pairs::{PROBE_INTERVAL, Pairs};
@@ -44,6 +45,9 @@ impl Pairs {
         ensures owed { IsGathered locked.old owed.old owed.new }
         ensures fault { IfErr result (IsGatherFault locked.old seat.old) }
         ensures seat { IsSeatAfter locked.old seat.old seat.new }
+        ensures probes { OnOk result
+            ((is_full owed.new ≡ true) ⊎ (self.new.probes ≡ map (next_probe now) self.old.probes)) }
+        ensures node { IsSameNode self.old self.new }
         ensures same { locked.new ≡ locked.old }
     {
         'owners: for _ in 0..self.dues.len() {
@@ -79,6 +83,8 @@ impl Pairs {
         ensures owed { IsGathered locked.old owed.old owed.new }
         ensures fault { IfErr result (IsGatherFault locked.old seat.old) }
         ensures seat { IsSeatAfter locked.old seat.old seat.new }
+        ensures probes { self.new.probes ≡ self.old.probes }
+        ensures node { IsSameNode self.old self.new }
         ensures same { locked.new ≡ locked.old }
     {
         if owner >= self.dues.len() || self.dues[owner] > now {
@@ -119,6 +125,8 @@ impl Pairs {
         ensures owed { IsGathered locked.old owed.old owed.new }
         ensures fault { IfErr result (IsGatherFault locked.old seat.old) }
         ensures seat { IsSeatAfter locked.old seat.old seat.new }
+        ensures probes { self.new.probes ≡ self.old.probes }
+        ensures node { IsSameNode self.old self.new }
         ensures same { locked.new ≡ locked.old }
     {
         let Some(name) = self.name(&*locked, peer) else {
@@ -164,6 +172,7 @@ impl Pairs {
         ensures owed { IsGathered locked.old owed.old owed.new }
         ensures fault { IfErr result (IsGatherFault locked.old seat.old) }
         ensures seat { IsSeatAfter locked.old seat.old seat.new }
+        ensures probes { self.new ≡ probed now peer self.old }
         ensures same { locked.new ≡ locked.old }
     {
         if peer >= self.probes.len() || self.probes[peer] > now {

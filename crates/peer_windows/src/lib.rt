@@ -1,9 +1,9 @@
 //! What a node sends again by itself to a peer that may lack it, and when.
 //!
 //! `specs/Sent.antt` says what is sent again, `specs/Pauses.antt` which pauses there are, `specs/Pairs.antt` what a
-//! look at a pair of an owner and a peer brings, `specs/Answers.antt` what a frame of the peer brings, and
-//! `specs/Owners.antt` what all pairs are and when something is due. Nothing here knows of sockets, threads or clocks:
-//! times are milliseconds that are handed in.
+//! look at a pair of an owner and a peer brings, `specs/Answers.antt` what a frame of the peer brings,
+//! `specs/Owners.antt` what all pairs are and when something is due, and `specs/Notes.antt` what an answer of the node
+//! changes in them. Nothing here knows of sockets, threads or clocks: times are milliseconds that are handed in.
 #![tactic(auto)]
 
 mod answers;

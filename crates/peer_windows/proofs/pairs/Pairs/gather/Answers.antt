@@ -1,9 +1,11 @@
-use Rattle.std.proofs.Common.{◌∙◌}
+use Rattle.std.proofs.Common.{◌≡◌, ◌<◌, ◌∙◌, ap, arith, length}
 use Rattle.peer_windows.specs.Sent.{IsSeatAfter}
 use Rattle.peer_windows.specs.Owed.{IsGatherFault}
+use Rattle.peer_windows.specs.Owners.{PairsValue}
 use Rattle.peer_windows.proofs.Reading.{fault_told}
 use Rattle.peer_windows.proofs.Seats.{seat_on, gather_fault_on}
 use Rattle.peer_windows.proofs.Gathering.{gathered_on}
+use Rattle.peer_windows.proofs.EachOwner.{probed_more}
 use Rattle.peer_windows.proofs.pairs.Pairs.gather.Goals as goal
 
 pub returns-in_err-gather_owner-clause-seat : goal.returns-in_err-gather_owner-clause-seat
@@ -17,10 +19,20 @@ owners-preserved g c =
     let h = c.args.locked.now in
     let l = c.owners.locked in
     let was = c.owners.invariant in
+    let is = c.self-in-owners.view_is in
+    let next = c.gather_owner.ensures.node in
     record {
       same = c.gather_owner.ensures.same ∙ was.same;
       seat = seat_on h l c.args.seat.now c.owners.seat c.gather_owner.new.seat was.same was.seat
           c.gather_owner.ensures.seat;
+      probes = c.gather_owner.ensures.probes ∙ ap (λ (x : PairsValue). x.probes) is ∙ was.probes;
+      node = record {
+        me = next.me ∙ ap (λ (x : PairsValue). x.me) is ∙ was.node.me;
+        longest = next.longest ∙ ap (λ (x : PairsValue). x.longest) is ∙ was.node.longest;
+        owners = next.owners ∙ ap (λ (x : PairsValue). length x.pairs) is ∙ was.node.owners;
+        moved = next.moved ∙ ap (λ (x : PairsValue). x.moved) is ∙ was.node.moved;
+        peers = next.peers ∙ ap (λ (x : PairsValue). length x.probes) is ∙ was.node.peers;
+      };
       gathered = gathered_on h l c.args.owed.now c.owners.owed c.gather_owner.new.owed was.same was.gathered
           c.gather_owner.ensures.owed;
     }
@@ -59,10 +71,17 @@ peers-preserved g c =
     let h = c.owners.locked in
     let l = c.peers.locked in
     let was = c.peers.invariant in
+    let view : length c.self-2.inside.probes.items ≡ length c.owners.self.probes =
+    ap (λ (x : PairsValue). length x.probes) c.self-2.view_is in
+    let count : c.len-peer-end.result ≡ length c.self-2.inside.probes.items =
+    c.len-peer-end.ensures ∙ c.self-2.inside.probes.ok.0 in
+    let within : c.peers.peer < length c.owners.self.probes = omega arith in
     record {
       same = c.gather_probes.ensures.same ∙ was.same;
       seat = seat_on h l c.owners.seat c.peers.seat c.gather_probes.new.seat was.same was.seat
           c.gather_probes.ensures.seat;
+      probes = c.gather_probes.ensures.probes
+          ∙ probed_more c.args.now c.peers.peer c.owners.self c.peers.self within was.probes;
       gathered = gathered_on h l c.owners.owed c.peers.owed c.gather_probes.new.owed was.same was.gathered
           c.gather_probes.ensures.owed;
     }

@@ -1,6 +1,8 @@
 use Rattle.std.proofs.Common.{◌≡◌}
 use Rattle.peer_windows.specs.Sent.{IsSeatAfter}
+use Rattle.peer_windows.specs.Owners.{IsSameNode}
 use Rattle.peer_windows.specs.Owed.{IsGathered}
+use Rattle.peer_windows.proofs.EachOwner.{probed_first}
 use Rattle.peer_windows.proofs.pairs.Pairs.gather.Given as goal
 
 abbrev pub invariant-owners : goal.invariant-owners
@@ -8,6 +10,8 @@ invariant-owners g l =
     record {
       same : l.locked ≡ l.initial.locked;
       seat : IsSeatAfter l.initial.locked l.initial.seat l.seat;
+      probes : l.self.probes ≡ l.initial.self.probes;
+      node : IsSameNode l.initial.self l.self;
       gathered : IsGathered l.initial.locked l.initial.owed l.owed;
     }
 
@@ -16,5 +20,6 @@ invariant-peers g l =
     record {
       same : l.locked ≡ l.initial.locked;
       seat : IsSeatAfter l.initial.locked l.initial.seat l.seat;
+      probes : l.self ≡ probed_first l.now l.peer l.initial.self;
       gathered : IsGathered l.initial.locked l.initial.owed l.owed;
     }

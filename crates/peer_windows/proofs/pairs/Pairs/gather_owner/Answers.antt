@@ -4,6 +4,7 @@ use Rattle.peer_windows.specs.Owed.{IsGatherFault}
 use Rattle.peer_windows.proofs.Reading.{fault_told}
 use Rattle.peer_windows.proofs.Seats.{seat_on, gather_fault_on}
 use Rattle.peer_windows.proofs.Gathering.{gathered_on}
+use Rattle.peer_windows.proofs.EachOwner.{same_node_more}
 use Rattle.peer_windows.proofs.pairs.Pairs.gather_owner.Goals as goal
 
 pub returns-in_err-gather_pair-clause-fault : goal.returns-in_err-gather_pair-clause-fault
@@ -40,6 +41,8 @@ loop-peer-preserved g c =
       same = c.gather_pair.ensures.same ∙ was.same;
       seat = seat_on h l c.look_at.new.seat c.loop-peer.seat c.gather_pair.new.seat was.same was.seat
           c.gather_pair.ensures.seat;
+      probes = c.gather_pair.ensures.probes ∙ was.probes;
+      node = same_node_more _ _ _ was.node c.gather_pair.ensures.node;
       gathered = gathered_on h l c.args.owed.now c.loop-peer.owed c.gather_pair.new.owed was.same was.gathered
           c.gather_pair.ensures.owed;
     }

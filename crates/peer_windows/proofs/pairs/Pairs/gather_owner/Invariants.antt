@@ -1,5 +1,6 @@
 use Rattle.std.proofs.Common.{◌≡◌}
 use Rattle.peer_windows.specs.Sent.{IsSeatAfter}
+use Rattle.peer_windows.specs.Owners.{IsSameNode}
 use Rattle.peer_windows.specs.Owed.{IsGathered}
 use Rattle.peer_windows.proofs.pairs.Pairs.gather_owner.Given as goal
 
@@ -8,5 +9,7 @@ invariant-loop-peer g l =
     record {
       same : l.locked ≡ l.initial.locked;
       seat : IsSeatAfter l.initial.locked l.initial.seat l.seat;
+      probes : l.self.probes ≡ l.initial.self.probes;
+      node : IsSameNode l.initial.self l.self;
       gathered : IsGathered l.initial.locked l.initial.owed l.owed;
     }
