@@ -14,7 +14,8 @@ ghost use Rattle.batch_journal.specs.declared.fault.JournalFault.TheVariants as 
 ghost use Rattle.role_node.specs.Nodes.{IsLegalNode};
 ghost use Rattle.node_lock.specs.Holds.{end_of, Fits, receipt_of};
 ghost use Rattle.node_lock.specs.Views.{node_count, view_of, held_after_hold, seat_after_hold, IsHoldFault};
-ghost use Rattle.peer_windows.specs.Owed.{IsGathered};
+ghost use Rattle.peer_windows.specs.Notes.{noted};
+ghost use Rattle.peer_windows.specs.Owed.{IsGathered, IsGatherFault};
 ghost use Rattle.peer_windows.specs.Pauses.{most_time};
 ghost use Rattle.kept_node.specs.Events.{event_digits, IsEvent};
 ghost use Rattle.kept_node.specs.inside.Fields.{IsCommitted, event_in};
@@ -248,6 +249,8 @@ impl<L: Ledger, D: Disk> Kept<L, D> {
         outcome: &Outcome,
     )
         requires { now ≤ most_time }
+        ensures pairs { pairs.new ≡ noted self.old.held seat.old now (option_copied packet.entry) outcome.now
+            pairs.old }
         ensures same { self.new ≡ self.old }
         ensures crash { Survives D.Disk.may_leave D.Disk.is_clean self.new }
     {
@@ -270,6 +273,7 @@ impl<L: Ledger, D: Disk> Kept<L, D> {
     ) -> Result<(), StepFault>
         requires { now ≤ most_time }
         ensures owed { IsGathered self.old.held owed.old owed.new }
+        ensures fault { IfErr result (IsGatherFault self.old.held seat.old) }
         ensures untold { self.old.synced < end_of self.old.held → owed.new ≡ owed.old }
         ensures same { self.new ≡ self.old }
         ensures crash { Survives D.Disk.may_leave D.Disk.is_clean self.new }

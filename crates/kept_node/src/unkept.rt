@@ -1,10 +1,12 @@
 //! The same surface over a locked node that keeps all in memory.
 
 ghost use Rattle.std.specs.Prelude.{◌≡◌, ◌↔◌, ◌<◌, ◌≤◌, [], length, IsTrue, option_map, IfOk, IfErr, OnOk, OnErr};
+ghost use Rattle.std.specs.Option.{option_copied};
 ghost use Rattle.role_node.specs.Nodes.{IsLegalNode};
 ghost use Rattle.node_lock.specs.Holds.{end_of, Fits, receipt_of};
 ghost use Rattle.node_lock.specs.Views.{node_count, view_of, held_after_hold, seat_after_hold, IsHoldFault};
-ghost use Rattle.peer_windows.specs.Owed.{IsGathered};
+ghost use Rattle.peer_windows.specs.Notes.{noted};
+ghost use Rattle.peer_windows.specs.Owed.{IsGathered, IsGatherFault};
 ghost use Rattle.peer_windows.specs.Pauses.{most_time};
 
 use crate::untold::{Synced, Untold};
@@ -120,7 +122,8 @@ impl<L: Ledger> Unkept<L> {
         outcome: &Outcome,
     )
         requires { now ≤ most_time }
-        ensures { self.new ≡ self.old }
+        ensures pairs { pairs.new ≡ noted self.old seat.old now (option_copied packet.entry) outcome.now pairs.old }
+        ensures same { self.new ≡ self.old }
     {
         pairs.note(&mut self.locked, seat, now, packet, outcome);
     }
@@ -140,6 +143,7 @@ impl<L: Ledger> Unkept<L> {
     ) -> Result<(), StepFault>
         requires { now ≤ most_time }
         ensures owed { IsGathered self.old owed.old owed.new }
+        ensures fault { IfErr result (IsGatherFault self.old seat.old) }
         ensures same { self.new ≡ self.old }
     {
         pairs.gather(&mut self.locked, seat, now, rooms, owed)

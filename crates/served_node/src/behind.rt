@@ -2,10 +2,12 @@
 
 ghost use Rattle.std.specs.Prelude.{◌≡◌, ◌≤◌, ◌↔◌, ◌<◌, Bool, false, IsTrue, IfOk, IfErr, IfSome, OnOk, OnErr, OnSome};
 ghost use Rattle.std.specs.Prelude.{option_map, Some};
+ghost use Rattle.std.specs.Option.{option_copied};
 ghost use Rattle.node_lock.specs.Holds.{end_of, Held};
 ghost use Rattle.node_lock.specs.Receipts.{outcome_due};
 ghost use Rattle.node_lock.specs.Views.{node_count, view_of, held_after_hold, seat_after_hold, IsHoldFault};
-ghost use Rattle.peer_windows.specs.Owed.{IsGathered};
+ghost use Rattle.peer_windows.specs.Notes.{noted};
+ghost use Rattle.peer_windows.specs.Owed.{IsGathered, IsGatherFault};
 ghost use Rattle.peer_windows.specs.Pauses.{most_time};
 ghost use Rattle.served_node.specs.Served.{own_packet};
 ghost use Rattle.served_node.specs.declared.said.Said.{Said};
@@ -112,7 +114,9 @@ pub trait HeldNode {
         outcome: &Outcome,
     )
         requires { now ≤ most_time }
-        ensures { held self.new ≡ held self.old };
+        ensures pairs { pairs.new ≡ noted (held self.old) seat.old now (option_copied packet.entry) outcome.now
+            pairs.old }
+        ensures same { held self.new ≡ held self.old };
 
     /// Gathers what is due to single peers, as [`Pairs::gather`] does. Nothing is gathered that is not kept.
     ///
@@ -129,6 +133,7 @@ pub trait HeldNode {
     ) -> Result<(), StepFault>
         requires { now ≤ most_time }
         ensures owed { IsGathered (held self.old) owed.old owed.new }
+        ensures fault { IfErr result (IsGatherFault (held self.old) seat.old) }
         ensures same { held self.new ≡ held self.old };
 }
 

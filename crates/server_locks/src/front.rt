@@ -1,6 +1,9 @@
 //! What comes before the inbox, and what is sent to single peers.
 
-ghost use Rattle.std.specs.Prelude.{◌≡◌, ◌+◌, ◌≤◌, None, false, true, is_some};
+ghost use Rattle.std.specs.Prelude.{◌≡◌, ◌+◌, ◌≤◌, ◌<◌, ◌||◌, nat_le, ◌++◌, ◌∷◌, [], None, false, true, is_some};
+ghost use Rattle.std.specs.Prelude.{vec_len};
+ghost use Rattle.std.specs.Vec.{vec_capacity};
+ghost use Rattle.peer_windows.specs.Owners.{next_due};
 ghost use Rattle.peer_windows.specs.Pauses.{most_time};
 ghost use Rattle.served_node.specs.Served.{grows};
 
@@ -91,7 +94,8 @@ impl<U: Drop> Front<U> {
     /// The next job: a packet that comes first, else one that the node sends to itself once more, else what waits in
     /// the inbox.
     pub fn next_job<R: Wait>(&mut self, rt: &R, queue: &mut JobQueue<'_>) -> Option<Job>
-        ensures { self.new.first.own ≡ None }
+        ensures own { self.new.first.own ≡ None }
+        ensures same { self.new ≡ record self.old { first = self.new.first; again = self.new.again } }
     {
         let mut packet = self.first.next();
         if packet.is_none() {
@@ -113,6 +117,9 @@ impl<U: Drop> Front<U> {
         ensures leaves { leaves ≡ true → self.new.tell_by ≤ now }
         ensures soon { self.new.tell_by ≤ now + 10 }
         ensures sooner { self.new.tell_by ≤ self.old.tell_by }
+        ensures put { vec_len self.old.untold < vec_capacity self.old.untold →
+            self.new.untold.items ≡ self.old.untold.items ++ done ∷ [] }
+        ensures same { self.new ≡ record self.old { untold = self.new.untold; tell_by = self.new.tell_by } }
     {
         let by = if leaves { now } else { now + LONGEST_UNTOLD };
         self.tell_by = self.tell_by.min(by);
@@ -121,14 +128,16 @@ impl<U: Drop> Front<U> {
     }
 
     /// Whether it is time to tell what is untold, or for what is due to single peers, which waits for that.
-    pub fn tells_now(&self, now: u64) -> bool {
+    pub fn tells_now(&self, now: u64) -> bool
+        ensures { result ≡ (nat_le self.now.tell_by now || nat_le (next_due self.now.pairs) now) }
+    {
         self.tell_by <= now || self.pairs.next_due() <= now
     }
 
     /// Whether a stream has grown since this was last asked, for which packets may wait.
     pub fn has_grown(&mut self) -> bool
         ensures told { result ≡ self.old.has_grown }
-        ensures since { self.new.has_grown ≡ false }
+        ensures since { self.new ≡ record self.old { has_grown = false } }
     {
         mem::replace(&mut self.has_grown, false)
     }
@@ -143,6 +152,7 @@ impl<U: Drop> Front<U> {
     pub fn note(&mut self, packet: Option<&Packet>, outcome: &Outcome)
         ensures grown { is_some packet.entry ≡ true → grows outcome.now ≡ true → self.new.has_grown ≡ true }
         ensures kept { self.old.has_grown ≡ true → self.new.has_grown ≡ true }
+        ensures same { self.new ≡ record self.old { first = self.new.first; has_grown = self.new.has_grown } }
     {
         let Some(packet) = packet else {
             return;

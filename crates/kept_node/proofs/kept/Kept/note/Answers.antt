@@ -13,7 +13,7 @@ returns-clause-crash g c =
       key = c.self.inside.journal.key;
       synced = c.self.inside.synced;
       broken = c.self.inside.journal.broken;
-    })) (sym c.note.ensures)
+    })) (sym c.note.ensures.same)
     (kept_survives g.D.Disk.may_leave g.D.Disk.is_clean c.self.inside.locked c.self.inside.journal
     c.self.inside.waiting.items (vec_capacity c.self.inside.waiting) c.self.inside.recorded c.self.inside.synced
     c.self.invariant)
