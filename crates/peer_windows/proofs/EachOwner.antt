@@ -72,14 +72,6 @@ joined_more now peer i a b within same is =
     ap (joined_at now i peer) is
     ∙ owners_changed_more (joined_in now a.longest peer) (λ due. min due now) i a within same
 
-pub joined_all : (now peer n : ℕ) (a : PairsValue) → length a.pairs ≤ n → length a.dues ≡ length a.pairs →
-    joined_first now peer n a ≡ record a {
-      pairs = map (joined_in now a.longest peer) a.pairs;
-      dues = map (λ due. min due now) a.dues;
-    }
-joined_all now peer n a all same =
-    owners_changed_all (joined_in now a.longest peer) (λ due. min due now) n a all same
-
 -- the pairs of an owner, where that of a peer begins anew
 abbrev pub begun_in : ℕ → ℕ → ℕ → List Pair → List Pair
 begun_in now longest peer pairs = with_pair pairs peer (anew now longest (pair_in pairs peer))
@@ -144,28 +136,6 @@ probed_more now peer a b within is =
     ap (probed now peer) is
     ∙ ap (λ times. record a { probes = times }) (first_changed_more (next_probe now) a.probes peer never within)
 
--- all of them
-pub probed_all : (now n : ℕ) (a b : PairsValue) → length a.probes ≤ n → b ≡ probed_first now n a →
-    b.probes ≡ map (next_probe now) a.probes
-probed_all now n a b all is =
-    ap (λ (x : PairsValue). x.probes) is ∙ first_changed_all (next_probe now) a.probes n all
-
-length-first_changed : {X : Type 0} (f : X → X) (n : ℕ) (xs : List X) → length (first_changed f n xs) ≡ length xs
-length-first_changed f n xs =
-    let long : length (first_changed f n xs) ≡ length (map f (take n xs)) + length (drop n xs) =
-    length-append (map f (take n xs)) (drop n xs) in
-    omega (arith, long, length-map (take n xs) f, length-take n xs, length-drop n xs)
-
--- the same node
-pub same_node : (a b : PairsValue) → b ≡ a → IsSameNode a b
-same_node a b is = record {
-  me = ap (λ (x : PairsValue). x.me) is;
-  longest = ap (λ (x : PairsValue). x.longest) is;
-  owners = ap (λ (x : PairsValue). length x.pairs) is;
-  moved = ap (λ (x : PairsValue). x.moved) is;
-  peers = ap (λ (x : PairsValue). length x.probes) is;
-}
-
 pub same_node_more : (a b c : PairsValue) → IsSameNode a b → IsSameNode b c → IsSameNode a c
 same_node_more a b c first next = record {
   me = next.me ∙ first.me;
@@ -173,13 +143,4 @@ same_node_more a b c first next = record {
   owners = next.owners ∙ first.owners;
   moved = next.moved ∙ first.moved;
   peers = next.peers ∙ first.peers;
-}
-
-pub same_node_probed : (now n : ℕ) (a b : PairsValue) → b ≡ probed_first now n a → IsSameNode a b
-same_node_probed now n a b is = record {
-  me = ap (λ (x : PairsValue). x.me) is;
-  longest = ap (λ (x : PairsValue). x.longest) is;
-  owners = ap (λ (x : PairsValue). length x.pairs) is;
-  moved = ap (λ (x : PairsValue). x.moved) is;
-  peers = ap (λ (x : PairsValue). length x.probes) is ∙ length-first_changed (next_probe now) n a.probes;
 }

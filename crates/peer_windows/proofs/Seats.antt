@@ -33,15 +33,6 @@ seat_more h s t u first next =
       ]
     ]
 
--- a fault of reading later is one of reading before
-pub fault_since : (h : Held) (s t : Sitting) (fault : StepFault) → IsSeatAfter h s t → IsReadFault h t fault →
-    IsReadFault h s fault
-fault_since h s t fault after bad =
-    elim after.seat [
-      | inl same ↦ subst (λ x. IsReadFault h x fault) same bad
-      | inr was ↦ fault_before h s t fault was.1 was.0 bad
-    ]
-
 -- a fault of reading is one of gathering
 pub gather_fault_read : (h : Held) (s : Sitting) (fault : StepFault) → IsReadFault h s fault → IsGatherFault h s fault
 gather_fault_read h s (Behind seen found) bad = bad
