@@ -5,3 +5,7 @@ pub mod Times
 pub mod EachOwner
 pub mod Noting
 pub mod Seats
+pub mod PairLooks
+pub mod Turns
+pub mod OwnerLooks
+pub mod AllLooks

@@ -5,3 +5,5 @@ pub mod Owners
 pub mod Sent
 pub mod Owed
 pub mod Notes
+pub mod Looks
+pub mod inside

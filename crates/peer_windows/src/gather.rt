@@ -1,11 +1,13 @@
 //! What is due now is gathered, owner by owner in turn.
 
-ghost use Rattle.std.specs.Prelude.{◌≡◌, ◌≤◌, ◌<◌, ◌⊎◌, IfSome, IfErr, OnOk, true, map};
+ghost use Rattle.std.specs.Prelude.{◌≡◌, ◌≤◌, ◌<◌, ◌⊎◌, IfSome, IsSome, IfOk, IfErr, OnOk, Some, true, map};
 ghost use Rattle.node_lock.specs.Views.{node_count};
 ghost use Rattle.peer_windows.specs.Pauses.{most_time};
 ghost use Rattle.peer_windows.specs.Sent.{IsLookAt, IsSeatAfter};
 ghost use Rattle.peer_windows.specs.Owed.{IsGathered, IsGatherFault, is_full};
-ghost use Rattle.peer_windows.specs.Owners.{IsSameNode, next_probe, probed};
+ghost use Rattle.peer_windows.specs.Owners.{IsSameNode, next_probe, pair_at, probed, with_pair_at};
+ghost use Rattle.peer_windows.specs.Looks.{AreLookedAt, after_sending};
+ghost use Rattle.peer_windows.specs.inside.PairLooks.{IsPairGathered, IsOwnerGathered, AreRoomsAfter};
 
 use crate::owed::Owed;
 use crate::pairs::{PROBE_INTERVAL, Pairs};
@@ -14,6 +16,7 @@ use crate::peer_sent::{seen_of, window_at};
 use crate::seen::Step;
 use crate::sent::look_at;
 use crate::stream_look::StreamLook;
+use crate::window::vote_end;
 use node_lock::{Locked, Seat, StepFault};
 use quorum_sizes::NodeName;
 use std::sync::ledger::Ledger;
@@ -45,18 +48,18 @@ impl Pairs {
         ensures owed { IsGathered locked.old owed.old owed.new }
         ensures fault { IfErr result (IsGatherFault locked.old seat.old) }
         ensures seat { IsSeatAfter locked.old seat.old seat.new }
+        ensures looks { OnOk result
+            (AreLookedAt locked.old now rooms.old rooms.new owed.new self.old self.new) }
         ensures probes { OnOk result
             ((is_full owed.new ≡ true) ⊎ (self.new.probes ≡ map (next_probe now) self.old.probes)) }
         ensures node { IsSameNode self.old self.new }
         ensures same { locked.new ≡ locked.old }
     {
-        'owners: for _ in 0..self.dues.len() {
+        'owners: for _turn in 0..self.dues.len() {
             if owed.is_full() {
                 return Ok(());
             }
-            let owner = self.turn;
-            let behind = owner.saturating_add(1);
-            self.turn = if behind < self.dues.len() { behind } else { 0 };
+            let owner = self.take_turn();
             self.gather_owner(locked, seat, now, owner, rooms, owed)?;
         }
         'peers: for peer in 0..self.probes.len() {
@@ -83,32 +86,32 @@ impl Pairs {
         ensures owed { IsGathered locked.old owed.old owed.new }
         ensures fault { IfErr result (IsGatherFault locked.old seat.old) }
         ensures seat { IsSeatAfter locked.old seat.old seat.new }
+        ensures looks { OnOk result
+            (IsOwnerGathered locked.old now owner rooms.old rooms.new owed.new self.old self.new) }
         ensures probes { self.new.probes ≡ self.old.probes }
         ensures node { IsSameNode self.old self.new }
         ensures same { locked.new ≡ locked.old }
     {
-        if owner >= self.dues.len() || self.dues[owner] > now {
+        if self.due(owner) > now {
             return Ok(());
         }
-        self.dues[owner] = now + NEXT_ROOM;
-        let Some(name) = self.name(&*locked, owner) else {
+        self.set_due(owner, now + NEXT_ROOM);
+        let Some(name) = name_of(&*locked, owner) else {
             return Ok(());
         };
         let look = look_at(locked, seat, name)?;
         let mut next = NEVER;
         for peer in 0..rooms.len() {
             let room = &mut rooms[peer];
-            next = next.min(self.gather_pair(locked, seat, now, name, &look, peer, room, owed)?);
+            next = next.min(self.gather_peer(locked, seat, now, name, &look, peer, room, owed)?);
         }
-        if let Some(due) = self.dues.get_mut(owner) {
-            *due = next;
-        }
+        self.set_due(owner, next);
         Ok(())
     }
 
-    /// Gathers what a pair has the node send. When the pair is looked at next.
+    /// Gathers what a pair has the node send, where there is a connection to the peer. When the owner is due for it.
     #[tactic(auto, using(crate::proofs::Gathering::gathered_once, crate::proofs::Seats::gather_seats))]
-    fn gather_pair<L: Ledger>(
+    fn gather_peer<L: Ledger>(
         &mut self,
         locked: &mut Locked<L>,
         seat: &mut Seat<L>,
@@ -125,36 +128,84 @@ impl Pairs {
         ensures owed { IsGathered locked.old owed.old owed.new }
         ensures fault { IfErr result (IsGatherFault locked.old seat.old) }
         ensures seat { IsSeatAfter locked.old seat.old seat.new }
+        ensures pair { IfOk result (λ due.
+            IsPairGathered locked.old now owner peer room.old room.new owed.new due self.old self.new) }
         ensures probes { self.new.probes ≡ self.old.probes }
         ensures node { IsSameNode self.old self.new }
         ensures same { locked.new ≡ locked.old }
     {
-        let Some(name) = self.name(&*locked, peer) else {
+        let Some(name) = name_of(&*locked, peer) else {
             return Ok(NEVER);
         };
-        let at = usize::from(owner.index());
         let Some(free) = *room else {
             return Ok(NEVER);
         };
-        if at >= self.pairs.len() {
-            return Ok(NEVER);
-        }
-        let seen = seen_of(&*locked, look, owner, name);
-        let step = self.pairs[at].attend(peer, now, self.longest, seen);
+        let (due, left) = self.gather_pair(locked, seat, now, owner, look, name, free, owed)?;
+        *room = Some(left);
+        Ok(due)
+    }
+
+    /// Gathers what a pair has the node send, where the peer takes so many messages. When the owner is due for it, and
+    /// how many the peer takes then.
+    #[tactic(auto, using(crate::proofs::Gathering::gathered_once, crate::proofs::Seats::gather_seats))]
+    fn gather_pair<L: Ledger>(
+        &mut self,
+        locked: &mut Locked<L>,
+        seat: &mut Seat<L>,
+        now: u64,
+        owner: NodeName,
+        look: &StreamLook,
+        peer: NodeName,
+        free: u32,
+        owed: &mut Owed,
+    ) -> Result<(u64, u32), StepFault>
+        requires time { now ≤ most_time }
+        requires owner { owner < node_count locked.old }
+        requires peer { peer < node_count locked.old }
+        requires look { IsLookAt locked.old owner look.now }
+        ensures owed { IsGathered locked.old owed.old owed.new }
+        ensures fault { IfErr result (IsGatherFault locked.old seat.old) }
+        ensures seat { IsSeatAfter locked.old seat.old seat.new }
+        ensures pair { IfOk result (λ r.
+            IsPairGathered locked.old now owner peer (Some free) (Some r.1) owed.new r.0 self.old self.new) }
+        ensures probes { self.new.probes ≡ self.old.probes }
+        ensures node { IsSameNode self.old self.new }
+        ensures same { locked.new ≡ locked.old }
+    {
+        let seen = seen_of(&*locked, look, owner, peer);
+        let step = self.attend(owner, peer, now, seen);
         if step == Step::Nothing {
-            return Ok(self.pairs[at].until(peer));
+            return Ok((self.until(owner, peer), free));
         }
         if free < ENOUGH_ROOM {
-            self.pairs[at].owe(peer, step);
-            return Ok(now + NEXT_ROOM);
+            self.owe(owner, peer, step);
+            return Ok((now + NEXT_ROOM, free));
         }
-        let count = owed.push(locked, seat, owner, name, step)?;
-        *room = Some(left_of(free, count));
+        let count = owed.push(locked, seat, owner, peer, step)?;
+        self.note_sent(&*locked, now, owner, peer, step);
+        Ok((self.until(owner, peer), left_of(free, count)))
+    }
+
+    /// This was sent to the peer: of a window it is kept how far the peer had voted, and where the window ended.
+    fn note_sent<L: Ledger>(
+        &mut self,
+        locked: &Locked<L>,
+        now: u64,
+        owner: NodeName,
+        peer: NodeName,
+        step: Step,
+    )
+        requires time { now ≤ most_time }
+        requires owner { owner < node_count locked.now }
+        requires peer { peer < node_count locked.now }
+        ensures { self.new ≡ with_pair_at self.old owner peer
+            (after_sending locked.now now owner peer step (pair_at self.old owner peer)) }
+    {
         if matches!(step, Step::Window | Step::Rest(_)) {
-            let end = window_at(&*locked, owner, name).to;
-            self.pairs[at].serve(peer, now, seen.voted, end);
+            let voted = vote_end(locked.last_vote(owner, peer));
+            let end = window_at(locked, owner, peer).to;
+            self.serve(owner, peer, now, voted, end);
         }
-        Ok(self.pairs[at].until(peer))
     }
 
     /// Gathers the probes of a peer, if they are due: one for each pair of it that sleeps.
@@ -173,13 +224,14 @@ impl Pairs {
         ensures fault { IfErr result (IsGatherFault locked.old seat.old) }
         ensures seat { IsSeatAfter locked.old seat.old seat.new }
         ensures probes { self.new ≡ probed now peer self.old }
+        ensures rooms { AreRoomsAfter rooms.old rooms.new }
         ensures same { locked.new ≡ locked.old }
     {
         if peer >= self.probes.len() || self.probes[peer] > now {
             return Ok(());
         }
         self.probes[peer] = now + PROBE_INTERVAL;
-        let Some(name) = self.name(&*locked, peer) else {
+        let Some(name) = name_of(&*locked, peer) else {
             return Ok(());
         };
         if name == self.me || peer >= rooms.len() {
@@ -214,31 +266,33 @@ impl Pairs {
         ensures seat { IsSeatAfter locked.old seat.old seat.new }
         ensures same { locked.new ≡ locked.old }
     {
-        let Some(name) = self.name(&*locked, owner) else {
+        let Some(name) = name_of(&*locked, owner) else {
             return Ok(());
         };
-        if let Some(pairs) = self.pairs.get(owner) {
-            if pairs.until(usize::from(peer.index())) == NEVER {
-                owed.push(locked, seat, name, peer, Step::Probe)?;
-            }
+        if self.until(name, peer) == NEVER {
+            owed.push(locked, seat, name, peer, Step::Probe)?;
         }
         Ok(())
     }
+}
 
-    /// The name of the node of this index, if the node behind the lock has it.
-    fn name<L: Ledger>(&self, locked: &Locked<L>, index: usize) -> Option<NodeName>
-        ensures { IfSome result (λ name. name < node_count locked.now) }
-    {
-        if index >= usize::from(self.sizes.n()) {
-            return None;
-        }
-        let name = self.sizes.name(index as u8)?;
-        if locked.has(name) { Some(name) } else { None }
+/// The name of the node of this index, if the node behind the lock has it.
+fn name_of<L: Ledger>(locked: &Locked<L>, index: usize) -> Option<NodeName>
+    ensures name { IfSome result (λ name. (name ≡ index) × (name < node_count locked.now)) }
+    ensures node { index < node_count locked.now → IsSome result }
+{
+    let sizes = locked.config().roles().sizes();
+    if index < usize::from(sizes.n()) {
+        sizes.name(index as u8)
+    } else {
+        None
     }
 }
 
 /// What is left of a room where so many messages more are put.
-fn left_of(room: u32, count: usize) -> u32 {
+fn left_of(room: u32, count: usize) -> u32
+    ensures { result ≤ room }
+{
     match u32::try_from(count) {
         Ok(count) => room.saturating_sub(count),
         Err(_) => 0,

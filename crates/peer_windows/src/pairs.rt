@@ -1,18 +1,22 @@
 //! The pairs of all owners and peers: what changes them, and when something is due.
 
-ghost use Rattle.std.specs.Prelude.{◌≡◌, ◌<◌, ◌≤◌, true, false, IfOk, map};
+ghost use Rattle.std.specs.Prelude.{◌≡◌, ◌<◌, ◌≤◌, true, false, IfOk, length, map};
 ghost use Rattle.std.specs.List.{range_with_len};
 ghost use Rattle.quorum_sizes.specs.Sizes.{most_nodes};
 ghost use Rattle.peer_windows.specs.Pauses.{most_time, most_pause, longest_look as longest_look_of};
-ghost use Rattle.peer_windows.specs.Answers.{heard, moved_on, passed, voted_on};
+ghost use Rattle.peer_windows.specs.Answers.{heard, moved_on, passed, served, voted_on};
+ghost use Rattle.peer_windows.specs.Pairs.{attended, attended_step, owing};
 ghost use Rattle.peer_windows.specs.Owners.{with_pair_at, pair_at, begun_at, joined_at, grown, due_by, owed_now};
 ghost use Rattle.peer_windows.specs.Owners.{next_due, least as least_of, is_served, is_still, probed_soon, connected};
-ghost use Rattle.peer_windows.specs.Owners.{first_probe, pairs_at_first};
+ghost use Rattle.peer_windows.specs.Owners.{first_probe, pairs_at_first, pairs_of};
+ghost use Rattle.peer_windows.specs.Looks.{due_at};
+ghost use Rattle.peer_windows.specs.inside.PairLooks.{turned, with_due};
 
 use crate::answers::Repeat;
 use crate::owner_pairs::OwnerPairs;
 use crate::pause::{FIRST_PAUSE, NEVER};
-use crate::seen::Level;
+use crate::seen::{Level, Seen, Step};
+use link_frames::Place;
 use quorum_sizes::{NodeName, Sizes};
 use std::alloc::{AllocError, Global};
 use std::marker::Model;
@@ -28,7 +32,6 @@ const PROBE_PAUSE: u64 = 10_000;
 /// The pairs of all owners and peers of a node, and when something is due.
 #[derive(Drop)]
 pub struct Pairs {
-    pub(crate) sizes: Sizes,
     pub(crate) me: NodeName,
     /// The longest pause between looks, in milliseconds.
     pub(crate) longest: u32,
@@ -81,7 +84,6 @@ impl Pairs {
             pairs.push(OwnerPairs::new(alloc, nodes)?)?;
         }
         let mut made = Pairs {
-            sizes,
             me,
             longest: longest_look(nodes),
             pairs,
@@ -164,6 +166,37 @@ impl Pairs {
         self.look_by(owner, now + u64::from(FIRST_PAUSE));
     }
 
+    /// The owner whose turn it is. Then it is the next one's.
+    pub(crate) fn take_turn(&mut self) -> usize
+        ensures owner { result ≡ self.old.turn }
+        ensures within { self.old.turn < length self.old.dues }
+        ensures next { self.new ≡ turned self.old }
+    {
+        let owner = self.turn;
+        let behind = owner.saturating_add(1);
+        self.turn = if behind < self.dues.len() { behind } else { 0 };
+        owner
+    }
+
+    /// When the owner's pairs are looked at next.
+    pub(crate) fn due(&self, owner: usize) -> u64
+        ensures { result ≡ due_at self.now owner }
+    {
+        match self.dues.get(owner) {
+            Some(due) => *due,
+            None => NEVER,
+        }
+    }
+
+    /// The owner's pairs are looked at next at this time.
+    pub(crate) fn set_due(&mut self, owner: usize, time: u64)
+        ensures { self.new ≡ with_due self.old owner time }
+    {
+        if owner < self.dues.len() {
+            self.dues[owner] = time;
+        }
+    }
+
     /// The owner's pairs are looked at by this time at the latest.
     fn look_by(&mut self, owner: usize, time: u64)
         ensures { self.new ≡ due_by self.old owner time }
@@ -179,6 +212,60 @@ impl Pairs {
     {
         let owner = usize::from(owner.index());
         owner < self.pairs.len() && self.pairs[owner].is_served(usize::from(peer.index()))
+    }
+
+    /// What is to be sent to the peer now that this is seen, as [`Pair::attend`] says.
+    pub(crate) fn attend(&mut self, owner: NodeName, peer: NodeName, now: u64, seen: Seen) -> Step
+        requires { now ≤ most_time }
+        ensures step { peer < length (pairs_of self.old owner) →
+            result ≡ attended_step now seen (pair_at self.old owner peer) }
+        ensures pair { self.new ≡ with_pair_at self.old owner peer
+            (attended now self.old.longest seen (pair_at self.old owner peer)) }
+    {
+        let owner = usize::from(owner.index());
+        if owner < self.pairs.len() {
+            self.pairs[owner].attend(usize::from(peer.index()), now, self.longest, seen)
+        } else {
+            Step::Nothing
+        }
+    }
+
+    /// This is sent to the peer at the next look.
+    pub(crate) fn owe(&mut self, owner: NodeName, peer: NodeName, step: Step)
+        ensures { self.new ≡ with_pair_at self.old owner peer (owing step (pair_at self.old owner peer)) }
+    {
+        let owner = usize::from(owner.index());
+        if owner < self.pairs.len() {
+            self.pairs[owner].owe(usize::from(peer.index()), step);
+        }
+    }
+
+    /// A window was sent to the peer, which had voted so far.
+    pub(crate) fn serve(
+        &mut self,
+        owner: NodeName,
+        peer: NodeName,
+        now: u64,
+        voted: u32,
+        end: Place,
+    )
+        requires { now ≤ most_time }
+        ensures { self.new ≡ with_pair_at self.old owner peer (served now voted end (pair_at self.old owner peer)) }
+    {
+        let owner = usize::from(owner.index());
+        if owner < self.pairs.len() {
+            self.pairs[owner].serve(usize::from(peer.index()), now, voted, end);
+        }
+    }
+
+    /// When the pair of the peer is looked at next.
+    pub(crate) fn until(&self, owner: NodeName, peer: NodeName) -> u64
+        ensures { result ≡ (pair_at self.now owner peer).look.until }
+    {
+        match self.pairs.get(usize::from(owner.index())) {
+            Some(pairs) => pairs.until(usize::from(peer.index())),
+            None => NEVER,
+        }
     }
 
     /// A vote of the peer has counted, after which the pair stands so.

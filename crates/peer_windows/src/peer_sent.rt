@@ -7,6 +7,7 @@ ghost use Rattle.node_lock.specs.Views.{node_count};
 ghost use Rattle.peer_windows.specs.Sent.{window_of, rest_of, reach_of, level_at, is_settled_at};
 ghost use Rattle.peer_windows.specs.Sent.{IsReadFault, IsSeatAfter, IsLookAt};
 ghost use Rattle.peer_windows.specs.Owed.{step_messages};
+ghost use Rattle.peer_windows.specs.Looks.{seen_at};
 ghost use Rattle.peer_windows.specs.Pairs.{seems_settled};
 
 use crate::seen::{Level, Seen, Step};
@@ -150,6 +151,7 @@ pub fn seen_of<L: Ledger>(
     ensures reach { result.reach ≡ reach_of locked.now owner }
     ensures voted { result.voted ≡ voted_to (last_vote_at locked.now.node.history owner peer) }
     ensures settled { seems_settled result ≡ is_settled_at locked.now owner peer }
+    ensures value { result ≡ seen_at locked.now owner peer }
 {
     Seen {
         reach: look.reach,
