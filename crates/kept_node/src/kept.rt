@@ -2,7 +2,7 @@
 
 ghost use Rattle.std.specs.Prelude.{◌≡◌, ◌↔◌, ◌⊎◌, ◌<◌, ◌≤◌, ◌+◌, [], false, length, IsTrue, List, ℕ};
 ghost use Rattle.std.specs.Prelude.{option_map, Ok, IfOk, IfErr, IfSome, OnOk, OnErr};
-ghost use Rattle.std.specs.Prelude.{◌++◌, IsOk, vec_len};
+ghost use Rattle.std.specs.Prelude.{◌++◌, IsOk, vec_len, true, map};
 ghost use Rattle.std.specs.Option.{option_copied};
 ghost use Rattle.std.specs.Vec.{vec_capacity};
 ghost use Rattle.batch_journal.specs.Digits.{AreDigits};
@@ -15,7 +15,9 @@ ghost use Rattle.role_node.specs.Nodes.{IsLegalNode};
 ghost use Rattle.node_lock.specs.Holds.{end_of, Fits, receipt_of};
 ghost use Rattle.node_lock.specs.Views.{node_count, view_of, held_after_hold, seat_after_hold, IsHoldFault};
 ghost use Rattle.peer_windows.specs.Notes.{noted};
-ghost use Rattle.peer_windows.specs.Owed.{IsGathered, IsGatherFault};
+ghost use Rattle.peer_windows.specs.Looks.{AreLookedAt};
+ghost use Rattle.peer_windows.specs.Owed.{IsGathered, IsGatherFault, is_full as is_full_of};
+ghost use Rattle.peer_windows.specs.Owners.{next_probe};
 ghost use Rattle.peer_windows.specs.Pauses.{most_time};
 ghost use Rattle.kept_node.specs.Events.{event_digits, IsEvent};
 ghost use Rattle.kept_node.specs.inside.Fields.{IsCommitted, event_in};
@@ -275,6 +277,10 @@ impl<L: Ledger, D: Disk> Kept<L, D> {
         ensures owed { IsGathered self.old.held owed.old owed.new }
         ensures fault { IfErr result (IsGatherFault self.old.held seat.old) }
         ensures untold { self.old.synced < end_of self.old.held → owed.new ≡ owed.old }
+        ensures looks { self.old.synced ≡ end_of self.old.held → OnOk result
+            (AreLookedAt self.old.held now rooms.old rooms.new owed.new pairs.old pairs.new) }
+        ensures probes { self.old.synced ≡ end_of self.old.held → OnOk result ((is_full_of owed.new ≡ true)
+            ⊎ (pairs.new.probes ≡ map (next_probe now) pairs.old.probes)) }
         ensures same { self.new ≡ self.old }
         ensures crash { Survives D.Disk.may_leave D.Disk.is_clean self.new }
     {

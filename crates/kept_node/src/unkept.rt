@@ -1,12 +1,15 @@
 //! The same surface over a locked node that keeps all in memory.
 
 ghost use Rattle.std.specs.Prelude.{◌≡◌, ◌↔◌, ◌<◌, ◌≤◌, [], length, IsTrue, option_map, IfOk, IfErr, OnOk, OnErr};
+ghost use Rattle.std.specs.Prelude.{◌⊎◌, true, map};
 ghost use Rattle.std.specs.Option.{option_copied};
 ghost use Rattle.role_node.specs.Nodes.{IsLegalNode};
 ghost use Rattle.node_lock.specs.Holds.{end_of, Fits, receipt_of};
 ghost use Rattle.node_lock.specs.Views.{node_count, view_of, held_after_hold, seat_after_hold, IsHoldFault};
 ghost use Rattle.peer_windows.specs.Notes.{noted};
-ghost use Rattle.peer_windows.specs.Owed.{IsGathered, IsGatherFault};
+ghost use Rattle.peer_windows.specs.Looks.{AreLookedAt};
+ghost use Rattle.peer_windows.specs.Owed.{IsGathered, IsGatherFault, is_full};
+ghost use Rattle.peer_windows.specs.Owners.{next_probe};
 ghost use Rattle.peer_windows.specs.Pauses.{most_time};
 
 use crate::untold::{Synced, Untold};
@@ -144,6 +147,10 @@ impl<L: Ledger> Unkept<L> {
         requires { now ≤ most_time }
         ensures owed { IsGathered self.old owed.old owed.new }
         ensures fault { IfErr result (IsGatherFault self.old seat.old) }
+        ensures looks { OnOk result
+            (AreLookedAt self.old now rooms.old rooms.new owed.new pairs.old pairs.new) }
+        ensures probes { OnOk result
+            ((is_full owed.new ≡ true) ⊎ (pairs.new.probes ≡ map (next_probe now) pairs.old.probes)) }
         ensures same { self.new ≡ self.old }
     {
         pairs.gather(&mut self.locked, seat, now, rooms, owed)

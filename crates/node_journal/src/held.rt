@@ -18,6 +18,7 @@ pub struct Journaled<L: Ledger, D: Disk> {
 
 impl<L: Ledger + Send + Sync, D: Disk> HeldNode for Journaled<L, D> {
     ghost use Rattle.std.specs.Prelude.{◌≡◌, ◌≤◌, option_map};
+    ghost use Rattle.node_lock.specs.Holds.{end_of};
     ghost use Rattle.kept_node.specs.Keeping as keeping;
     ghost use Rattle.node_journal.specs.Keeping.{said_of, MayLeave};
 
@@ -28,6 +29,8 @@ impl<L: Ledger + Send + Sync, D: Disk> HeldNode for Journaled<L, D> {
     ghost held = { λ a. a.kept.held };
 
     ghost is_full = { λ a. keeping.is_full a.kept };
+
+    ghost is_kept = { λ a. a.kept.synced ≡ end_of a.kept.held };
 
     ghost said = { λ u. said_of u };
 

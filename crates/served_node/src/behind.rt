@@ -1,13 +1,15 @@
 //! What is behind a serving node's lock.
 
 ghost use Rattle.std.specs.Prelude.{◌≡◌, ◌≤◌, ◌↔◌, ◌<◌, Bool, false, IsTrue, IfOk, IfErr, IfSome, OnOk, OnErr, OnSome};
-ghost use Rattle.std.specs.Prelude.{option_map, Some};
+ghost use Rattle.std.specs.Prelude.{◌⊎◌, option_map, Some, IsSome, true, map};
 ghost use Rattle.std.specs.Option.{option_copied};
 ghost use Rattle.node_lock.specs.Holds.{end_of, Held};
 ghost use Rattle.node_lock.specs.Receipts.{outcome_due};
 ghost use Rattle.node_lock.specs.Views.{node_count, view_of, held_after_hold, seat_after_hold, IsHoldFault};
 ghost use Rattle.peer_windows.specs.Notes.{noted};
-ghost use Rattle.peer_windows.specs.Owed.{IsGathered, IsGatherFault};
+ghost use Rattle.peer_windows.specs.Looks.{AreLookedAt};
+ghost use Rattle.peer_windows.specs.Owed.{IsGathered, IsGatherFault, is_full as is_full_of};
+ghost use Rattle.peer_windows.specs.Owners.{next_probe};
 ghost use Rattle.peer_windows.specs.Pauses.{most_time};
 ghost use Rattle.served_node.specs.Served.{own_packet};
 ghost use Rattle.served_node.specs.declared.said.Said.{Said};
@@ -40,6 +42,9 @@ pub trait HeldNode {
 
     /// So much is recorded that it has to be kept before the next hold.
     ghost is_full: { Self → Bool };
+
+    /// All that was recorded is kept.
+    ghost is_kept: { Self → Type 0 };
 
     ghost said: { Self.Untold → Said };
 
@@ -91,13 +96,15 @@ pub trait HeldNode {
     fn sync(&mut self) -> Result<(), NotKept>
         ensures kept { OnOk result
             ((u : Self.Untold) → (said u).view.at ≤ end_of (held self.new) → may_leave self.new u) }
+        ensures all { OnOk result (is_kept self.new) }
         ensures same { held self.new ≡ held self.old };
 
     /// The node, where all that was recorded is kept; then what holds said until now may leave.
     fn kept(&self) -> Option<&Node>
         ensures node { IfSome result (λ node. node.now ≡ (held self.now).node) }
         ensures kept { OnSome result
-            ((u : Self.Untold) → (said u).view.at ≤ end_of (held self.now) → may_leave self.now u) };
+            ((u : Self.Untold) → (said u).view.at ≤ end_of (held self.now) → may_leave self.now u) }
+        ensures some { is_kept self.now → IsSome result };
 
     /// What a hold said, if that may leave.
     fn release(&self, untold: Self::Untold) -> Option<Said>
@@ -118,7 +125,8 @@ pub trait HeldNode {
             pairs.old }
         ensures same { held self.new ≡ held self.old };
 
-    /// Gathers what is due to single peers, as [`Pairs::gather`] does. Nothing is gathered that is not kept.
+    /// Gathers what is due to single peers, as [`Pairs::gather`] does, where all that was recorded is kept. Nothing is
+    /// gathered that is not kept.
     ///
     /// # Errors
     ///
@@ -134,6 +142,10 @@ pub trait HeldNode {
         requires { now ≤ most_time }
         ensures owed { IsGathered (held self.old) owed.old owed.new }
         ensures fault { IfErr result (IsGatherFault (held self.old) seat.old) }
+        ensures looks { is_kept self.old → OnOk result
+            (AreLookedAt (held self.old) now rooms.old rooms.new owed.new pairs.old pairs.new) }
+        ensures probes { is_kept self.old → OnOk result ((is_full_of owed.new ≡ true)
+            ⊎ (pairs.new.probes ≡ map (next_probe now) pairs.old.probes)) }
         ensures same { held self.new ≡ held self.old };
 }
 
@@ -175,6 +187,8 @@ impl<L: Ledger + Send + Sync> HeldNode for Locked<L> {
     ghost held = { λ a. a };
 
     ghost is_full = { λ _. false };
+
+    ghost is_kept = { λ _. ⊤ };
 
     ghost said = { λ u. u };
 
