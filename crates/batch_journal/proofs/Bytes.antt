@@ -141,7 +141,7 @@ pub used-append : (a bytes : List ℕ) → InUse a → used (a ++ bytes) ≡ a +
 used-append [] bytes h = refl
 used-append (x ∷ a) bytes h = used_step x (a ++ bytes) h.0 ∙ ap (λ (l : List ℕ). x ∷ l) (used-append a bytes h.1)
 
--- what is in use of bytes that have faded is a front of what was
+-- what is in use of bytes that have faded is a prefix of what was
 pub used-fades : (bytes left : List ℕ) → Fades bytes left → length (used left) ≤ length bytes →
     used left ≡ take (length (used left)) (used bytes)
 used-fades [] left f few = elim_nil (used left) few

@@ -43,7 +43,7 @@ when_cut_off (b ∷ bytes) h = record {
   digits = grind (arith, nat_tests);
 }
 
--- of a front of bytes: what it says that it has
+-- of a prefix of bytes: what it says that it has
 count-take : (n : ℕ) (bytes : List ℕ) → 8 ≤ n → count_in (take n bytes) ≡ count_in bytes
 count-take n bytes many =
     let five : get_or (take n bytes) 5 0 ≡ get_or bytes 5 0 = get_or-take n bytes 5 0 (omega arith) in
@@ -71,7 +71,7 @@ none_behind n bytes few =
     nothing zero = refl
     nothing (suc n) = refl
 
--- a front of what was cut off, or of a batch
+-- a prefix of what was cut off, or of a batch
 pub front_cut_off : (n : ℕ) (bytes : List ℕ) → (0 < length bytes → get_or bytes 0 0 ≡ 250) →
     list_all is_digit (digits_in bytes) ≡ true →
     n < 41 + count_in bytes → CutOff (take n bytes)

@@ -38,14 +38,14 @@ abbrev pub LeavesNoBatch : List ℕ → Head → (List ℕ → Type 0) → (List
 LeavesNoBatch key head old new =
     (c : List ℕ) → new c → old c ⊎ ((reading key head c ≡ Ok []) ⊎ (reading key head c ≡ Err NotAJournal))
 
--- a front of the batches is read that has so many at least
+-- a prefix of the batches is read that has so many at least
 pub record IsFront (least : ℕ) (batches : List (List ℕ)) (found : Result (List (List ℕ)) JournalFault) : Type 0 where
   pub count : ℕ
   pub enough : least ≤ count
   pub within : count ≤ length batches
   pub is : found ≡ Ok (take count batches)
 
--- What a crash at this moment leaves stands for a front of the batches that has all that are synced, unless the disk
+-- What a crash at this moment leaves stands for a prefix of the batches that has all that are synced, unless the disk
 -- has lied.
 abbrev pub Survives : {D : Type 0} → (D → List ℕ → Type 0) → (D → Bool) → JournalValue D → Type 0
 Survives may_leave is_clean j =

@@ -43,7 +43,7 @@ pub(crate) fn read_all<D: Disk>(alloc: Global, disk: &mut D) -> Result<Vec<u8>, 
 }
 
 /// Has all that was written on the disk.
-pub(crate) fn settle<D: Disk>(disk: &mut D) -> Result<(), JournalFault>
+pub(crate) fn sync_disk<D: Disk>(disk: &mut D) -> Result<(), JournalFault>
     requires { IsTrue (D.Disk.is_usable disk.old) }
     ensures clean { D.Disk.is_clean disk.new ≡ D.Disk.is_clean disk.old }
     ensures usable { OnOk result (IsTrue (D.Disk.is_usable disk.new)) }

@@ -11,7 +11,7 @@ ghost use Rattle.batch_journal.specs.Journals.{Survives, Records, IsSame, Leaves
 ghost use Rattle.batch_journal.specs.Readings.{reading, room_behind};
 ghost use Rattle.batch_journal.specs.declared.fault.JournalFault.TheVariants as fault;
 
-use crate::disk::{is_empty, read_all, settle};
+use crate::disk::{is_empty, read_all, sync_disk};
 use crate::fault::JournalFault;
 use crate::head::Head;
 use crate::laying::lay;
@@ -324,7 +324,7 @@ impl<D: Disk> Journal<D> {
         if !self.waits {
             return Ok(());
         }
-        match settle(&mut self.files.db) {
+        match sync_disk(&mut self.files.db) {
             Ok(()) => {
                 self.end += self.last.len();
                 self.count += 1;

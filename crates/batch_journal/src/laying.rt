@@ -8,7 +8,7 @@ ghost use Rattle.batch_journal.specs.Readings.{room_behind};
 ghost use Rattle.batch_journal.specs.declared.fault.JournalFault.TheVariants as fault;
 ghost use Rattle.batch_journal.specs.inside.Placing.{IsZeroed, IsPlaced, IsBegun};
 
-use crate::disk::{overwrite, settle};
+use crate::disk::{overwrite, sync_disk};
 use crate::fault::JournalFault;
 use sqlite_disk::Disk;
 
@@ -36,7 +36,7 @@ fn lay_first<D: Disk>(disk: &mut D, size: usize) -> Result<usize, JournalFault>
         Ok(()) => {}
         Err(fault) => return Err(fault),
     }
-    match settle(disk) {
+    match sync_disk(disk) {
         Ok(()) => Ok(1),
         Err(fault) => Err(fault),
     }
@@ -61,7 +61,7 @@ fn lay_zeros<D: Disk>(disk: &mut D, zeros: &[u8], size: usize) -> Result<usize, 
         (c : List ℕ) → D.Disk.may_leave disk.new c → slice_index c 0 ≡ 0 }
 {
     overwrite(disk, 0, zeros)?;
-    settle(disk)?;
+    sync_disk(disk)?;
     Ok(zeros.len() + size.saturating_sub(zeros.len()))
 }
 
@@ -82,7 +82,7 @@ fn lay_head<D: Disk>(disk: &mut D, front: &[u8], size: usize) -> Result<(), Jour
         (c : List ℕ) → D.Disk.may_leave disk.new c → IsPlaced [] front.now c }
 {
     overwrite(disk, 0, front)?;
-    settle(disk)?;
+    sync_disk(disk)?;
     Ok(())
 }
 
@@ -110,7 +110,7 @@ pub(crate) fn lay<D: Disk>(
     ensures crash { D.Disk.seen disk.old ≡ replicate size 0 →
         (c : List ℕ) → D.Disk.may_leave disk.new c → D.Disk.may_leave disk.old c ⊎ IsBegun front.now c }
 {
-    settle(disk)?;
+    sync_disk(disk)?;
     let size = lay_first(disk, size)?;
     let size = lay_zeros(disk, zeros, size)?;
     lay_head(disk, front, size)?;

@@ -9,7 +9,7 @@ ghost use Rattle.batch_journal.specs.declared.fault.JournalFault.TheVariants as 
 ghost use Rattle.batch_journal.specs.inside.Fading.{IsFaded};
 ghost use Rattle.batch_journal.specs.inside.Placing.{IsZeroed, IsPlaced, IsBegun};
 
-use crate::disk::{overwrite, settle};
+use crate::disk::{overwrite, sync_disk};
 use crate::fault::JournalFault;
 use crate::room::zeros;
 use sqlite_disk::Disk;
@@ -32,7 +32,7 @@ fn grow<D: Disk>(disk: &mut D, zeros: &[u8], size: usize) -> Result<(), JournalF
         (c : List ℕ) → D.Disk.may_leave disk.new c → IsFaded front rest c }
 {
     overwrite(disk, size, zeros)?;
-    settle(disk)?;
+    sync_disk(disk)?;
     Ok(())
 }
 
@@ -131,8 +131,8 @@ pub(crate) fn blank<D: Disk>(disk: &mut D, zeros: &[u8], end: usize) -> Result<(
         D.Disk.seen disk.old ≡ front ++ rest → (c : List ℕ) → D.Disk.may_leave disk.new c →
         D.Disk.may_leave disk.old c ⊎ (IsFaded front rest c × (length c ≡ length (front ++ rest))) }
 {
-    settle(disk)?;
+    sync_disk(disk)?;
     overwrite(disk, end, zeros)?;
-    settle(disk)?;
+    sync_disk(disk)?;
     Ok(())
 }

@@ -108,7 +108,7 @@ slice_get-taken (suc n) [] k x e = absurd cc
 slice_get-taken (suc n) (y ∷ ys) zero x e = (omega arith, e)
 slice_get-taken (suc n) (y ∷ ys) (suc k) x e = let rest = slice_get-taken n ys k x e in (omega arith, rest.1)
 
--- a list whose elements are those of another at the same places is a front of it
+-- a list whose elements are those of another at the same places is a prefix of it
 pub front_by_places : {A : Type 0} (xs ys : List A)
     → ((k : ℕ) (x : A) → slice_get xs k ≡ Some x → slice_get ys k ≡ Some x)
     → (rest : List A) × (xs ++ rest ≡ ys)

@@ -41,7 +41,7 @@ pub record IsRightDecision (relations : Relations) (found : Option Session) (use
 
 -- A correct node answers each access: it allows exactly what Core RBAC allows over the streams that it delivered, else
 -- names the first rule that denies it; two correct nodes' streams of an owner agree as far as both reach; and a correct
--- owner's stream is a front of what it issued.
+-- owner's stream is a prefix of what it issued.
 pub record KeepsThePromise (config : ConfigValue) (liars : Nodes) (run : Run) : Type 0 where
   pub decisions : (node session user operation object : ℕ) → IsCorrect config liars node →
       IsSomeAnd (decision_due config liars run node session user operation object)

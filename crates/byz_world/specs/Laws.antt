@@ -59,7 +59,7 @@ Consistency =
     (config : ConfigValue) (liars : Nodes) (run : Run) → IsClusterRun config liars run →
     IsConsistent config liars run
 
--- a correct owner's stream is, at each correct node, a front of what the owner issued
+-- a correct owner's stream is, at each correct node, a prefix of what the owner issued
 abbrev pub Integrity : Type 0
 Integrity =
     (config : ConfigValue) (liars : Nodes) (run : Run) (i owner : ℕ) → IsClusterRun config liars run →

@@ -34,7 +34,7 @@ pub fn law_consistency()
     ensures { Consistency }
 {}
 
-/// A correct owner's stream is, at each correct node, a front of what the owner issued.
+/// A correct owner's stream is, at each correct node, a prefix of what the owner issued.
 pub fn law_integrity()
     ensures { Integrity }
 {}

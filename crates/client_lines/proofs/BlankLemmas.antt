@@ -6,7 +6,7 @@ use Rattle.std.proofs.lemmas.List.{drop-drop}
 use Rattle.std.specs.List.{prefix_len}
 use Rattle.json.specs.Word.{is_operator, is_space, ends_word}
 use Rattle.json.specs.Lex.{lex, between, Place, punctuate}
-use Rattle.client_lines.specs.inside.Compact.{tokens_from}
+use Rattle.client_lines.specs.inside.PlainLines.{tokens_from}
 
 -- what holds of each of the four bytes holds of a blank
 each_blank : (P : ℕ → Type 0) → P 32 → P 9 → P 10 → P 13 → (x : ℕ) → is_space x ≡ true → P x

@@ -3,6 +3,6 @@ pub mod LineLemmas
 pub mod ObjectReading
 pub mod Joins
 pub mod BlankLemmas
-pub mod CompactLemmas
+pub mod PlainLineLemmas
 pub mod ItemLemmas
 pub mod Exported

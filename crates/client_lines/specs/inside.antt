@@ -1,4 +1,4 @@
 -- What serves the code and no public contract.
 pub mod Says
-pub mod Compact
+pub mod PlainLines
 pub mod Items

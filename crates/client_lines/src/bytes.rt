@@ -2,7 +2,7 @@
 
 ghost use Rattle.std.specs.Prelude.{◌≡◌};
 ghost use Rattle.json.specs.Word.{is_space};
-ghost use Rattle.client_lines.specs.inside.Compact.{is_plain};
+ghost use Rattle.client_lines.specs.inside.PlainLines.{is_plain};
 
 /// 1 at each plain byte.
 #[rattlefmt::skip]

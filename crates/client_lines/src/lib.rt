@@ -6,7 +6,6 @@
 
 mod answer;
 mod bytes;
-mod compact;
 mod fault;
 mod flat;
 mod json_value;
@@ -14,6 +13,7 @@ mod line;
 mod member;
 mod numbers;
 mod operation;
+mod plain_line;
 mod request;
 mod rows;
 

@@ -10,12 +10,12 @@ ghost use Rattle.client_lines.specs.inside.Says.{Says};
 ghost use Rattle.client_lines.specs.Requests as lines;
 ghost use Rattle.client_lines.specs.Requests.{request_due, most_line_bytes};
 
-use crate::compact::compact_line;
 use crate::fault::LineFault;
 use crate::flat::flat_line;
 use crate::json_value::read_json;
 use crate::line::Line;
 use crate::operation::operation_named;
+use crate::plain_line::plain_line;
 use crate::rows::request_of;
 use json::Scratch;
 use link_frames::Place;
@@ -90,7 +90,7 @@ impl RequestReader {
         let Ok(text) = str::from_utf8(bytes) else {
             return Err(LineFault::NotJson);
         };
-        if let Some(line) = compact_line(text) {
+        if let Some(line) = plain_line(text) {
             return request_of_line(sizes, &line);
         }
         self.read_other(sizes, text)

@@ -5,6 +5,6 @@ pub mod Turns
 pub mod Unsent
 pub mod Blocks
 pub mod inside
-pub mod Places
+pub mod Slots
 pub mod Sealed
 pub mod Callers

@@ -27,7 +27,7 @@ after_written n u =
 abbrev pub restarted : UnsentValue → UnsentValue
 restarted u = record u { written = 0 }
 
--- a writer took a front of the bytes that were still to be written, so many as the answer says, or it failed and took
+-- a writer took a prefix of the bytes that were still to be written, so many as the answer says, or it failed and took
 -- none
 abbrev pub IsWrite : {E : Type 0} → Option (List ℕ) → Option (List ℕ) → UnsentValue → Result ℕ E → Type 0
 IsWrite old new u result =

@@ -24,9 +24,9 @@ const FIRST_PEER: u32 = MOST_CLIENTS * CLIENT_NUMBERS;
 /// Who waits for a job. A job has its number.
 #[derive(Clone, Copy, Debug, PartialEq, Eq)]
 pub enum Caller {
-    /// The client at a place, for the answer to its line of this number.
+    /// The client in a slot, for the answer to its line of this number.
     Client { slot: u32, line: u32 },
-    /// The connection of frames at a place.
+    /// The connection of frames in a slot.
     Peer { slot: u32 },
     /// Nobody: the packet is the node's own, or has waited for its turn.
     Nobody,

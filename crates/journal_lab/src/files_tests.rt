@@ -151,7 +151,7 @@ fn each_call_fails_from_some_on(rt: HostRuntime) -> Result<(), Fail> {
         );
         assert!(rt;
             all.starts_with(&digits),
-            "a front of them, after {calls} calls"
+            "a prefix of them, after {calls} calls"
         );
     }
     Ok(())

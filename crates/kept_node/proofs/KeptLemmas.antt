@@ -83,7 +83,7 @@ event_are e = digits-append (digits_of 1 (event_number e)) (behind_number e) (di
 -- ---- what a crash leaves
 
 module _ {D : Type 0} where
-  -- the file that is read as these batches stands for a front of the history
+  -- the file that is read as these batches stands for a prefix of the history
   front_made : (j : JournalValue D) (node : NodeValue) (c : List ℕ) (synced count : ℕ) (batches : List (List ℕ))
       (front rest : List Event) → IsHeadOf node.config node.me j.head →
       All (IsEventOf node.config.roles.sizes node.me) node.history → reading j.key j.head c ≡ Ok batches →

@@ -42,15 +42,15 @@ pub record StandsFor (key : List ℕ) (config : ConfigValue) (me : ℕ) (bytes :
   pub digits : concat batches ≡ digits_of_events events
   pub each : All (IsEventOf config.roles.sizes me) events
 
--- bytes stand for a front of the node's history that has so many events at least
+-- bytes stand for a prefix of the node's history that has so many events at least
 pub record IsFront (least : ℕ) (key : List ℕ) (node : NodeValue) (bytes : List ℕ) : Type 0 where
   pub count : ℕ
   pub enough : least ≤ count
   pub within : count ≤ length node.history
   pub stands : StandsFor key node.config node.me bytes (take count node.history)
 
--- What a crash at this moment leaves stands for a front of the history that has all that is synced, unless the disk has
--- lied.
+-- What a crash at this moment leaves stands for a prefix of the history that has all that is synced, unless the disk
+-- has lied.
 abbrev pub Survives : {D : Type 0} → (D → List ℕ → Type 0) → (D → Bool) → KeptValue D → Type 0
 Survives may_leave is_clean k =
     IsTrue (is_clean k.disk) → (c : List ℕ) → may_leave k.disk c → IsFront k.synced k.key k.held.node c

@@ -12,14 +12,14 @@ DigitsTellEvents =
     (s : Counts) (me : ℕ) (one other : List Event) → AreSizes s → All (IsEventOf s me) one →
     All (IsEventOf s me) other → digits_of_events one ≡ digits_of_events other → one ≡ other
 
--- a front of a history with so many events at least
+-- a prefix of a history with so many events at least
 pub record IsFrontOf (least : ℕ) (history front : List Event) : Type 0 where
   pub count : ℕ
   pub enough : least ≤ count
   pub within : count ≤ length history
   pub is : front ≡ take count history
 
--- What a crash leaves of a node is restored as a front of its history that has all that was synced: bytes stand for no
+-- What a crash leaves of a node is restored as a prefix of its history that has all that was synced: bytes stand for no
 -- other events.
 abbrev pub ACrashLosesNothingSynced : Type 0
 ACrashLosesNothingSynced =

@@ -44,7 +44,7 @@ use std::sync::ledger::Ledger;
 pub const MOST_WAITING: u64 = 1_024;
 
 /// A locked node with its journal. What a hold records waits for a sync, which writes it, and what a hold said is read
-/// by nobody before that. Whatever a crash leaves is restored as a front of the history that has all that was synced.
+/// by nobody before that. Whatever a crash leaves is restored as a prefix of the history that has all that was synced.
 #[derive(Drop)]
 pub struct Kept<L: Ledger, D: Disk> {
     locked: Locked<L>,

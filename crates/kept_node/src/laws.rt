@@ -6,7 +6,7 @@ pub fn digits_tell_events()
     ensures { DigitsTellEvents }
 {}
 
-/// What a crash leaves of a kept node is restored as a front of its history that has all that was synced.
+/// What a crash leaves of a kept node is restored as a prefix of its history that has all that was synced.
 pub fn a_crash_loses_nothing_synced()
     ensures { ACrashLosesNothingSynced }
 {}

@@ -86,7 +86,7 @@ impl<L: Ledger> Model for Synced<L> {
 }
 
 impl<L: Ledger> Synced<L> {
-    /// So many.
+    /// Synced up to so many events.
     pub(crate) fn new(upto: u64) -> Synced<L>
         ensures { result ≡ upto }
     {

@@ -14,8 +14,8 @@ use Rattle.byz_world.proofs.Exported.{settled-config}
 use Rattle.byz_world.specs.declared.step.Step.{Step}
 use Rattle.byz_world.specs.declared.step.Step.TheVariants.{Give}
 use Rattle.lab_scripts.specs.Labs.{Lab, lab_sizes, next_number, after_doing, flush_within, after_order}
-use Rattle.lab_scripts.specs.declared.orders.Order.{Order}
-use Rattle.lab_scripts.specs.declared.orders.Order.TheVariants.{Do, Flush, Settle, Rest, Ask, Reach, Agree}
+use Rattle.lab_scripts.specs.declared.orders.ScriptLine.{ScriptLine}
+use Rattle.lab_scripts.specs.declared.orders.ScriptLine.TheVariants.{Do, Flush, Settle, Rest, Ask, Reach, Agree}
 
 pub after_step-config : (w : WorldValue) (step : Step) → (after_step w step).config ≡ w.config
 unfolding after_step
@@ -35,7 +35,7 @@ flush_within-config (suc times) count lab =
     at None rest = refl
     at (Some number) rest = rest number ∙ after_step-config lab.world (Give number)
 
-pub after_order-sizes : (lab : Lab) (order : Order) → lab_sizes (after_order lab order) ≡ lab_sizes lab
+pub after_order-sizes : (lab : Lab) (order : ScriptLine) → lab_sizes (after_order lab order) ≡ lab_sizes lab
 after_order-sizes lab (Do step) = ap (λ c. c.roles.sizes) (after_step-config lab.world step)
 after_order-sizes lab Flush = ap (λ c. c.roles.sizes) (flush_within-config lab.world.config.limit 0 lab)
 after_order-sizes lab Settle = ap (λ c. c.roles.sizes) (settled-config lab.world)

@@ -16,7 +16,7 @@ use Rattle.lab_scripts.specs.Orders.{order_at_node, order_of_node, named_order, 
 use Rattle.lab_scripts.specs.OrderSpellings.{at_node}
 use Rattle.lab_scripts.specs.OrderSpellings.{order_spelling}
 use Rattle.lab_scripts.specs.OrderSpellings.{IsOrder}
-use Rattle.lab_scripts.specs.declared.orders.Order.{Order}
+use Rattle.lab_scripts.specs.declared.orders.ScriptLine.{ScriptLine}
 use Rattle.lab_scripts.proofs.LineNames.{node_read}
 use Rattle.lab_scripts.proofs.LineNames.{then_rest-decimal}
 use Rattle.lab_scripts.proofs.LineNumbers.{at_node-grouped}
@@ -67,6 +67,6 @@ module _ (s : Counts) (are : AreSizes s) (node : ℕ) (within : node < s.nodes) 
       ∙ rw (no_flush, no_settle, no_rest) (rw words (rw (no_bytes, no_give, no_lie) (order_of_node-read name text)))
 
 -- of an order that was read from the name of a line and what stands behind its node
-pub record Said (s : Counts) (node : ℕ) (name text : List ℕ) (order : Order) : Type 0 where
+pub record Said (s : Counts) (node : ℕ) (name text : List ℕ) (order : ScriptLine) : Type 0 where
   pub text_is : at_node name node text ≡ order_spelling order
   pub is : IsOrder s order

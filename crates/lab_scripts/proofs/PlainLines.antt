@@ -26,10 +26,10 @@ use Rattle.lab_scripts.specs.OrderSpellings.{cluster_spelling, setup_spelling, a
 use Rattle.lab_scripts.specs.OrderSpellings.{question_spelling, bytes_spelling, step_spelling, order_spelling}
 use Rattle.lab_scripts.specs.OrderSpellings.{IsSetup, IsAct, IsQuestion, IsLie, IsStep, IsOrder, SpellsOrder}
 use Rattle.lab_scripts.specs.Texts.{kind_word}
-use Rattle.lab_scripts.specs.declared.orders.Setup.{Setup}
-use Rattle.lab_scripts.specs.declared.orders.Setup.TheVariants.{Owned, Liar}
-use Rattle.lab_scripts.specs.declared.orders.Order.{Order}
-use Rattle.lab_scripts.specs.declared.orders.Order.TheVariants.{Do, Flush, Settle, Rest, Ask, Reach, Agree}
+use Rattle.lab_scripts.specs.declared.orders.SetupLine.{SetupLine}
+use Rattle.lab_scripts.specs.declared.orders.SetupLine.TheVariants.{Owned, Liar}
+use Rattle.lab_scripts.specs.declared.orders.ScriptLine.{ScriptLine}
+use Rattle.lab_scripts.specs.declared.orders.ScriptLine.TheVariants.{Do, Flush, Settle, Rest, Ask, Reach, Agree}
 use Rattle.lab_scripts.proofs.LineNumbers.{two_text, three_text}
 use Rattle.lab_scripts.proofs.Spelled.{sizes_of_line_spelled, take_of_line_spelled}
 use Rattle.lab_scripts.proofs.SpelledBytes.{bytes_text, spelling_spells}
@@ -115,7 +115,7 @@ step_text s (Bytes to bytes) few is =
     (bytes_text (bytes_spelling bytes) bytes (spelling_spells bytes is.1))
 step_text s (Client node act) few is = act_text node (omega (arith, is.0)) act is.1
 
-order_text : (s : Counts) (order : Order) → s.nodes ≤ most_nodes → IsOrder s order → Ascii (order_spelling order)
+order_text : (s : Counts) (order : ScriptLine) → s.nodes ≤ most_nodes → IsOrder s order → Ascii (order_spelling order)
 order_text s (Do step) few is = step_text s step few is
 order_text s Flush few is = word_text (codes "flush") refl
 order_text s Settle few is = word_text (codes "settle") refl
@@ -127,14 +127,14 @@ order_text s (Agree one other owner) few is =
     at_node_text one (omega (arith, is.0)) (codes "agree") _ refl
     (two_text other owner (omega (arith, is.1)) (omega (arith, is.2)))
 
-order_line_text : (s : Counts) (line : List ℕ) (order : Order) → s.nodes ≤ most_nodes → IsOrder s order
+order_line_text : (s : Counts) (line : List ℕ) (order : ScriptLine) → s.nodes ≤ most_nodes → IsOrder s order
     → SpellsOrder order line → Ascii line
 order_line_text s line (Do (Bytes to bytes)) few is spells =
     subst Ascii (sym spells.1)
     (at_node_text to (omega (arith, is.0)) (codes "bytes") spells.0 refl (bytes_text spells.0 bytes spells.2))
 order_line_text s line order few is spells = subst Ascii (sym spells) (order_text s order few is)
 
-setup_text : (s : Counts) (setup : Setup) → s.nodes ≤ most_nodes → IsSetup s setup → Ascii (setup_spelling setup)
+setup_text : (s : Counts) (setup : SetupLine) → s.nodes ≤ most_nodes → IsSetup s setup → Ascii (setup_spelling setup)
 setup_text s (Owned role owner) few is =
     word_text (codes "role ") refl then number role (omega (arith, is.0)) then space_text
     then number owner (omega (arith, is.1))
@@ -148,13 +148,13 @@ cluster_line-text line s e =
     then number s.liars (omega arith) in
     subst IsUtf8 (sym line_is) (IsUtf8-from_ascii _ ascii.is)
 
-pub setup_line-text : (s : Counts) (line : List ℕ) (setup : Setup) → AreSizes s → setup_of_line s line ≡ Some setup
+pub setup_line-text : (s : Counts) (line : List ℕ) (setup : SetupLine) → AreSizes s → setup_of_line s line ≡ Some setup
     → IsUtf8 line
 setup_line-text s line setup are e =
     let (line_is, is) = setup_of_line_spelled s line setup e in
     subst IsUtf8 (sym line_is) (IsUtf8-from_ascii _ (setup_text s setup are.0 is).is)
 
-pub order_line-text : (s : Counts) (line : List ℕ) (order : Order) → AreSizes s → order_of_line s line ≡ Some order
+pub order_line-text : (s : Counts) (line : List ℕ) (order : ScriptLine) → AreSizes s → order_of_line s line ≡ Some order
     → IsUtf8 line
 order_line-text s line order are e =
     let (spells, is) = order_of_line_spelled s line order e in

@@ -89,7 +89,7 @@ module _ {stage : Stage} {first now : Lines} {held : List ℕ} {number : ℕ} {r
     writer = so_far.writer;
   }
 
-  -- a front of what is held was written, and no more
+  -- a prefix of what is held was written, and no more
   pub run_breaks : (c : Option (List ℕ)) → AppendsFront now.written c held
       → WroteFront script_text first.unread first.written c
   run_breaks c part = Ran-front so_far.ran c part

@@ -19,7 +19,7 @@ use Rattle.lab_scripts.specs.Orders.{order_at_node, order_of_line}
 use Rattle.lab_scripts.specs.OrderSpellings.{at_node, two_numbers, three_numbers}
 use Rattle.lab_scripts.specs.OrderSpellings.{act_spelling}
 use Rattle.lab_scripts.specs.OrderSpellings.{IsAct}
-use Rattle.lab_scripts.specs.declared.orders.Order.TheVariants.{Do}
+use Rattle.lab_scripts.specs.declared.orders.ScriptLine.TheVariants.{Do}
 use Rattle.lab_scripts.proofs.LineNumbers.{session_and_user-numbers, session_user_and_role-numbers}
 use Rattle.lab_scripts.proofs.LineNumbers.{session_and_user_spelled, session_user_and_role_spelled}
 use Rattle.lab_scripts.proofs.NodeLines.{Said, order_of_line-named}

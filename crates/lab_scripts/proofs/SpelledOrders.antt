@@ -24,8 +24,8 @@ use Rattle.lab_scripts.specs.OrderSpellings.{at_node, packet_spelling}
 use Rattle.lab_scripts.specs.OrderSpellings.{step_spelling, order_spelling}
 use Rattle.lab_scripts.specs.OrderSpellings.{IsStep, IsOrder, bytes_spelling}
 use Rattle.lab_scripts.specs.OrderSpellings.{SpellsBytes, SpellsOrder, OrdersAreRead, OrdersAreSpelled}
-use Rattle.lab_scripts.specs.declared.orders.Order.{Order}
-use Rattle.lab_scripts.specs.declared.orders.Order.TheVariants.{Do, Flush, Settle, Rest, Ask, Reach, Agree}
+use Rattle.lab_scripts.specs.declared.orders.ScriptLine.{ScriptLine}
+use Rattle.lab_scripts.specs.declared.orders.ScriptLine.TheVariants.{Do, Flush, Settle, Rest, Ask, Reach, Agree}
 use Rattle.lab_scripts.proofs.SpelledBytes.{bytes_read, bytes_spelled, spelling_spells}
 use Rattle.lab_scripts.proofs.LineNames.{node_read, node_rest_spelled}
 use Rattle.lab_scripts.proofs.LineNames.{then_rest-decimal}
@@ -75,7 +75,7 @@ step_read s (Bytes to bytes) are is =
     bytes_line s to bytes (bytes_spelling bytes) are is.0 is.1 (spelling_spells bytes is.1)
 step_read s (Client node act) are is = act_read s are node is.0 act is.1
 
-order_read : (s : Counts) (order : Order) → AreSizes s → IsOrder s order → order_of_line s (order_spelling order)
+order_read : (s : Counts) (order : ScriptLine) → AreSizes s → IsOrder s order → order_of_line s (order_spelling order)
     ≡ Some order
 unfolding order_of_line
 order_read s (Do step) are is = step_read s step are is
@@ -94,11 +94,11 @@ order_of_line-spelling s line order are is spells = ap (order_of_line s) spells 
 -- ---- writing what was read
 
 module _ (s : Counts) (node : ℕ) (within : node < s.nodes) (text : List ℕ) where
-  order_at_node_said : (name : List ℕ) (order : Order) → order_at_node s name node text ≡ Some order
+  order_at_node_said : (name : List ℕ) (order : ScriptLine) → order_at_node s name node text ≡ Some order
       → Said s node name text order
   unfolding order_at_node
   order_at_node_said name order e =
-      let P = λ (w : List ℕ) (o : Order). Said s node w text o in
+      let P = λ (w : List ℕ) (o : ScriptLine). Said s node w text o in
       by_name_made P _ _ _ _ _ order e (issue_said s node within text)
       (λ e1. by_name_made P _ _ _ _ _ order e1 (open_said s node within text)
       (λ e2. by_name_made P _ _ _ _ _ order e2 (activate_said s node within text)
@@ -111,7 +111,7 @@ module _ (s : Counts) (node : ℕ) (within : node < s.nodes) (text : List ℕ) w
       (λ none. absurd (none-some order none))))))))))
 
 -- of an order that was read from the name of a line and all that stands behind it
-record Ordered (s : Counts) (name text : List ℕ) (order : Order) : Type 0 where
+record Ordered (s : Counts) (name text : List ℕ) (order : ScriptLine) : Type 0 where
   line_is : name ++ (space ∷ text) ≡ order_spelling order
   is : IsOrder s order
 
@@ -126,7 +126,8 @@ module _ (s : Counts) (text : List ℕ) where
       let (word, is) = lie_spelled s text p e in
       record { line_is = ap (λ (w : List ℕ). codes "lie" ++ (space ∷ w)) word; is = is }
 
-  node_ordered : (name : List ℕ) (order : Order) → order_of_node s name text ≡ Some order → Ordered s name text order
+  node_ordered : (name : List ℕ) (order : ScriptLine) → order_of_node s name text ≡ Some order
+      → Ordered s name text order
   unfolding order_of_node
   node_ordered name order e =
       option_and_then_some _ _ _ e
@@ -139,14 +140,15 @@ module _ (s : Counts) (text : List ℕ) where
         is = said.is;
       })
 
-  named_ordered : (name : List ℕ) (order : Order) → named_order s name text ≡ Some order → Ordered s name text order
+  named_ordered : (name : List ℕ) (order : ScriptLine) → named_order s name text ≡ Some order
+      → Ordered s name text order
   unfolding named_order
   named_ordered name order e =
-      let P = λ (w : List ℕ) (o : Order). Ordered s w text o in
+      let P = λ (w : List ℕ) (o : ScriptLine). Ordered s w text o in
       by_name_made P _ _ _ _ _ order e give_ordered
       (λ e1. by_name_made P _ _ _ _ _ order e1 lie_ordered (node_ordered name order))
 
-bytes_said : (s : Counts) (text : List ℕ) (order : Order) → bytes_order s text ≡ Some order
+bytes_said : (s : Counts) (text : List ℕ) (order : ScriptLine) → bytes_order s text ≡ Some order
     → SpellsOrder order (codes "bytes" ++ (space ∷ text)) × IsOrder s order
 unfolding bytes_order
 bytes_said s text order e =
@@ -157,11 +159,11 @@ bytes_said s text order e =
     let (spells, are) = bytes_spelled to.1 bytes is_bytes in
     let line_is : codes "bytes" ++ (space ∷ text) ≡ at_node (codes "bytes") to.0 to.1 =
     ap (λ (w : List ℕ). codes "bytes" ++ (space ∷ w)) cut ∙ sym (at_node-grouped (codes "bytes") to.0 to.1) in
-    subst (λ (o : Order). SpellsOrder o (codes "bytes" ++ (space ∷ text)) × IsOrder s o) made
+    subst (λ (o : ScriptLine). SpellsOrder o (codes "bytes" ++ (space ∷ text)) × IsOrder s o) made
     ((to.1, line_is, spells), (within, are)))
 
 -- an order's own spelling spells it
-own_spelling : (s : Counts) (line : List ℕ) (order : Order) → IsOrder s order → line ≡ order_spelling order
+own_spelling : (s : Counts) (line : List ℕ) (order : ScriptLine) → IsOrder s order → line ≡ order_spelling order
     → SpellsOrder order line
 own_spelling s line (Do (Bytes to bytes)) is e = (bytes_spelling bytes, e, spelling_spells bytes is.1)
 own_spelling s line order is e = e
@@ -175,13 +177,14 @@ order_of_line_spelled s line order e =
     (λ at. option_and_then_some _ _ _ at
     (λ words cut read.
     subst (λ (w : List ℕ). SpellsOrder order w × IsOrder s order) (sym (split_word-joined line words cut))
-    (by_name (λ (name : List ℕ) (o : Order). SpellsOrder o (name ++ (space ∷ words.1)) × IsOrder s o)
+    (by_name (λ (name : List ℕ) (o : ScriptLine). SpellsOrder o (name ++ (space ∷ words.1)) × IsOrder s o)
     words.0 (codes "bytes") _ _ order read (bytes_said s words.1 order)
     (λ others. let ordered = named_ordered s words.1 words.0 order others in
     (own_spelling s _ order ordered.is ordered.line_is, ordered.is)))))))
   where
-    alone : (word : List ℕ) (o : Order) → (line ≡ word → SpellsOrder o line) → IsOrder s o → bytes_eq line word ≡ true
-        → ◌≡◌ {A = Option Order} (Some o) (Some order) → SpellsOrder order line × IsOrder s order
+    alone : (word : List ℕ) (o : ScriptLine) → (line ≡ word → SpellsOrder o line) → IsOrder s o
+        → bytes_eq line word ≡ true
+        → ◌≡◌ {A = Option ScriptLine} (Some o) (Some order) → SpellsOrder order line × IsOrder s order
     alone word o spells is same some =
-        subst (λ (p : Order). SpellsOrder p line × IsOrder s p) (same_Some o order some)
+        subst (λ (p : ScriptLine). SpellsOrder p line × IsOrder s p) (same_Some o order some)
         (spells ((bytes_eq-Decides line word).0 same), is)

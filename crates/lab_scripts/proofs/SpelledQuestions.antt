@@ -21,8 +21,8 @@ use Rattle.lab_scripts.specs.Orders.{agreement_of, order_at_node, order_of_line}
 use Rattle.lab_scripts.specs.OrderSpellings.{at_node, two_numbers, three_numbers}
 use Rattle.lab_scripts.specs.OrderSpellings.{question_spelling}
 use Rattle.lab_scripts.specs.OrderSpellings.{IsQuestion}
-use Rattle.lab_scripts.specs.declared.orders.Order.{Order}
-use Rattle.lab_scripts.specs.declared.orders.Order.TheVariants.{Ask, Reach, Agree}
+use Rattle.lab_scripts.specs.declared.orders.ScriptLine.{ScriptLine}
+use Rattle.lab_scripts.specs.declared.orders.ScriptLine.TheVariants.{Ask, Reach, Agree}
 use Rattle.lab_scripts.proofs.LineNames.{node_read, node_spelled, node_rest_spelled}
 use Rattle.lab_scripts.proofs.LineNames.{then_rest-decimal}
 use Rattle.lab_scripts.proofs.LineNumbers.{two_numbers-grouped, joined}
@@ -162,7 +162,7 @@ module _ (s : Counts) (node : ℕ) (within : node < s.nodes) (text : List ℕ) w
       let (word, inside) = node_spelled s owner text e in
       record { text_is = ap (at_node (codes "reach") node) word; is = (within, inside) }
 
-  pub agree_said : (order : Order) → agreement_of s node text ≡ Some order → Said s node (codes "agree") text order
+  pub agree_said : (order : ScriptLine) → agreement_of s node text ≡ Some order → Said s node (codes "agree") text order
   unfolding agreement_of
   agree_said order e =
       option_and_then_some _ _ _ e

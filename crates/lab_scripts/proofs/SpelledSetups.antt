@@ -12,8 +12,8 @@ use Rattle.lab_scripts.specs.Orders.{node_number, cluster_of_line, role_and_owne
 use Rattle.lab_scripts.specs.Spellings.{sizes_spelling}
 use Rattle.lab_scripts.specs.OrderSpellings.{cluster_spelling, setup_spelling, two_numbers, IsSetup}
 use Rattle.lab_scripts.specs.OrderSpellings.{ClustersAreRead, ClustersAreSpelled, SetupsAreRead, SetupsAreSpelled}
-use Rattle.lab_scripts.specs.declared.orders.Setup.{Setup}
-use Rattle.lab_scripts.specs.declared.orders.Setup.TheVariants.{Owned, Liar}
+use Rattle.lab_scripts.specs.declared.orders.SetupLine.{SetupLine}
+use Rattle.lab_scripts.specs.declared.orders.SetupLine.TheVariants.{Owned, Liar}
 use Rattle.lab_scripts.proofs.LineNames.{node_read, node_spelled}
 use Rattle.lab_scripts.proofs.LineNumbers.{two_numbers-grouped, narrow_rest, narrow_rest_spelled, joined}
 use Rattle.lab_scripts.proofs.Spelled.{sizes_of_line-spelling, sizes_of_line_spelled}
@@ -75,11 +75,11 @@ setup_of_line-spelling s (Liar node) are is =
     rw (split_word-word (codes "liar") (decimal node) refl) (rw (node_read s node are is) refl)
 
 -- of what was read behind the name of a line
-record SetUp (s : Counts) (name text : List ℕ) (setup : Setup) : Type 0 where
+record SetUp (s : Counts) (name text : List ℕ) (setup : SetupLine) : Type 0 where
   line_is : name ++ (space ∷ text) ≡ setup_spelling setup
   is : IsSetup s setup
 
-role_said : (s : Counts) (text : List ℕ) (setup : Setup) → role_and_owner text ≡ Some setup
+role_said : (s : Counts) (text : List ℕ) (setup : SetupLine) → role_and_owner text ≡ Some setup
     → SetUp s (codes "role") text setup
 unfolding role_and_owner
 role_said s text setup e =
@@ -106,7 +106,7 @@ unfolding setup_of_line named_setup
 setup_of_line_spelled s line setup e =
     option_and_then_some _ _ _ e
     (λ words cut read.
-    let P = λ (w : List ℕ) (u : Setup). SetUp s w words.1 u in
+    let P = λ (w : List ℕ) (u : SetupLine). SetUp s w words.1 u in
     let said : SetUp s words.0 words.1 setup =
     by_name P _ _ _ _ setup read (role_said s words.1 setup)
     (λ e1. by_name_made P _ _ _ _ _ setup e1 (liar_said s words.1)

@@ -28,9 +28,9 @@ use Rattle.lab_scripts.specs.Scripts.{liars_after, after_setup, after_asking, af
 use Rattle.lab_scripts.specs.Stages.{Follows, Answers, StageAnswers}
 use Rattle.lab_scripts.specs.Texts.{sizes_text, outcome_text}
 use Rattle.lab_scripts.specs.declared.lab.Lab.{Lab}
-use Rattle.lab_scripts.specs.declared.orders.Order.{Order}
-use Rattle.lab_scripts.specs.declared.orders.Setup.{Setup}
-use Rattle.lab_scripts.specs.declared.orders.Setup.TheVariants.{Owned, Liar}
+use Rattle.lab_scripts.specs.declared.orders.ScriptLine.{ScriptLine}
+use Rattle.lab_scripts.specs.declared.orders.SetupLine.{SetupLine}
+use Rattle.lab_scripts.specs.declared.orders.SetupLine.TheVariants.{Owned, Liar}
 use Rattle.lab_scripts.specs.declared.stage.Stage.{Stage}
 use Rattle.lab_scripts.specs.declared.stage.Stage.TheVariants.{Start, Running, Setting, Living}
 use Rattle.lab_scripts.proofs.LabSizes.{after_order-sizes, none_lie_too_many}
@@ -92,7 +92,7 @@ asking-bad : (lab : labs.Lab) (stage : Stage) (line : List ℕ) → AreSizes (la
     → Answers (after_cluster_line lab line) stage None
 asking-bad lab stage line are not = bad (order_of_line (lab_sizes lab) line) refl
   where
-    bad : (o : Option Order) → o ≡ order_of_line (lab_sizes lab) line →
+    bad : (o : Option ScriptLine) → o ≡ order_of_line (lab_sizes lab) line →
         Answers (option_map (after_asking lab) o) stage None
     bad None e = tt
     bad (Some order) e = absurd (not (order_line-text (lab_sizes lab) line order are (sym e)))
@@ -122,7 +122,7 @@ no_text-bad (OfSetup roles liars) (Running sizes instance) line follows not = ab
 no_text-bad (OfSetup roles liars) (Living lab) line follows not = absurd follows
 no_text-bad (OfSetup roles liars) (Setting table names) line follows not = bad (setup_of_line roles.sizes line) refl
   where
-    bad : (o : Option Setup) → o ≡ setup_of_line roles.sizes line
+    bad : (o : Option SetupLine) → o ≡ setup_of_line roles.sizes line
         → Answers (option_or (option_map (after_setup roles liars) o) (after_cluster_line (new_lab roles liars) line))
         (Setting table names) None
     bad None e = asking-bad (new_lab roles liars) (Setting table names) line follows.2 not
@@ -233,7 +233,8 @@ liars_few roles liars node few = at (one_too_many roles liars node) refl
     at true e = few
     at false e = e
 
-setup_follows : (roles : Table) (liars : Nodes) (setup : Setup) (table : Table) (names : Nodes) → AreSizes roles.sizes
+setup_follows : (roles : Table) (liars : Nodes) (setup : SetupLine) (table : Table) (names : Nodes)
+    → AreSizes roles.sizes
     → too_many_lie roles.sizes liars ≡ false → OfSetup table names ≡ (after_setup roles liars setup).0
     → Follows (Setting table names) (after_setup roles liars setup).0
 unfolding Follows
@@ -246,7 +247,7 @@ setup_follows roles liars (Liar node) table names are few is =
     let same = same_table table roles names (liars_after roles liars node) is in
     (same.0, same.1, are, liars_few roles liars node few)
 
-pub setup_line-good : (roles table : Table) (liars names : Nodes) (line text : List ℕ) (setup : Setup)
+pub setup_line-good : (roles table : Table) (liars names : Nodes) (line text : List ℕ) (setup : SetupLine)
     → setup_of_line roles.sizes line ≡ Some setup → AreSizes roles.sizes → too_many_lie roles.sizes liars ≡ false
     → OfSetup table names ≡ (after_setup roles liars setup).0 → text ≡ (after_setup roles liars setup).1
     → Answers (after_line (OfSetup roles liars) line) (Setting table names) (Some text)
@@ -264,7 +265,7 @@ pub cluster_goes_on : (lab : labs.Lab) (line : List ℕ) → after_line (OfClust
 unfolding after_line
 cluster_goes_on lab line = refl
 
-pub asking-some : (lab : labs.Lab) (new : Lab) (line text : List ℕ) (order : Order)
+pub asking-some : (lab : labs.Lab) (new : Lab) (line text : List ℕ) (order : ScriptLine)
     → order_of_line (lab_sizes lab) line ≡ Some order → lab_in new ≡ after_order lab order
     → AreSizes (lab_sizes lab) → text ≡ order_text lab order
     → Answers (after_cluster_line lab line) (Living new) (Some text)

@@ -13,8 +13,8 @@ use Rattle.byz_world.specs.Steps.{after_step}
 use Rattle.byz_world.specs.Worlds.{WorldValue, new_world}
 use Rattle.byz_world.specs.declared.step.Step.{Step}
 use Rattle.byz_world.specs.declared.step.Step.TheVariants.{Issue, Give, Lie, Bytes, Client}
-use Rattle.lab_scripts.specs.declared.orders.Order.{Order}
-use Rattle.lab_scripts.specs.declared.orders.Order.TheVariants.{Do, Flush, Settle, Rest, Ask, Reach, Agree}
+use Rattle.lab_scripts.specs.declared.orders.ScriptLine.{ScriptLine}
+use Rattle.lab_scripts.specs.declared.orders.ScriptLine.TheVariants.{Do, Flush, Settle, Rest, Ask, Reach, Agree}
 
 -- the world, and whether the packet of a number was given
 pub record Lab : Type 0 where
@@ -90,7 +90,7 @@ after_settling lab =
     let w = settled lab.world in record { world = w; given = with_all_below lab.given (pool_length w) }
 
 -- after what a line asks
-abbrev pub after_order : Lab → Order → Lab
+abbrev pub after_order : Lab → ScriptLine → Lab
 after_order lab (Do step) = after_doing lab step
 after_order lab Flush = (flush lab).lab
 after_order lab Settle = after_settling lab

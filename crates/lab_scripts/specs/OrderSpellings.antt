@@ -17,17 +17,17 @@ use Rattle.byz_world.specs.declared.step.Step.{Step}
 use Rattle.byz_world.specs.declared.step.Step.TheVariants.{Issue, Give, Lie, Bytes, Client}
 use Rattle.lab_scripts.specs.Texts.{kind_word}
 use Rattle.lab_scripts.specs.Orders.{cluster_of_line, setup_of_line, order_of_line}
-use Rattle.lab_scripts.specs.declared.orders.Setup.{Setup}
-use Rattle.lab_scripts.specs.declared.orders.Setup.TheVariants.{Owned, Liar}
-use Rattle.lab_scripts.specs.declared.orders.Order.{Order}
-use Rattle.lab_scripts.specs.declared.orders.Order.TheVariants.{Do, Flush, Settle, Rest, Ask, Reach, Agree}
+use Rattle.lab_scripts.specs.declared.orders.SetupLine.{SetupLine}
+use Rattle.lab_scripts.specs.declared.orders.SetupLine.TheVariants.{Owned, Liar}
+use Rattle.lab_scripts.specs.declared.orders.ScriptLine.{ScriptLine}
+use Rattle.lab_scripts.specs.declared.orders.ScriptLine.TheVariants.{Do, Flush, Settle, Rest, Ask, Reach, Agree}
 
 -- `cluster N F`
 abbrev pub cluster_spelling : Counts → List ℕ
 cluster_spelling s = codes "cluster " ++ decimal s.nodes ++ codes " " ++ decimal s.liars
 
 -- `role R OWNER` or `liar I`
-abbrev pub setup_spelling : Setup → List ℕ
+abbrev pub setup_spelling : SetupLine → List ℕ
 setup_spelling (Owned role owner) = codes "role " ++ decimal role ++ codes " " ++ decimal owner
 setup_spelling (Liar node) = codes "liar " ++ decimal node
 
@@ -84,7 +84,7 @@ step_spelling (Bytes to bytes) = at_node (codes "bytes") to (bytes_spelling byte
 step_spelling (Client node act) = act_spelling node act
 
 -- a later line of a cluster
-abbrev pub order_spelling : Order → List ℕ
+abbrev pub order_spelling : ScriptLine → List ℕ
 order_spelling (Do step) = step_spelling step
 order_spelling Flush = codes "flush"
 order_spelling Settle = codes "settle"
@@ -102,12 +102,12 @@ abbrev pub SpellsStep : Step → List ℕ → Type 0
 SpellsStep (Bytes to bytes) line = (word : List ℕ) × (line ≡ at_node (codes "bytes") to word) × SpellsBytes bytes word
 SpellsStep step line = line ≡ step_spelling step
 
-abbrev pub SpellsOrder : Order → List ℕ → Type 0
+abbrev pub SpellsOrder : ScriptLine → List ℕ → Type 0
 SpellsOrder (Do step) line = SpellsStep step line
 SpellsOrder order line = line ≡ order_spelling order
 
 -- roles have 16 bits, and the owner that is named with one has 8
-abbrev pub IsSetup : Counts → Setup → Type 0
+abbrev pub IsSetup : Counts → SetupLine → Type 0
 IsSetup s (Owned role owner) = (role < 2 ^ 16) × (owner < 2 ^ 8)
 IsSetup s (Liar node) = node < s.nodes
 
@@ -145,7 +145,7 @@ IsStep s (Bytes to bytes) = (to < s.nodes) × IsBytes bytes
 IsStep s (Client node act) = (node < s.nodes) × IsAct act
 
 -- what has a line in a script of these sizes
-abbrev pub IsOrder : Counts → Order → Type 0
+abbrev pub IsOrder : Counts → ScriptLine → Type 0
 IsOrder s (Do step) = IsStep s step
 IsOrder s Flush = ⊤
 IsOrder s Settle = ⊤
@@ -165,20 +165,21 @@ ClustersAreSpelled =
 -- the same of the roles and the liars
 abbrev pub SetupsAreRead : Type 0
 SetupsAreRead =
-    (s : Counts) (setup : Setup) → AreSizes s → IsSetup s setup → setup_of_line s (setup_spelling setup) ≡ Some setup
+    (s : Counts) (setup : SetupLine) → AreSizes s → IsSetup s setup
+    → setup_of_line s (setup_spelling setup) ≡ Some setup
 
 abbrev pub SetupsAreSpelled : Type 0
 SetupsAreSpelled =
-    (s : Counts) (line : List ℕ) (setup : Setup) → setup_of_line s line ≡ Some setup →
+    (s : Counts) (line : List ℕ) (setup : SetupLine) → setup_of_line s line ≡ Some setup →
     (line ≡ setup_spelling setup) × IsSetup s setup
 
 -- the same of what a later line asks: each line that spells an order is read as it, and no other line
 abbrev pub OrdersAreRead : Type 0
 OrdersAreRead =
-    (s : Counts) (line : List ℕ) (order : Order) → AreSizes s → IsOrder s order → SpellsOrder order line →
+    (s : Counts) (line : List ℕ) (order : ScriptLine) → AreSizes s → IsOrder s order → SpellsOrder order line →
     order_of_line s line ≡ Some order
 
 abbrev pub OrdersAreSpelled : Type 0
 OrdersAreSpelled =
-    (s : Counts) (line : List ℕ) (order : Order) → order_of_line s line ≡ Some order →
+    (s : Counts) (line : List ℕ) (order : ScriptLine) → order_of_line s line ≡ Some order →
     SpellsOrder order line × IsOrder s order

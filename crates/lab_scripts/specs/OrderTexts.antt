@@ -31,8 +31,8 @@ use Rattle.byz_world.specs.declared.faults.WorldFault.TheVariants as fault
 use Rattle.lab_scripts.specs.Texts.{kind_word}
 use Rattle.lab_scripts.specs.Labs.{Lab, flush, settling_adds}
 use Rattle.lab_scripts.specs.Rests.{rests}
-use Rattle.lab_scripts.specs.declared.orders.Order.{Order}
-use Rattle.lab_scripts.specs.declared.orders.Order.TheVariants.{Do, Flush, Settle, Rest, Ask, Reach, Agree}
+use Rattle.lab_scripts.specs.declared.orders.ScriptLine.{ScriptLine}
+use Rattle.lab_scripts.specs.declared.orders.ScriptLine.TheVariants.{Do, Flush, Settle, Rest, Ask, Reach, Agree}
 
 -- ---- before anything happens
 
@@ -135,7 +135,7 @@ rest_text at_rest = if at_rest then codes "rest yes" else codes "rest no"
 -- ---- a line
 
 -- what is due for what a line asks: by the answers that are due to the run so far
-unfoldable pub order_text : Lab → Order → List ℕ
+unfoldable pub order_text : Lab → ScriptLine → List ℕ
 order_text lab (Do step) = step_text (step_due lab.world step)
 order_text lab Flush = codes "flushed " ++ decimal (flush lab).count
 order_text lab Settle = codes "settled " ++ decimal (settling_adds lab)

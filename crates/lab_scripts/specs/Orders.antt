@@ -20,10 +20,10 @@ use Rattle.role_node.specs.declared.question.Question.TheVariants.{UserOperation
 use Rattle.byz_world.specs.declared.step.Step.TheVariants.{Issue, Give, Lie, Bytes, Client}
 use Rattle.lab_scripts.specs.Reads.{by_its_name}
 use Rattle.lab_scripts.specs.Grammar.{sizes_of_numbers}
-use Rattle.lab_scripts.specs.declared.orders.Setup.{Setup}
-use Rattle.lab_scripts.specs.declared.orders.Setup.TheVariants.{Owned, Liar}
-use Rattle.lab_scripts.specs.declared.orders.Order.{Order}
-use Rattle.lab_scripts.specs.declared.orders.Order.TheVariants.{Do, Flush, Settle, Rest, Ask, Reach, Agree}
+use Rattle.lab_scripts.specs.declared.orders.SetupLine.{SetupLine}
+use Rattle.lab_scripts.specs.declared.orders.SetupLine.TheVariants.{Owned, Liar}
+use Rattle.lab_scripts.specs.declared.orders.ScriptLine.{ScriptLine}
+use Rattle.lab_scripts.specs.declared.orders.ScriptLine.TheVariants.{Do, Flush, Settle, Rest, Ask, Reach, Agree}
 
 -- the name of a node of these sizes
 abbrev pub node_number : Counts → List ℕ → Option ℕ
@@ -49,19 +49,19 @@ cluster_of_line line = do
   if bytes_eq words.0 (codes "cluster") then sizes_of_numbers words.1 else None
 
 -- `R OWNER`
-unfoldable pub role_and_owner : List ℕ → Option Setup
+unfoldable pub role_and_owner : List ℕ → Option SetupLine
 role_and_owner text = do
   role ← then_rest narrow_number text
   option_map (λ owner. Owned role.0 owner) (byte_number role.1)
 
-unfoldable pub named_setup : Counts → List ℕ → List ℕ → Option Setup
+unfoldable pub named_setup : Counts → List ℕ → List ℕ → Option SetupLine
 named_setup s name text =
     if bytes_eq name (codes "role") then role_and_owner text
     else (if bytes_eq name (codes "liar") then option_map Liar (node_number s text)
     else None)
 
 -- what a line says of the cluster before anything happens in it
-unfoldable pub setup_of_line : Counts → List ℕ → Option Setup
+unfoldable pub setup_of_line : Counts → List ℕ → Option SetupLine
 setup_of_line s line = do
   words ← split_word line
   named_setup s words.0 words.1
@@ -134,13 +134,13 @@ lie_of s text = do
   packet_due from.0 to.0 (record { kind = kind.0; owner = owner.0; place = place.0; command = command })
 
 -- `J OWNER`
-unfoldable pub agreement_of : Counts → ℕ → List ℕ → Option Order
+unfoldable pub agreement_of : Counts → ℕ → List ℕ → Option ScriptLine
 agreement_of s one text = do
   other ← then_rest (node_number s) text
   option_map (λ owner. Agree one other.0 owner) (node_number s other.1)
 
 -- what is asked at a node: the name of the line, and how what stands behind the node is read
-abbrev pub questions_at : Counts → ℕ → List (List ℕ × (List ℕ → Option Order))
+abbrev pub questions_at : Counts → ℕ → List (List ℕ × (List ℕ → Option ScriptLine))
 questions_at s node =
     (codes "check", λ text. option_map (Ask node) (access_of text))
     ∷ (codes "list", λ text. option_map (Ask node) (listing_of text))
@@ -149,7 +149,7 @@ questions_at s node =
     ∷ []
 
 -- the same of what is done or asked there
-abbrev pub orders_at : Counts → ℕ → List (List ℕ × (List ℕ → Option Order))
+abbrev pub orders_at : Counts → ℕ → List (List ℕ × (List ℕ → Option ScriptLine))
 orders_at s node =
     (codes "issue", λ text. option_map (λ c. Do (Issue node c)) (command_of text))
     ∷ (codes "open", λ text. option_map (λ user. Do (Client node (Open user))) (wide_number text))
@@ -158,11 +158,11 @@ orders_at s node =
     ∷ (codes "close", λ text. option_map (λ n. Do (Client node (Close n.0 n.1))) (session_and_user text))
     ∷ questions_at s node
 
-unfoldable pub order_at_node : Counts → List ℕ → ℕ → List ℕ → Option Order
+unfoldable pub order_at_node : Counts → List ℕ → ℕ → List ℕ → Option ScriptLine
 order_at_node s name node text = by_its_name (orders_at s node) name text
 
 -- `I ..`, where I is one of the nodes
-unfoldable pub order_of_node : Counts → List ℕ → List ℕ → Option Order
+unfoldable pub order_of_node : Counts → List ℕ → List ℕ → Option ScriptLine
 order_of_node s name text = do
   node ← then_rest (node_number s) text
   order_at_node s name node.0 node.1
@@ -174,26 +174,26 @@ bytes_of word =
     else (if length word == 0 then None else result_ok (decode_of word))
 
 -- `TO HEX`, where TO is one of the nodes
-unfoldable pub bytes_order : Counts → List ℕ → Option Order
+unfoldable pub bytes_order : Counts → List ℕ → Option ScriptLine
 bytes_order s text = do
   to ← then_rest (node_number s) text
   option_map (λ bytes. Do (Bytes to.0 bytes)) (bytes_of to.1)
 
 -- the order of a name and the words behind it, where they are no bytes
-unfoldable pub named_order : Counts → List ℕ → List ℕ → Option Order
+unfoldable pub named_order : Counts → List ℕ → List ℕ → Option ScriptLine
 named_order s name text =
     if bytes_eq name (codes "give") then option_map (λ number. Do (Give number)) (wide_number text)
     else (if bytes_eq name (codes "lie") then option_map (λ p. Do (Lie p)) (lie_of s text)
     else order_of_node s name text)
 
 -- what a line of more than one word asks
-abbrev pub order_of_words : Counts → List ℕ → Option Order
+abbrev pub order_of_words : Counts → List ℕ → Option ScriptLine
 order_of_words s line = do
   words ← split_word line
   if bytes_eq words.0 (codes "bytes") then bytes_order s words.1 else named_order s words.0 words.1
 
 -- what a later line asks
-unfoldable pub order_of_line : Counts → List ℕ → Option Order
+unfoldable pub order_of_line : Counts → List ℕ → Option ScriptLine
 order_of_line s line =
     if bytes_eq line (codes "flush") then Some Flush
     else (if bytes_eq line (codes "settle") then Some Settle

@@ -9,7 +9,7 @@ use Rattle.lab_scripts.specs.declared.fault.ScriptFault.{ScriptFault}
 use Rattle.lab_scripts.specs.declared.fault.ScriptFault.TheVariants.{BadScript, Device, Memory}
 
 -- At the end the text of all that the reader had is written. At a bad line, which is the first, the text of the lines
--- before it is written, and else a front of the text.
+-- before it is written, and else a prefix of the text.
 abbrev pub ScriptRan : Lines → Lines → Result (Unit {0}) ScriptFault → Type 0
 ScriptRan old new (Ok _) =
     (input : List ℕ) × HasBytes old.unread input × IsAtEnd new.at_device × (first_bad input ≡ None)

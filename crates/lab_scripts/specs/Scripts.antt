@@ -17,9 +17,9 @@ use Rattle.lab_scripts.specs.Orders.{cluster_of_line, setup_of_line, order_of_li
 use Rattle.lab_scripts.specs.Labs.{Lab, lab_sizes, new_lab, after_order}
 use Rattle.lab_scripts.specs.Texts.{sizes_text, outcome_text}
 use Rattle.lab_scripts.specs.OrderTexts.{role_text, liar_text, order_text}
-use Rattle.lab_scripts.specs.declared.orders.Setup.{Setup}
-use Rattle.lab_scripts.specs.declared.orders.Setup.TheVariants.{Owned, Liar}
-use Rattle.lab_scripts.specs.declared.orders.Order.{Order}
+use Rattle.lab_scripts.specs.declared.orders.SetupLine.{SetupLine}
+use Rattle.lab_scripts.specs.declared.orders.SetupLine.TheVariants.{Owned, Liar}
+use Rattle.lab_scripts.specs.declared.orders.ScriptLine.{ScriptLine}
 
 -- a line of more bytes is bad
 abbrev pub most_line_bytes : ℕ
@@ -61,14 +61,14 @@ abbrev pub liars_after : Table → Nodes → ℕ → Nodes
 liars_after roles liars node = if one_too_many roles liars node then liars else sets.insert liars node
 
 -- after one more role or liar
-abbrev pub after_setup : Table → Nodes → Setup → Script × List ℕ
+abbrev pub after_setup : Table → Nodes → SetupLine → Script × List ℕ
 after_setup roles liars (Owned role owner) =
     let fault = add_due roles role owner in (OfSetup (table_after roles role owner fault) liars, role_text fault)
 after_setup roles liars (Liar node) =
     (OfSetup roles (liars_after roles liars node), liar_text (one_too_many roles liars node))
 
 -- after what a line asks of the cluster
-abbrev pub after_asking : Lab → Order → Script × List ℕ
+abbrev pub after_asking : Lab → ScriptLine → Script × List ℕ
 after_asking lab order = (OfCluster (after_order lab order), order_text lab order)
 
 -- the same, where the line asks something

@@ -16,7 +16,7 @@ const OWNER: u8 = 0;
 
 /// What a node says, as a line names it.
 #[derive(Clone, Copy)]
-pub struct Said {
+pub struct LineMessage {
     /// The kind of the message.
     pub kind: Kind,
     /// The node that it is from.
@@ -50,7 +50,7 @@ pub(crate) fn sizes_of_numbers(text: &str) -> Option<Sizes>
 
 /// The message that a later line names, as `send C`, `echo I C` or `ready I C`.
 #[tactic(auto, unfolding(crate::specs::Grammar::take_of_line))]
-pub fn take_of_line(sizes: &Sizes, line: &str) -> Option<Said>
+pub fn take_of_line(sizes: &Sizes, line: &str) -> Option<LineMessage>
     ensures value { option_map take_said result ≡ reading.take_of_line sizes.now line.now }
     ensures from { IfSome result (λ said. IsFromNode sizes.now (take_said said)) }
 {
@@ -59,7 +59,7 @@ pub fn take_of_line(sizes: &Sizes, line: &str) -> Option<Said>
 }
 
 #[tactic(auto, unfolding(crate::specs::Grammar::named_take))]
-fn named_take(sizes: &Sizes, name: &str, text: &str) -> Option<Said>
+fn named_take(sizes: &Sizes, name: &str, text: &str) -> Option<LineMessage>
     ensures value { option_map take_said result ≡ reading.named_take sizes.now name.now text.now }
     ensures from { IfSome result (λ said. IsFromNode sizes.now (take_said said)) }
 {
@@ -72,7 +72,7 @@ fn named_take(sizes: &Sizes, name: &str, text: &str) -> Option<Said>
 }
 
 #[tactic(auto, unfolding(crate::specs::Grammar::vote_of))]
-fn vote_of(sizes: &Sizes, kind: Kind, text: &str) -> Option<Said>
+fn vote_of(sizes: &Sizes, kind: Kind, text: &str) -> Option<LineMessage>
     ensures value { option_map take_said result ≡ reading.vote_of sizes.now kind text.now }
     ensures from { IfSome result (λ said. (said.kind ≡ kind) × (said.from < sizes.now.nodes)) }
 {
@@ -82,13 +82,13 @@ fn vote_of(sizes: &Sizes, kind: Kind, text: &str) -> Option<Said>
 }
 
 #[tactic(auto, unfolding(crate::specs::Grammar::take_from))]
-fn take_from(sizes: &Sizes, kind: Kind, index: u8, text: &str) -> Option<Said>
+fn take_from(sizes: &Sizes, kind: Kind, index: u8, text: &str) -> Option<LineMessage>
     ensures value { option_map take_said result ≡ reading.take_from sizes.now kind index text.now }
     ensures from { IfSome result (λ said. (said.kind ≡ kind) × (said.from ≡ index) × (index < sizes.now.nodes)) }
 {
     let from = sizes.name(index)?;
     let command = parse_command(text)?;
-    Some(Said {
+    Some(LineMessage {
         kind,
         from,
         command,

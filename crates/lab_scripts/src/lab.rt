@@ -13,7 +13,7 @@ ghost use Rattle.lab_scripts.specs.OrderTexts as texts;
 
 use crate::given::Given;
 use crate::order_texts::{agreed_text, answer_text, reached_text, rest_text, step_reply_text};
-use crate::orders::{Order, packet_of};
+use crate::orders::{ScriptLine, packet_of};
 use byz_world::{Step, World, WorldFault};
 use quorum_sizes::{NodeName, NodeSet, Sizes};
 use role_commands::RoleTable;
@@ -73,25 +73,30 @@ impl Lab {
 
     /// Does what a line asks. The text is what is due for the line.
     #[tactic(auto, unfolding(crate::specs::OrderTexts::order_text))]
-    pub fn answer(&mut self, alloc: Global, order: Order) -> Result<String, AllocError>
+    pub fn answer(&mut self, alloc: Global, order: ScriptLine) -> Result<String, AllocError>
         requires { IsWithinSizes (lab_sizes (lab_in self.old)) order }
         ensures text { IfOk result (λ text. string_bytes text ≡ texts.order_text (lab_in self.old) order) }
         ensures after { OnOk result (lab_in self.new ≡ after_order (lab_in self.old) order) }
     {
         match order {
-            Order::Do(step) => self.step_text(alloc, step),
-            Order::Flush => {
+            ScriptLine::Do(step) => self.step_text(alloc, step),
+            ScriptLine::Flush => {
                 let count = self.flush()?;
                 format!(in alloc; "flushed {count}")
             }
-            Order::Settle => {
+            ScriptLine::Settle => {
                 let count = self.settle()?;
                 format!(in alloc; "settled {count}")
             }
-            Order::Rest => rest_text(alloc, self.rests()),
-            Order::Ask { node, question } => asked_text(alloc, &mut self.world, node, question),
-            Order::Reach { node, owner } => self.reach_text(alloc, node, owner),
-            Order::Agree { one, other, owner } => {
+            ScriptLine::Rest => rest_text(alloc, self.rests()),
+            ScriptLine::Ask { node, question } => asked_text(
+                alloc,
+                &mut self.world,
+                node,
+                question,
+            ),
+            ScriptLine::Reach { node, owner } => self.reach_text(alloc, node, owner),
+            ScriptLine::Agree { one, other, owner } => {
                 agreed_text(alloc, self.world.agree(one, other, owner))
             }
         }
@@ -182,7 +187,7 @@ impl Lab {
         node: NodeName,
         owner: NodeName,
     ) -> Result<String, AllocError>
-        requires { IsWithinSizes (lab_sizes (lab_in self.now)) (Order.Reach node owner) }
+        requires { IsWithinSizes (lab_sizes (lab_in self.now)) (ScriptLine.Reach node owner) }
         ensures { IfOk result (λ text. string_bytes text ≡ texts.reach_text self.now.world node owner) }
     {
         match self.world.node(node) {

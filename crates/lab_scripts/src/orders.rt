@@ -21,7 +21,7 @@ use std::alloc::{AllocError, Global};
 
 /// What a line says of a cluster before anything happens in it.
 #[derive(Clone, Copy)]
-pub enum Setup {
+pub enum SetupLine {
     /// A role, and its owner, which need not be a node.
     Owned { role: u16, owner: u8 },
     /// A node that lies.
@@ -30,7 +30,7 @@ pub enum Setup {
 
 /// What a later line asks.
 #[derive(Drop)]
-pub enum Order {
+pub enum ScriptLine {
     /// That this happens to the cluster.
     Do(Step),
     /// That all packets that wait are given.
@@ -82,7 +82,7 @@ pub fn cluster_of_line(line: &str) -> Option<Sizes>
 
 /// What a line says before anything happens, as `role R OWNER` or `liar I`.
 #[tactic(auto, unfolding(crate::specs::Orders::setup_of_line))]
-pub fn setup_of_line(sizes: &Sizes, line: &str) -> Option<Setup>
+pub fn setup_of_line(sizes: &Sizes, line: &str) -> Option<SetupLine>
     ensures { result ≡ reading.setup_of_line sizes.now line.now }
 {
     let (name, text) = split_word(line)?;
@@ -90,23 +90,23 @@ pub fn setup_of_line(sizes: &Sizes, line: &str) -> Option<Setup>
 }
 
 #[tactic(auto, unfolding(crate::specs::Orders::named_setup))]
-fn named_setup(sizes: &Sizes, name: &str, text: &str) -> Option<Setup>
+fn named_setup(sizes: &Sizes, name: &str, text: &str) -> Option<SetupLine>
     ensures { result ≡ reading.named_setup sizes.now name.now text.now }
 {
     match name {
         "role" => role_and_owner(text),
-        "liar" => Some(Setup::Liar(node_number(sizes, text)?)),
+        "liar" => Some(SetupLine::Liar(node_number(sizes, text)?)),
         _ => None,
     }
 }
 
 #[tactic(auto, unfolding(crate::specs::Orders::role_and_owner))]
-fn role_and_owner(text: &str) -> Option<Setup>
+fn role_and_owner(text: &str) -> Option<SetupLine>
     ensures { result ≡ reading.role_and_owner text.now }
 {
     let (role, text) = narrow_then(text)?;
     let owner = byte_number(text)?;
-    Some(Setup::Owned { role, owner })
+    Some(SetupLine::Owned { role, owner })
 }
 
 /// What a later line asks.
@@ -115,19 +115,23 @@ fn role_and_owner(text: &str) -> Option<Setup>
 ///
 /// Only for want of memory, at a line with bytes.
 #[tactic(auto, unfolding(crate::specs::Orders::order_of_line))]
-pub fn order_of_line(alloc: Global, sizes: &Sizes, line: &str) -> Result<Option<Order>, AllocError>
+pub fn order_of_line(
+    alloc: Global,
+    sizes: &Sizes,
+    line: &str,
+) -> Result<Option<ScriptLine>, AllocError>
     ensures value { IfOk result (λ order. order ≡ reading.order_of_line sizes.now line.now) }
     ensures within { IfOk result (λ order. IfSome order (IsWithinSizes sizes.now)) }
     ensures memory { OnErr result (NamesBytes line.now) }
 {
     if line == "flush" {
-        return Ok(Some(Order::Flush));
+        return Ok(Some(ScriptLine::Flush));
     }
     if line == "settle" {
-        return Ok(Some(Order::Settle));
+        return Ok(Some(ScriptLine::Settle));
     }
     if line == "rest" {
-        return Ok(Some(Order::Rest));
+        return Ok(Some(ScriptLine::Rest));
     }
     let Some((name, text)) = split_word(line) else {
         return Ok(None);
@@ -140,7 +144,7 @@ pub fn order_of_line(alloc: Global, sizes: &Sizes, line: &str) -> Result<Option<
 }
 
 #[tactic(auto, unfolding(crate::specs::Orders::bytes_order))]
-fn bytes_order(alloc: Global, sizes: &Sizes, text: &str) -> Result<Option<Order>, AllocError>
+fn bytes_order(alloc: Global, sizes: &Sizes, text: &str) -> Result<Option<ScriptLine>, AllocError>
     ensures value { IfOk result (λ order. order ≡ reading.bytes_order sizes.now text.now) }
     ensures within { IfOk result (λ order. IfSome order (IsWithinSizes sizes.now)) }
 {
@@ -150,29 +154,29 @@ fn bytes_order(alloc: Global, sizes: &Sizes, text: &str) -> Result<Option<Order>
     let Some(bytes) = bytes_of(alloc, word)? else {
         return Ok(None);
     };
-    Ok(Some(Order::Do(Step::Bytes { to, bytes })))
+    Ok(Some(ScriptLine::Do(Step::Bytes { to, bytes })))
 }
 
 #[tactic(auto, unfolding(crate::specs::Orders::named_order))]
-fn named_order(sizes: &Sizes, name: &str, text: &str) -> Option<Order>
+fn named_order(sizes: &Sizes, name: &str, text: &str) -> Option<ScriptLine>
     ensures value { result ≡ reading.named_order sizes.now name.now text.now }
     ensures within { IfSome result (IsWithinSizes sizes.now) }
 {
     match name {
         "give" => {
             let packet = wide_number(text)?;
-            Some(Order::Do(Step::Give { packet }))
+            Some(ScriptLine::Do(Step::Give { packet }))
         }
         "lie" => {
             let packet = lie_of(sizes, text)?;
-            Some(Order::Do(Step::Lie { packet }))
+            Some(ScriptLine::Do(Step::Lie { packet }))
         }
         _ => order_of_node(sizes, name, text),
     }
 }
 
 #[tactic(auto, unfolding(crate::specs::Orders::order_of_node, crate::specs::Orders::then_rest))]
-fn order_of_node(sizes: &Sizes, name: &str, text: &str) -> Option<Order>
+fn order_of_node(sizes: &Sizes, name: &str, text: &str) -> Option<ScriptLine>
     ensures value { result ≡ reading.order_of_node sizes.now name.now text.now }
     ensures within { IfSome result (IsWithinSizes sizes.now) }
 {
@@ -182,14 +186,14 @@ fn order_of_node(sizes: &Sizes, name: &str, text: &str) -> Option<Order>
 }
 
 #[tactic(auto, unfolding(crate::specs::Orders::order_at_node, crate::specs::inside::Kept::question_at_node))]
-fn order_at_node(sizes: &Sizes, name: &str, node: NodeName, text: &str) -> Option<Order>
+fn order_at_node(sizes: &Sizes, name: &str, node: NodeName, text: &str) -> Option<ScriptLine>
     ensures value { result ≡ reading.order_at_node sizes.now name.now node text.now }
     ensures within { IfSome result (IsWithinSizes sizes.now) }
 {
     match name {
         "issue" => {
             let command = parse_command(text)?;
-            Some(Order::Do(Step::Issue { node, command }))
+            Some(ScriptLine::Do(Step::Issue { node, command }))
         }
         "open" => {
             let user = wide_number(text)?;
@@ -227,22 +231,22 @@ fn order_at_node(sizes: &Sizes, name: &str, node: NodeName, text: &str) -> Optio
 
 /// What is asked at a node.
 #[tactic(auto, unfolding(crate::specs::inside::Kept::question_at_node))]
-fn question_at_node(sizes: &Sizes, name: &str, node: NodeName, text: &str) -> Option<Order>
+fn question_at_node(sizes: &Sizes, name: &str, node: NodeName, text: &str) -> Option<ScriptLine>
     ensures value { result ≡ inside.question_at_node sizes.now name.now node text.now }
     ensures within { IfSome result (IsWithinSizes sizes.now) }
 {
     match name {
         "check" => {
             let question = access_of(text)?;
-            Some(Order::Ask { node, question })
+            Some(ScriptLine::Ask { node, question })
         }
         "list" => {
             let question = listing_of(text)?;
-            Some(Order::Ask { node, question })
+            Some(ScriptLine::Ask { node, question })
         }
         "reach" => {
             let owner = node_number(sizes, text)?;
-            Some(Order::Reach { node, owner })
+            Some(ScriptLine::Reach { node, owner })
         }
         "agree" => agreement_of(sizes, node, text),
         _ => None,
@@ -250,21 +254,21 @@ fn question_at_node(sizes: &Sizes, name: &str, node: NodeName, text: &str) -> Op
 }
 
 /// What a client does at a node.
-fn acted(node: NodeName, event: ClientEvent) -> Order
-    ensures { result ≡ Order.Do (Client node event) }
+fn acted(node: NodeName, event: ClientEvent) -> ScriptLine
+    ensures { result ≡ ScriptLine.Do (Client node event) }
 {
-    Order::Do(Step::Client { node, event })
+    ScriptLine::Do(Step::Client { node, event })
 }
 
 #[tactic(auto, unfolding(crate::specs::Orders::agreement_of, crate::specs::Orders::then_rest))]
-fn agreement_of(sizes: &Sizes, one: NodeName, text: &str) -> Option<Order>
+fn agreement_of(sizes: &Sizes, one: NodeName, text: &str) -> Option<ScriptLine>
     ensures value { result ≡ reading.agreement_of sizes.now one text.now }
     ensures within { IfSome result (IsWithinSizes sizes.now) }
 {
     let (word, text) = split_word(text)?;
     let other = node_number(sizes, word)?;
     let owner = node_number(sizes, text)?;
-    Some(Order::Agree { one, other, owner })
+    Some(ScriptLine::Agree { one, other, owner })
 }
 
 #[tactic(auto, unfolding(crate::specs::Orders::lie_of, crate::specs::Orders::then_rest))]

@@ -40,8 +40,8 @@ pub enum Took {
 /// # Errors
 ///
 /// `BadScript` at the first bad line, when what is due for the lines before it is written. `Device` where the reader or
-/// the writer has failed, or where there is no number for another line, and `Memory`; a front of what is due is written
-/// then. Any answer but `Device` comes only where no read or write broke.
+/// the writer has failed, or where there is no number for another line, and `Memory`; a prefix of what is due is
+/// written then. Any answer but `Device` comes only where no read or write broke.
 pub fn run_script<R: Read, W: Write>(
     alloc: Global,
     reader: &mut Watched<R>,

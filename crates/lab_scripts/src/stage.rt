@@ -18,7 +18,7 @@ ghost use Rattle.lab_scripts.specs.Stages.{Follows, Answers, StageAnswers};
 use crate::grammar::{sizes_of_line, take_of_line};
 use crate::lab::Lab;
 use crate::order_texts::{liar_text, role_text};
-use crate::orders::{Setup, cluster_of_line, order_of_line, setup_of_line};
+use crate::orders::{SetupLine, cluster_of_line, order_of_line, setup_of_line};
 use crate::texts::{outcome_text, sizes_text};
 use bracha_instance::Instance;
 use quorum_sizes::{NodeName, NodeSet, Sizes};
@@ -120,14 +120,14 @@ fn set_up(
     alloc: Global,
     roles: &mut RoleTable,
     liars: &mut NodeSet,
-    setup: Setup,
+    setup: SetupLine,
 ) -> Result<String, AllocError>
     ensures text { IfOk result (λ text. string_bytes text ≡ (after_setup roles.old liars.old setup).1) }
     ensures after { OnOk result (OfSetup roles.new liars.new ≡ (after_setup roles.old liars.old setup).0) }
 {
     match setup {
-        Setup::Owned { role, owner } => add_role(alloc, roles, role, owner),
-        Setup::Liar(node) => add_liar(alloc, roles, liars, node),
+        SetupLine::Owned { role, owner } => add_role(alloc, roles, role, owner),
+        SetupLine::Liar(node) => add_liar(alloc, roles, liars, node),
     }
 }
 

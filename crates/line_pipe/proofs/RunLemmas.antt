@@ -183,7 +183,7 @@ module _ {start node : NodeValue} {k p a b : Option (List ℕ)} {held : List ℕ
       let good = goes_on node line goes ∙ ap (λ (n : NodeValue). Some (n, line_text node line)) (sym after) in
       Ran-taken ran q line (line_text node line) more new none took good grown
 
-  -- a front of what is held was written
+  -- a prefix of what is held was written
   pub Lines-front : (c : Option (List ℕ)) → AppendsFront b c held → WroteFront (client_text start) k a c
   Lines-front c wrote = text_front start k a c (Ran-front ran c wrote)
 

@@ -9,7 +9,7 @@ use Rattle.line_pipe.specs.declared.fault.PipeFault.{PipeFault}
 use Rattle.line_pipe.specs.declared.fault.PipeFault.TheVariants.{Cluster, Device, Memory}
 
 -- At the end the reader has ended or a line stopped the node, and the text that is due is written. Where the first line
--- sets up no node nothing is written, and else a front of the text.
+-- sets up no node nothing is written, and else a prefix of the text.
 abbrev pub PipeRan : Lines → Lines → Result (Unit {0}) PipeFault → Type 0
 PipeRan old new (Ok _) =
     (input : List ℕ) × HasBytes old.unread input × (opening_fault input ≡ None)

@@ -34,8 +34,8 @@ use std::io::{Read, Write};
 /// # Errors
 ///
 /// `Cluster` where the first line sets up no node, when nothing is written. `Device` where the reader or the writer has
-/// failed, or where there is no number for another line, and `Memory`; a front of the text that is due is written then.
-/// All but `Device` come only where no read or write broke.
+/// failed, or where there is no number for another line, and `Memory`; a prefix of the text that is due is written
+/// then. All but `Device` come only where no read or write broke.
 pub fn run_pipe<R: Read, W: Write>(
     alloc: Global,
     reader: &mut Watched<R>,

@@ -12,7 +12,7 @@ use Rattle.role_node.specs.declared.faults.NodeFault.{NodeFault}
 use Rattle.node_lock.specs.Audits.{node_at, IsEventOf}
 use Rattle.node_lock.specs.Receipts.{outcome_due, outcome_from, is_recorded_outcome}
 use Rattle.node_lock.specs.inside.Walks.{IsNext, IsTrueHere, IsUnrecorded}
-use Rattle.node_lock.specs.declared.audits.Recorded.{Recorded}
+use Rattle.node_lock.specs.declared.audits.EntryParts.{EntryParts}
 use Rattle.node_lock.specs.declared.receipt.Call.TheVariants.{Step}
 use Rattle.node_lock.specs.declared.receipt.Outcome.TheVariants.{Reply as Replied}
 use Rattle.node_lock.specs.declared.receipt.Receipt.{Receipt}
@@ -45,7 +45,7 @@ one_further node place event at =
     (sym more)
 
 -- a receipt of the entry's event is true where it has the entry's reply
-pub of_entry : (node : NodeValue) (entry : Recorded) (r : Receipt) (event : Event) (told : Bool) →
+pub of_entry : (node : NodeValue) (entry : EntryParts) (r : Receipt) (event : Event) (told : Bool) →
     r.call ≡ Step event → entry.event ≡ event → IsNext node (Some entry) →
     (IsTrue told ↔ (r.outcome ≡ Replied entry.reply)) → IsTrue told ↔ IsTrueHere node (Some entry.event) r
 of_entry node entry r event told call same next says =

@@ -63,12 +63,12 @@ impl From<AllocError> for AuditFault {
 
 /// An entry of the history: an event that was recorded, and its reply.
 #[derive(Clone, Copy)]
-struct Recorded {
+struct EntryParts {
     event: Event,
     reply: Reply,
 }
 
-impl Recorded {
+impl EntryParts {
     /// Whether the entry is of this event.
     #[inline(always)]
     fn is_of(&self, event: &Event) -> bool
@@ -136,13 +136,13 @@ fn check_all_places(
 }
 
 /// The entry at a place of the history, with its event and its reply side by side.
-fn entry_at(node: &Node, place: u32) -> Recorded
+fn entry_at(node: &Node, place: u32) -> EntryParts
     requires { place < length node.now.history }
     ensures event { slice_get node.now.history place ≡ Some result.event }
     ensures next { IsNext (node_at node.now place) (Some result) }
 {
     let entry = node.history()[place as usize];
-    Recorded {
+    EntryParts {
         event: entry.event(),
         reply: entry.reply(),
     }
@@ -191,7 +191,7 @@ fn split_at_place<'a, 'b>(
 #[inline(always)]
 fn check_recorded(
     replay: &mut Node,
-    entry: Recorded,
+    entry: EntryParts,
     here: &[&Receipt],
     place: u32,
 ) -> Result<(), AuditFault>
@@ -209,7 +209,7 @@ fn check_recorded(
 /// Whether one receipt is of the place's event, and all receipts here are true. The node has the history before it.
 fn check_place(
     replay: &mut Node,
-    entry: &Option<Recorded>,
+    entry: &Option<EntryParts>,
     here: &[&Receipt],
     place: u32,
 ) -> Result<(), AuditFault>
@@ -246,7 +246,7 @@ fn count_recorded(receipts: &[&Receipt]) -> usize
 /// Whether all receipts here are true.
 fn are_true(
     replay: &mut Node,
-    entry: &Option<Recorded>,
+    entry: &Option<EntryParts>,
     here: &[&Receipt],
 ) -> Result<bool, AllocError>
     requires { IsNext replay.old entry.now }
@@ -265,7 +265,7 @@ fn are_true(
 /// Whether a receipt is true here.
 fn is_true(
     replay: &mut Node,
-    entry: &Option<Recorded>,
+    entry: &Option<EntryParts>,
     receipt: &Receipt,
 ) -> Result<bool, AllocError>
     requires { IsNext replay.old entry.now }

@@ -60,7 +60,7 @@ struct Client<'a, 'b, N: HeldNode, K: FrameKeys, R> {
     writer: Watched<&'b TcpStream>,
 }
 
-/// Serves the connection of the client at this place, up to its end.
+/// Serves the connection of the client in this slot, up to its end.
 pub fn answer_client<N: HeldNode, K: FrameKeys, R: Wait + Clock>(
     server: &Server<'_, N, K, R>,
     number: u32,
@@ -89,7 +89,7 @@ pub fn answer_client<N: HeldNode, K: FrameKeys, R: Wait + Clock>(
     if client.serve() {
         server.end();
     }
-    server.ring();
+    server.wake_workers();
     slot.free(server.rt, client.queue, client.put);
     server.wake_ports();
 }
@@ -119,7 +119,7 @@ impl<N: HeldNode, K: FrameKeys, R: Wait + Clock> Client<'_, '_, N, K, R> {
 
     /// Writes the answers to all lines that were put.
     fn write_rest(&mut self) {
-        let _ = self.settle();
+        let _ = self.await_answers();
         let _ = self.held.write_all(&mut self.writer);
     }
 
@@ -173,7 +173,7 @@ impl<N: HeldNode, K: FrameKeys, R: Wait + Clock> Client<'_, '_, N, K, R> {
         ensures { IfOk result (Begins MOST_LINE_BYTES (front_of ahead.new)) }
     {
         self.lines = 0;
-        self.settle()?;
+        self.await_answers()?;
         self.held
             .write_when_due(ahead, MOST_LINE_BYTES, &mut self.writer)?;
         let mut reader = Watched::new(LineReader::new(self.stream, self.asked));
@@ -241,12 +241,12 @@ impl<N: HeldNode, K: FrameKeys, R: Wait + Clock> Client<'_, '_, N, K, R> {
             Err(OperatorFault::Memory) => return Err(AheadFault::Memory),
             Err(fault) => OperatorAnswer::BadLine(fault),
             Ok(Some(request)) => {
-                self.settle()?;
+                self.await_answers()?;
                 let answer = self.server.operator_answer(request);
                 answer.ok_or(AheadFault::Memory)?
             }
         };
-        self.settle()?;
+        self.await_answers()?;
         self.lines = MOST_LINES;
         hold_operator_answer(alloc, &mut self.held, &answer)?;
         Ok(())
@@ -254,7 +254,7 @@ impl<N: HeldNode, K: FrameKeys, R: Wait + Clock> Client<'_, '_, N, K, R> {
 
     /// Answers all lines before, and that the node stops.
     fn stop(&mut self) -> AfterLine {
-        self.server.ring();
+        self.server.wake_workers();
         if self.collect().is_ok() {
             let _ = hold_answer(self.server.alloc, &mut self.held, &ClientAnswer::Stopped);
         }
@@ -283,7 +283,7 @@ impl<N: HeldNode, K: FrameKeys, R: Wait + Clock> Client<'_, '_, N, K, R> {
     fn say(&mut self, answer: &ClientAnswer) -> Result<(), AheadFault>
         requires { IsWritten answer.now }
     {
-        self.settle()?;
+        self.await_answers()?;
         hold_answer(self.server.alloc, &mut self.held, answer)?;
         Ok(())
     }
@@ -296,7 +296,7 @@ impl<N: HeldNode, K: FrameKeys, R: Wait + Clock> Client<'_, '_, N, K, R> {
         if self.asked && self.put > 0 {
             return self.call(Call::Ask(question));
         }
-        self.settle()?;
+        self.await_answers()?;
         let said = if self.asked {
             self.server.look(Some(question), self.server.keys.me(), 0)
         } else {
@@ -321,12 +321,12 @@ impl<N: HeldNode, K: FrameKeys, R: Wait + Clock> Client<'_, '_, N, K, R> {
         ensures { OnOk result (self.new.queue.pass ≡ after_put self.old.queue.pass job.now) }
     {
         if self.queue.put(self.server.rt, *job).is_err() {
-            self.server.ring();
+            self.server.wake_workers();
             self.held.write_all(&mut self.writer)?;
             let server = self.server;
             if !self
                 .queue
-                .put_patiently(server.rt, &|| server.ring_on(), job)
+                .put_patiently(server.rt, &|| server.wake_for_room(), job)
             {
                 return Err(AheadFault::Device);
             }
@@ -341,11 +341,11 @@ impl<N: HeldNode, K: FrameKeys, R: Wait + Clock> Client<'_, '_, N, K, R> {
     /// # Errors
     ///
     /// As [`collect`](Client::collect).
-    fn settle(&mut self) -> Result<(), AheadFault> {
+    fn await_answers(&mut self) -> Result<(), AheadFault> {
         if self.put == 0 {
             return Ok(());
         }
-        self.server.ring();
+        self.server.wake_workers();
         if !self.slot.has_done(self.server.rt, self.put) {
             self.held.write_all(&mut self.writer)?;
         }
@@ -358,19 +358,19 @@ impl<N: HeldNode, K: FrameKeys, R: Wait + Clock> Client<'_, '_, N, K, R> {
     ///
     /// `Memory` where one of them has no answer. Those before it are held.
     fn collect(&mut self) -> Result<(), AheadFault> {
-        let Some(mut place) = self.slot.wait(self.server.rt, self.put) else {
+        let Some(mut state) = self.slot.wait(self.server.rt, self.put) else {
             return Err(AheadFault::Device);
         };
         self.put = 0;
         let lines = mem::replace(&mut self.in_flight, 0);
-        let told = &mut place.told;
+        let told = &mut state.told;
         told.hold_answers(self.server.alloc, &mut self.held, lines)?;
         Ok(())
     }
 
     /// Looks at a place of the owner's stream, after the lines before were answered.
     fn view(&mut self, owner: NodeName, place: Place) -> Result<View, AheadFault> {
-        self.settle()?;
+        self.await_answers()?;
         match self.server.look(None, owner, place) {
             Some(said) => Ok(said.view),
             None => Err(AheadFault::Memory),
@@ -407,7 +407,7 @@ impl<N: HeldNode, K: FrameKeys, R: Wait + Clock> Client<'_, '_, N, K, R> {
         self.held.write_all(&mut self.writer)?;
         let server = self.server;
         let queue = &mut self.queue;
-        match queue.put_own(server.rt, &|| server.ring_on(), number, me, messages) {
+        match queue.put_own(server.rt, &|| server.wake_for_room(), number, me, messages) {
             Some(count) => {
                 self.put = self.put.saturating_add(count);
                 Ok(())

@@ -25,9 +25,10 @@ pub struct Crew<'a, N: HeldNode> {
     pub jobs: bool,
     /// The peers to which there is a new connection since a worker looked.
     pub connected: Vec<NodeName>,
-    /// When a frame of the connection of peers at each place counted last, in milliseconds; 0 where none has.
+    /// When a frame of the connection of peers in each slot counted last, in milliseconds; 0 where none has.
     pub counted: Vec<u64>,
-    /// When something is due for which nobody rings, and when the thread of the ports wakes by itself, in milliseconds.
+    /// When something is due for which nobody wakes a worker, and when the thread of the ports wakes by itself, in
+    /// milliseconds.
     pub due: u64,
     pub wakes: u64,
     /// A port has failed, or what was recorded is not kept.
@@ -62,7 +63,7 @@ impl<'a, N: HeldNode> Crew<'a, N> {
 impl<'a, N: HeldNode, K: FrameKeys, R: Wait + Clock> Server<'a, N, K, R> {
     /// Jobs were put. This thread does them with an idle worker, or leaves them to others where that may take long.
     /// Where a worker takes jobs now, or all are at work, those look again.
-    pub fn ring(&self) {
+    pub fn wake_workers(&self) {
         let mut crew = self.crew.lock(self.rt);
         crew.jobs = true;
         if N::may_sync_long() {
@@ -77,10 +78,10 @@ impl<'a, N: HeldNode, K: FrameKeys, R: Wait + Clock> Server<'a, N, K, R> {
     }
 
     /// Jobs were put, for which the inbox has no room. Whether the node goes on.
-    pub fn ring_on(&self) -> bool {
+    pub fn wake_for_room(&self) -> bool {
         let goes_on = !self.has_ended();
         if goes_on {
-            self.ring();
+            self.wake_workers();
         }
         goes_on
     }
@@ -149,16 +150,16 @@ impl<'a, N: HeldNode, K: FrameKeys, R: Wait + Clock> Server<'a, N, K, R> {
     }
 
     /// Notes when a frame of each connection of peers counted last.
-    pub fn note_counted(&self, places: &mut [Option<Connected>]) {
+    pub fn note_counted(&self, slots: &mut [Option<Connected>]) {
         let crew = self.crew.lock(self.rt);
-        for (place, time) in places.iter_mut().zip(&crew.counted) {
-            if let Some(connected) = place {
+        for (slot, time) in slots.iter_mut().zip(&crew.counted) {
+            if let Some(connected) = slot {
                 connected.counted = *time;
             }
         }
     }
 
-    /// There is another connection at this place, of which no frame has counted.
+    /// There is another connection in this slot, of which no frame has counted.
     pub fn forget_counted(&self, slot: usize) {
         if let Some(time) = self.crew.lock(self.rt).counted.get_mut(slot) {
             *time = 0;
@@ -182,7 +183,7 @@ impl<'a, N: HeldNode, K: FrameKeys, R: Wait + Clock> Server<'a, N, K, R> {
         wakes - now
     }
 
-    /// Whether something is due now for which nobody rings, a new connection among it.
+    /// Whether something is due now for which nobody wakes a worker, a new connection among it.
     pub fn is_due(&self, now: u64) -> bool {
         let mut crew = self.crew.lock(self.rt);
         crew.wakes = now;

@@ -8,7 +8,7 @@
 //!
 //! The server does not know what is behind the lock (`HeldNode`), nor by which keys frames open (`FrameKeys`).
 //! `served_node` says what a client hears and what the node sends, and `frame_queues` who waits for a job, which frame
-//! a message gets, which bytes that come are frames, which connections have a place, and which bytes go over one.
+//! a message gets, which bytes that come are frames, which connections have a slot, and which bytes go over one.
 #![tactic(auto)]
 
 ghost use denote.Param.Send.{IsSend, IsSync};
@@ -29,7 +29,7 @@ use frame_queues::MOST_CLIENTS;
 pub use frame_queues::{ClusterKeys, FrameKeys, PeerName};
 use mio::Waker;
 use node_lock::{Inbox, Seat};
-use peers::{PLACES, Peers};
+use peers::{Peers, SLOTS};
 use ports::{Ports, poll_of};
 use served_node::{Heard, SyncTally, millis};
 pub use served_node::{HeldNode, NotKept, Said};
@@ -213,7 +213,7 @@ fn crew_of<'a, N: HeldNode>(
         front: Some(front),
         jobs: false,
         connected: Vec::with_capacity(alloc, usize::from(nodes))?,
-        counted: Vec::from_elem(alloc, 0, PLACES)?,
+        counted: Vec::from_elem(alloc, 0, SLOTS)?,
         due: 0,
         wakes: 0,
         failed: false,

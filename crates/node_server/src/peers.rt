@@ -4,7 +4,7 @@ use crate::crew::REFUSED;
 use crate::server::Server;
 use frame_queues::{
     BLOCK_FRAMES, Came, Connected, FrameBlock, FrameKeys, MOST_PEERS, PeerName, Turn, Turns,
-    place_for, third_of,
+    slot_for, third_of,
 };
 use link_frames::Frame;
 use mio::unix::SourceFd;
@@ -18,8 +18,8 @@ use std::os::fd::AsRawFd;
 use std::sync::Wait;
 use std::time::Clock;
 
-/// How many places there are.
-pub const PLACES: usize = MOST_PEERS as usize;
+/// How many slots there are.
+pub const SLOTS: usize = MOST_PEERS as usize;
 
 /// The milliseconds in which the first frame has to open.
 const FIRST_FRAME: u64 = 2_000;
@@ -61,14 +61,14 @@ impl Connection {
     }
 }
 
-/// The connections of peers, each at a place of its own.
+/// The connections of peers, each in a slot of its own.
 #[derive(Drop)]
 pub struct Peers<'a, 'b, N: HeldNode, K: FrameKeys, R> {
     server: &'b Server<'a, N, K, R>,
     queue: JobQueue<'a>,
-    places: Vec<Option<Connected>>,
+    slots: Vec<Option<Connected>>,
     connections: Vec<Option<Connection>>,
-    /// The places of the connections that may have bytes.
+    /// The slots of the connections that may have bytes.
     ready: Vec<usize>,
     /// The turns in which the frames of their blocks are put.
     turns: Turns,
@@ -90,17 +90,17 @@ impl<'a, 'b, N: HeldNode, K: FrameKeys, R: Wait + Clock> Peers<'a, 'b, N, K, R> 
         queue: JobQueue<'a>,
     ) -> Result<Peers<'a, 'b, N, K, R>, AllocError> {
         let alloc = server.alloc;
-        let mut connections = Vec::with_capacity(alloc, PLACES)?;
-        for _ in 0..PLACES {
+        let mut connections = Vec::with_capacity(alloc, SLOTS)?;
+        for _ in 0..SLOTS {
             connections.push(None)?;
         }
         Ok(Peers {
             server,
             queue,
-            places: Vec::from_elem(alloc, None, PLACES)?,
+            slots: Vec::from_elem(alloc, None, SLOTS)?,
             connections,
-            ready: Vec::with_capacity(alloc, PLACES)?,
-            turns: Turns::new(alloc, PLACES)?,
+            ready: Vec::with_capacity(alloc, SLOTS)?,
+            turns: Turns::new(alloc, SLOTS)?,
             lot: millis(server.rt),
             heard: Heard::new(alloc, server.keys.sizes().n())?,
             is_news: false,
@@ -111,10 +111,10 @@ impl<'a, 'b, N: HeldNode, K: FrameKeys, R: Wait + Clock> Peers<'a, 'b, N, K, R> 
     /// and so is one of which a packet found no memory. What is heard is told.
     pub fn wait_until(&mut self, now: u64) -> u64 {
         let mut wait = if self.ready.is_empty() { u64::MAX } else { now };
-        for slot in 0..PLACES {
-            let end = match self.places.get(slot) {
-                Some(Some(place)) if place.counted == REFUSED => now,
-                Some(Some(place)) if place.name.is_none() => place
+        for slot in 0..SLOTS {
+            let end = match self.slots.get(slot) {
+                Some(Some(connected)) if connected.counted == REFUSED => now,
+                Some(Some(connected)) if connected.name.is_none() => connected
                     .began
                     .saturating_add(FIRST_FRAME),
                 _ => continue,
@@ -133,32 +133,32 @@ impl<'a, 'b, N: HeldNode, K: FrameKeys, R: Wait + Clock> Peers<'a, 'b, N, K, R> 
     fn tell_heard(&mut self) {
         if self.is_news {
             self.is_news = false;
-            self.heard.note_places(&self.places);
+            self.heard.note_slots(&self.slots);
             let mut heard = self.server.heard.lock(self.server.rt);
             heard.take_over(&self.heard);
         }
     }
 
-    /// Notes that the connection of a place may have bytes, or has its end.
+    /// Notes that the connection of a slot may have bytes, or has its end.
     pub fn note(&mut self, slot: usize, is_closed: bool) {
         if let Some(Some(connection)) = self.connections.get_mut(slot) {
             connection.has_end |= is_closed;
             if !self.ready.contains(&slot) {
-                // there is room for each place
+                // there is room for each slot
                 let _ = self.ready.push(slot);
             }
         }
     }
 
-    /// Gives a place to a connection that has come, and closes the one that has it. Where there is none it is closed.
+    /// Gives a slot to a connection that has come, and closes the one that has it. Where there is none it is closed.
     ///
     /// # Errors
     ///
     /// As the system answers; `OutOfMemory` for want of memory. The connection is closed.
     pub fn add(&mut self, registry: &Registry, now: u64, stream: TcpStream) -> io::Result<()> {
         self.lot = self.lot.wrapping_mul(LOT_FACTOR).wrapping_add(1);
-        let lot = (self.lot >> 32) as usize % PLACES;
-        let Some(slot) = place_for(&self.places, lot) else {
+        let lot = (self.lot >> 32) as usize % SLOTS;
+        let Some(slot) = slot_for(&self.slots, lot) else {
             return Ok(());
         };
         stream.set_nodelay(true)?;
@@ -176,11 +176,11 @@ impl<'a, 'b, N: HeldNode, K: FrameKeys, R: Wait + Clock> Peers<'a, 'b, N, K, R> 
             came: Came::Nothing,
             has_end: false,
         };
-        if let (Some(place), Some(room)) = (
-            self.places.get_mut(slot),
+        if let (Some(connected), Some(room)) = (
+            self.slots.get_mut(slot),
             self.connections.get_mut(slot),
         ) {
-            *place = Some(Connected {
+            *connected = Some(Connected {
                 name: None,
                 counted: 0,
                 began: now,
@@ -191,14 +191,14 @@ impl<'a, 'b, N: HeldNode, K: FrameKeys, R: Wait + Clock> Peers<'a, 'b, N, K, R> 
         Ok(())
     }
 
-    /// Closes the connection of a place, if there is one.
+    /// Closes the connection of a slot, if there is one.
     fn close(&mut self, slot: usize) {
-        if let (Some(place), Some(room)) = (
-            self.places.get_mut(slot),
+        if let (Some(connected), Some(room)) = (
+            self.slots.get_mut(slot),
             self.connections.get_mut(slot),
         ) {
-            self.is_news |= place.is_some();
-            *place = None;
+            self.is_news |= connected.is_some();
+            *connected = None;
             *room = None;
         }
     }
@@ -209,7 +209,7 @@ impl<'a, 'b, N: HeldNode, K: FrameKeys, R: Wait + Clock> Peers<'a, 'b, N, K, R> 
         for slot in &self.ready {
             if let Some(Some(connection)) = self.connections.get_mut(*slot) {
                 connection.read();
-                // there is room for each place
+                // there is room for each slot
                 let _ = self.turns.add(*slot, connection.frames().len());
             }
         }
@@ -221,19 +221,19 @@ impl<'a, 'b, N: HeldNode, K: FrameKeys, R: Wait + Clock> Peers<'a, 'b, N, K, R> 
             put = put.saturating_add(self.put(turn, now));
             if put >= MOST_PUT {
                 put = 0;
-                self.server.ring();
+                self.server.wake_workers();
             }
         }
         if put > 0 {
-            self.server.ring();
+            self.server.wake_workers();
         }
-        self.server.note_counted(&mut self.places);
+        self.server.note_counted(&mut self.slots);
         let mut kept = 0usize;
         for at in 0..self.ready.len() {
-            let slot = self.ready.get(at).copied().unwrap_or(PLACES);
+            let slot = self.ready.get(at).copied().unwrap_or(SLOTS);
             if self.goes_on(slot) {
-                if let Some(place) = self.ready.get_mut(kept) {
-                    *place = slot;
+                if let Some(entry) = self.ready.get_mut(kept) {
+                    *entry = slot;
                 }
                 kept = kept.saturating_add(1);
             }
@@ -259,7 +259,7 @@ impl<'a, 'b, N: HeldNode, K: FrameKeys, R: Wait + Clock> Peers<'a, 'b, N, K, R> 
                 has_opened = true;
                 if self
                     .queue
-                    .put_packet(server.rt, &|| server.ring_on(), slot, packet)
+                    .put_packet(server.rt, &|| server.wake_for_room(), slot, packet)
                 {
                     count = count.saturating_add(1);
                 }
@@ -283,9 +283,9 @@ impl<'a, 'b, N: HeldNode, K: FrameKeys, R: Wait + Clock> Peers<'a, 'b, N, K, R> 
     /// from now on, and the third of that peer is closed: so a peer's connection runs to its end beside the next, and
     /// who sends a captured frame again and again ends none but his own.
     fn goes_on(&mut self, slot: usize) -> bool {
-        let (Some(Some(connection)), Some(Some(place))) = (
+        let (Some(Some(connection)), Some(Some(connected))) = (
             self.connections.get(slot),
-            self.places.get_mut(slot),
+            self.slots.get_mut(slot),
         ) else {
             return false;
         };
@@ -296,10 +296,10 @@ impl<'a, 'b, N: HeldNode, K: FrameKeys, R: Wait + Clock> Peers<'a, 'b, N, K, R> 
         };
         if connection.came == Came::End {
             self.close(slot);
-        } else if let (None, Some(name)) = (place.name, connection.opened) {
-            place.name = Some(name);
+        } else if let (None, Some(name)) = (connected.name, connection.opened) {
+            connected.name = Some(name);
             self.is_news = true;
-            if let Some(third) = third_of(&self.places, name) {
+            if let Some(third) = third_of(&self.slots, name) {
                 self.close(third);
             }
         }

@@ -1,6 +1,6 @@
 //! The thread of the ports: it waits at once for all that comes and for room to write.
 
-use crate::peers::{PLACES, Peers};
+use crate::peers::{Peers, SLOTS};
 use crate::server::Server;
 use frame_queues::FrameKeys;
 use mio::unix::SourceFd;
@@ -13,9 +13,9 @@ use std::os::fd::AsRawFd;
 use std::sync::{Arc, Wait};
 use std::time::{Clock, Duration};
 
-/// The numbers of what the thread waits for. A connection of a peer has the number of its place; the connections to
+/// The numbers of what the thread waits for. A connection of a peer has the number of its slot; the connections to
 /// peers have those from `FIRST_DIAL` on.
-const PEER_PORT: usize = PLACES;
+const PEER_PORT: usize = SLOTS;
 
 const CLIENT_PORT: usize = PEER_PORT + 1;
 
@@ -24,7 +24,7 @@ const WAKER: usize = CLIENT_PORT + 1;
 const FIRST_DIAL: usize = WAKER + 1;
 
 /// The most events of one wait.
-const MOST_EVENTS: usize = FIRST_DIAL + PLACES;
+const MOST_EVENTS: usize = FIRST_DIAL + SLOTS;
 
 /// The milliseconds that the thread waits at most.
 const LONGEST_WAIT: u64 = 5_000;
@@ -38,8 +38,8 @@ const MOST_NEWCOMERS: usize = 32;
 /// The milliseconds until a listener is asked again that has failed.
 const NEXT_TRY: u64 = 5;
 
-/// How many milliseconds a client waits for a place. Where none is free then it is closed.
-const PLACE_PATIENCE: u64 = 1_000;
+/// How many milliseconds a client waits for a slot. Where none is free then it is closed.
+const SLOT_PATIENCE: u64 = 1_000;
 
 /// How many milliseconds a write to a client may wait until some bytes are taken; then its connection is closed.
 const WRITE_PATIENCE: u64 = 1_000;
@@ -97,9 +97,9 @@ pub struct Ports<'a, 'b, N: HeldNode, K: FrameKeys, R> {
     /// When a connection to a peer is made next, and when all of these are looked at.
     next_dial: u64,
     next_look: u64,
-    /// Until when a client that has come waits for a place; at no time where none waits.
-    place_until: u64,
-    /// The clients that have come, at these places, for which a thread is to be started.
+    /// Until when a client that has come waits for a slot; at no time where none waits.
+    slot_until: u64,
+    /// The clients that have come, at these slots, for which a thread is to be started.
     pub newcomers: Vec<(u32, Arc<TcpStream>)>,
 }
 
@@ -139,7 +139,7 @@ impl<'a, 'b, N: HeldNode, K: FrameKeys, R: Net + Wait + Clock> Ports<'a, 'b, N, 
             peers,
             next_dial: 0,
             next_look: 0,
-            place_until: u64::MAX,
+            slot_until: u64::MAX,
             newcomers: Vec::new(server.alloc),
         })
     }
@@ -160,7 +160,7 @@ impl<'a, 'b, N: HeldNode, K: FrameKeys, R: Net + Wait + Clock> Ports<'a, 'b, N, 
         self.peers.read_ready(now);
         self.dial(now);
         if server.is_due(now) {
-            server.ring();
+            server.wake_workers();
         }
         self.take_peers(now);
         self.take_clients(now);
@@ -172,7 +172,7 @@ impl<'a, 'b, N: HeldNode, K: FrameKeys, R: Net + Wait + Clock> Ports<'a, 'b, N, 
 
     /// Until when to wait at most for what comes next.
     fn wait_until(&mut self, now: u64) -> u64 {
-        let client = match self.place_until {
+        let client = match self.slot_until {
             u64::MAX => self.client_port.accept_at,
             until => until,
         };
@@ -190,7 +190,7 @@ impl<'a, 'b, N: HeldNode, K: FrameKeys, R: Net + Wait + Clock> Ports<'a, 'b, N, 
                 self.peer_port.accept_at = now;
             } else if number == CLIENT_PORT {
                 self.client_port.accept_at = now;
-            } else if number < PLACES {
+            } else if number < SLOTS {
                 self.peers.note(number, event.is_read_closed());
             } else if number >= FIRST_DIAL {
                 server.go_on(number - FIRST_DIAL, now);
@@ -220,7 +220,7 @@ impl<'a, 'b, N: HeldNode, K: FrameKeys, R: Net + Wait + Clock> Ports<'a, 'b, N, 
         }
     }
 
-    /// Takes the connections of peers that have come. One for which there is no place is closed.
+    /// Takes the connections of peers that have come. One for which there is no slot is closed.
     fn take_peers(&mut self, now: u64) {
         for _ in 0..MOST_NEWCOMERS {
             let Some(stream) = self.peer_port.accept(now) else {
@@ -230,35 +230,35 @@ impl<'a, 'b, N: HeldNode, K: FrameKeys, R: Net + Wait + Clock> Ports<'a, 'b, N, 
         }
     }
 
-    /// Takes the clients that have come. Where no place is free they wait for one, and are closed after a while.
+    /// Takes the clients that have come. Where no slot is free they wait for one, and are closed after a while.
     fn take_clients(&mut self, now: u64) {
         let server = self.server;
         for _ in 0..MOST_NEWCOMERS {
             if self.client_port.accept_at > now {
-                self.place_until = u64::MAX;
+                self.slot_until = u64::MAX;
                 return;
             }
-            let place = server.slots.iter().position(|slot| slot.is_free(server.rt));
-            if place.is_none() && now < self.place_until {
-                self.place_until = self.place_until.min(now.saturating_add(PLACE_PATIENCE));
+            let slot = server.slots.iter().position(|slot| slot.is_free(server.rt));
+            if slot.is_none() && now < self.slot_until {
+                self.slot_until = self.slot_until.min(now.saturating_add(SLOT_PATIENCE));
                 return;
             }
-            if let (Some(stream), Some(place)) = (self.client_port.accept(now), place) {
-                self.place_until = u64::MAX;
-                self.give(place, stream);
+            if let (Some(stream), Some(slot)) = (self.client_port.accept(now), slot) {
+                self.slot_until = u64::MAX;
+                self.give(slot, stream);
             }
         }
     }
 
-    /// Gives a place to a client. Where that fails its connection is closed.
-    fn give(&mut self, place: usize, stream: TcpStream) {
+    /// Gives a slot to a client. Where that fails its connection is closed.
+    fn give(&mut self, slot: usize, stream: TcpStream) {
         let server = self.server;
         if prepare(&stream, server.idle).is_err() {
             return;
         }
         let (Ok(number), Some(slot), Ok(stream)) = (
-            u32::try_from(place),
-            server.slots.get(place),
+            u32::try_from(slot),
+            server.slots.get(slot),
             Arc::new(server.alloc, stream),
         ) else {
             return;

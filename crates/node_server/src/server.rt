@@ -31,7 +31,7 @@ pub struct Server<'a, N: HeldNode, K: FrameKeys, R> {
     pub left: Condvar,
     /// An outbox for each other node.
     pub outboxes: Vec<Outbox>,
-    /// A place for each client.
+    /// A slot for each client.
     pub slots: Vec<Slot<'a>>,
     /// Wakes the thread of the ports.
     pub waker: Waker,
@@ -71,7 +71,7 @@ impl<N: HeldNode, K: FrameKeys, R: Wait + Clock> Server<'_, N, K, R> {
         let _ = self.waker.wake();
     }
 
-    /// A client's place is free again, for want of a thread.
+    /// A client's slot is free again, for want of a thread.
     pub fn refuse(&self, slot: u32) {
         if let Some(slot) = self.slots.get(slot as usize) {
             slot.refuse(self.rt);

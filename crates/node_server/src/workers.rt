@@ -28,7 +28,7 @@ pub struct Worker<'a, N: HeldNode> {
     /// What goes to single peers.
     owed: Owed,
     frames: Vec<Frame>,
-    /// The places of the connections of peers of which a packet has counted, and of those of which one found no memory.
+    /// The slots of the connections of peers of which a packet has counted, and of those of which one found no memory.
     pub heard: Vec<(u32, bool)>,
 }
 

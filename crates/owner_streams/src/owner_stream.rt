@@ -173,12 +173,12 @@ impl OwnerStream {
         ensures few { reach_in self.new ≤ reach_in self.old + window }
     {
         while let Some(settled) = self.front() {
-            self.settle(settled);
+            self.retire_front(settled);
         }
     }
 
     /// Keeps the front of the window as this record, and frees its slot.
-    fn settle(&mut self, settled: Record)
+    fn retire_front(&mut self, settled: Record)
         requires room { reach_in self.old < vec_capacity self.old.below }
         requires front { held self.old (reach_in self.old) ≡ Some settled }
         ensures same { SamePlaces self.old self.new }

@@ -7,5 +7,5 @@ pub mod StreamLemmas
 pub mod PolicyLaws
 pub mod ApplyLemmas
 pub mod ListingLemmas
-pub mod PackedLemmas
+pub mod NumberLemmas
 pub mod Exported

@@ -18,14 +18,14 @@ use Rattle.rbac_state.specs.declared.relation.Relation.{Relation}
 use Rattle.rbac_state.specs.Listings.{IsListing}
 use Rattle.rbac_state.specs.Policies.{PolicyValue, assignment_cmp, permission_cmp}
 use Rattle.rbac_state.specs.Policies.{grant_cmp, assigned_in, granted_in, RoleMay}
-use Rattle.rbac_state.specs.inside.Packed.{packed, permission_of, grant_of}
+use Rattle.rbac_state.specs.inside.PermissionNumbers.{permission_number, permission_of, grant_of}
 use Rattle.sorted_pairs.specs.Pairs.{number_cmp}
 use Rattle.sorted_pairs.specs.Lists.{is_among}
 use Rattle.rbac_state.specs.inside.Relations.{IsKeptBothWays}
 use Rattle.sorted_pairs.proofs.Exported.{contains_head, contains_more, contains_cases}
 use Rattle.sorted_pairs.proofs.Exported.{contains_none, picked_from, picked_into, mapped_from, mapped_into}
 use Rattle.rbac_state.proofs.PairLemmas.{assignments_total, grants_total}
-use Rattle.rbac_state.proofs.GrantLemmas.{grant_is, grant_not, small_object, packed_again, permission_again}
+use Rattle.rbac_state.proofs.GrantLemmas.{grant_is, grant_not, small_object, number_again, permission_again}
 use Rattle.rbac_state.proofs.GrantLemmas.{permissions_ascend}
 use Rattle.sorted_pairs.proofs.Exported.{seconds_ascend, seconds_members}
 
@@ -109,12 +109,12 @@ module _ {k : ℕ} (value : PolicyValue) (grants : Relation k)
       ∙ ap (λ g. set.contains g (p, role)) is
 
   pub may_is : (p : ℕ × ℕ) (role : ℕ) → p.1 < 4294967296 →
-      is_among number_cmp (items_in grants.by_first.items) (packed p, role) ≡ granted_in value p.0 p.1 role
+      is_among number_cmp (items_in grants.by_first.items) (permission_number p, role) ≡ granted_in value p.0 p.1 role
   may_is p role small = sym (grant_is (items_in grants.by_first.items) p role small) ∙ among_is p role
 
   granted_is : (p : ℕ × ℕ) (role : ℕ) → p.1 < 4294967296 →
-      is_among number_cmp (items_in grants.by_second.items) (role, packed p) ≡ granted_in value p.0 p.1 role
-  granted_is p role small = kept.same (packed p) role ∙ may_is p role small
+      is_among number_cmp (items_in grants.by_second.items) (role, permission_number p) ≡ granted_in value p.0 p.1 role
+  granted_is p role small = kept.same (permission_number p) role ∙ may_is p role small
 
   abbrev of_role : ℕ → List (ℕ × ℕ)
   of_role role = filter (λ g. eq_by_cmp nat_cmp role g.0) (items_in grants.by_second.items)
@@ -133,11 +133,11 @@ module _ {k : ℕ} (value : PolicyValue) (grants : Relation k)
         let among = (of_role_among role n).0 (mapped_into (λ (g : ℕ × ℕ). g.1) (of_role role) g.0 g.1) in
         subst (λ q. IsTrue (granted_in value q.0 q.1 role)) g.2
         (sym (granted_is (permission_of n) role (small_object n)) ∙ ap (λ m. is_among number_cmp (items_in
-        grants.by_second.items) (role, m)) (packed_again n) ∙ among),
+        grants.by_second.items) (role, m)) (number_again n) ∙ among),
     λ h.
         let small : p.1 < 4294967296 = small_of p role h in
-        let m = mapped_from (λ (g : ℕ × ℕ). g.1) (of_role role) (packed p)
-        ((of_role_among role (packed p)).1 (granted_is p role small ∙ h)) in
+        let m = mapped_from (λ (g : ℕ × ℕ). g.1) (of_role role) (permission_number p)
+        ((of_role_among role (permission_number p)).1 (granted_is p role small ∙ h)) in
         subst (Contains (map (λ g. permission_of g.1) (of_role role)))
         (ap permission_of m.2 ∙ permission_again p small)
         (mapped_into (λ (g : ℕ × ℕ). permission_of g.1) (of_role role) m.0 m.1),

@@ -1,3 +1,3 @@
 pub mod Limits
-pub mod Packed
+pub mod PermissionNumbers
 pub mod Relations

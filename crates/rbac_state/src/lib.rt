@@ -6,12 +6,12 @@ pub mod laws;
 mod limits;
 mod listing;
 mod numbered;
-mod packed;
+mod permission_number;
 mod policy;
 mod relation;
 mod select;
 mod shown;
 
 pub use laws::law_one_more;
-pub use packed::Permission;
+pub use permission_number::Permission;
 pub use policy::Policy;

@@ -1,10 +1,10 @@
 //! What a number of a pair stands for.
 
 ghost use Rattle.std.specs.Prelude.{◌≡◌, ℕ, ◌<◌};
-ghost use Rattle.rbac_state.specs.inside.Packed.{permission_of};
+ghost use Rattle.rbac_state.specs.inside.PermissionNumbers.{permission_of};
 ghost use Rattle.rbac_state.specs.inside.Limits.{most_firsts};
 
-use crate::packed::{Packed, Permission};
+use crate::permission_number::{Permission, PermissionNumber};
 
 /// What numbers below a limit stand for.
 pub trait Numbered: Copy + Drop {
@@ -54,6 +54,6 @@ impl Numbered for Permission {
     ghost of = { permission_of };
 
     fn of_number(number: u64) -> Permission {
-        Packed::new(number).unpack()
+        PermissionNumber::new(number).permission()
     }
 }

@@ -8,7 +8,7 @@ ghost use Rattle.rbac_state.specs.Listings.{IsListing};
 
 use crate::limits::LEAST_ROOM;
 use crate::listing::ascending;
-use crate::packed::{Permission, ascending_permissions, pack};
+use crate::permission_number::{Permission, ascending_permissions, number_of};
 use crate::relation::{Grants, Relation, Users};
 use crate::select;
 use quorum_sizes::NodeName;
@@ -36,7 +36,7 @@ impl Model for Policy {
     ghost coded = { policy_code };
 
     ghost use Rattle.sorted_pairs.specs.Blocks.{items_in};
-    ghost use Rattle.rbac_state.specs.inside.Packed.{grant_of};
+    ghost use Rattle.rbac_state.specs.inside.PermissionNumbers.{grant_of};
     ghost use Rattle.rbac_state.specs.inside.Relations.{AreKept, room_of};
 
     ghost view = { λ a. record {
@@ -104,12 +104,12 @@ impl Policy {
                 role,
                 operation,
                 object,
-            } => self.granted.put(pack((operation, object)), role),
+            } => self.granted.put(number_of((operation, object)), role),
             Command::Revoke {
                 role,
                 operation,
                 object,
-            } => self.granted.take_away(pack((operation, object)), role),
+            } => self.granted.take_away(number_of((operation, object)), role),
             Command::Clear { role } => {
                 self.assigned.take_away_second(role);
                 self.granted.take_away_second(role);
@@ -135,7 +135,7 @@ impl Policy {
     pub fn is_granted(&self, role: u16, operation: u16, object: u32) -> bool
         ensures { result ≡ granted_in self.now operation object role }
     {
-        self.granted.has(pack((operation, object)), role)
+        self.granted.has(number_of((operation, object)), role)
     }
 
     /// The first of these roles that the user has and that may do the operation on the object.
@@ -154,7 +154,7 @@ impl Policy {
             &self.granted,
             user as u64,
             roles,
-            pack((operation, object)),
+            number_of((operation, object)),
         )
     }
 

@@ -9,7 +9,7 @@ ghost use Rattle.sorted_pairs.specs.KeyRanges.{IsKeyRange};
 
 use crate::limits::{PERMISSIONS, ROLES, USERS};
 use crate::numbered::Numbered;
-use crate::packed::Permission;
+use crate::permission_number::Permission;
 use crate::shown::ShownBlocks;
 use sorted_pairs::key_range::{self, KeyRange};
 use sorted_pairs::{Pair, blocks};

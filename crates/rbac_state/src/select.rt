@@ -5,14 +5,14 @@ ghost use Rattle.std.specs.Ordering.{eq_by_cmp, nat_cmp};
 ghost use Rattle.std.specs.List.{AllByRecursion, flat_map};
 ghost use Rattle.std.specs.List.Sorted.{IsStrictlySortedBy};
 ghost use Rattle.sorted_pairs.specs.Blocks.{items_in};
-ghost use Rattle.rbac_state.specs.inside.Packed.{permission_of};
+ghost use Rattle.rbac_state.specs.inside.PermissionNumbers.{permission_of};
 ghost use Rattle.sorted_pairs.specs.Pairs.{number_cmp};
 ghost use Rattle.rbac_state.specs.inside.Limits.{most_firsts};
 ghost use Rattle.rbac_state.specs.inside.Relations.{IsKeptBothWays, relates, CanBeAsked, is_granting};
 
 use crate::limits::PERMISSIONS;
 use crate::numbered::Numbered;
-use crate::packed::Permission;
+use crate::permission_number::Permission;
 use crate::relation::{Grants, Users};
 use sorted_pairs::key_range::blocks_of;
 use sorted_pairs::{Pair, beginning_with};

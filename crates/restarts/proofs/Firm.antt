@@ -37,7 +37,7 @@ pub record IsFirm (config : ConfigValue) (liars : Nodes) (m : Moment) : Type 0 w
   pub links : (t node : ℕ) (p : PacketValue) → slice_get m.run t ≡ Some (node, Take p) → IsCorrect config liars p.from →
       IsSaid config.roles.sizes m node p (take t m.run)
 
--- a front of a legal history is legal
+-- a prefix of a legal history is legal
 legal_front : (config : ConfigValue) (me : ℕ) (front rest : List Event) → IsLegal config me (front ++ rest) →
     IsLegal config me front
 legal_front config me front rest legal j event there =

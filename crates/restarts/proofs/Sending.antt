@@ -1,4 +1,4 @@
--- What a node has sent, by its history alone: what a front of a history sends, the history does.
+-- What a node has sent, by its history alone: what a prefix of a history sends, the history does.
 use Rattle.std.proofs.Common.{◌≡◌, ℕ, ◌≤◌, Bool, true, false, List, [], ◌∷◌, ◌++◌, take, drop}
 use Rattle.std.proofs.Common.{refl, sym, ap, ◌∙◌, subst}
 use Rattle.std.specs.Prelude.{IsTrue}

@@ -31,7 +31,7 @@ RunsAreLives =
     (config : ConfigValue) (liars : Nodes) (run : Run) → IsClusterRun config liars run →
     StandsAfter config liars run (synced_at_once run)
 
--- the front of a node's history that is synced
+-- the prefix of a node's history that is synced
 abbrev pub synced_of : Moment → ℕ → List Event
 synced_of m node = take (m.synced node) (history_of node m.run)
 
@@ -39,7 +39,7 @@ synced_of m node = take (m.synced node) (history_of node m.run)
 abbrev pub IsFrontOf : List Event → List Event → Type 0
 IsFrontOf front history = (rest : List Event) × (front ++ rest ≡ history)
 
--- What is synced at a moment is a front of the node's history at each later one.
+-- What is synced at a moment is a prefix of the node's history at each later one.
 abbrev pub NothingIsTakenBack : Type 0
 NothingIsTakenBack =
     (config : ConfigValue) (liars : Nodes) (acts : List Act) (k later node : ℕ) → IsLife config liars acts → k ≤ later →

@@ -17,7 +17,7 @@ pub fn runs_are_lives()
     ensures { RunsAreLives }
 {}
 
-/// What a node had synced at some moment is a front of its history at each later one.
+/// What a node had synced at some moment is a prefix of its history at each later one.
 pub fn law_nothing_is_taken_back()
     ensures { NothingIsTakenBack }
 {}

@@ -88,7 +88,7 @@ impl Ran {
         self.ended.is_ok() && self.written.as_slice() == DUE
     }
 
-    /// Whether a device has failed, and a front of the text is written.
+    /// Whether a device has failed, and a prefix of the text is written.
     fn is_cut(&self) -> bool {
         matches!(&self.ended, Err(PipeFault::Device)) && DUE.starts_with(&self.written)
     }

@@ -153,7 +153,7 @@ fn bad_scripts(rt: HostRuntime) {
 }
 
 /// Whether the script of four correct nodes ends well, into room that was made before. Else memory was wanting, and
-/// what was written is a front of what is due.
+/// what was written is a prefix of what is due.
 fn ends_well(rt: &impl Abort, alloc: Global) -> Result<bool, Fail> {
     let (script, due) = FOUR;
     let mut written = match Vec::with_capacity(alloc, due.len()) {
@@ -166,7 +166,7 @@ fn ends_well(rt: &impl Abort, alloc: Global) -> Result<bool, Fail> {
         &mut Watched::new(&mut written),
     );
     let came = text_of(&written);
-    assert!(rt; due.starts_with(came), "due a front of\n{due}came\n{came}");
+    assert!(rt; due.starts_with(came), "due a prefix of\n{due}came\n{came}");
     match result {
         Ok(()) => Ok(came == due),
         Err(ScriptFault::Memory) => Ok(false),

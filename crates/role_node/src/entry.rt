@@ -5,8 +5,8 @@ ghost use Rattle.link_frames.specs.frames.Packets.{IsSound};
 ghost use Rattle.owner_streams.specs.Places.{window};
 ghost use Rattle.role_sessions.specs.declared.event.ClientEvent.{ClientEvent};
 ghost use Rattle.role_node.specs.Answers.{counted_reply};
-ghost use Rattle.role_node.specs.inside.Entries.{IsOwn, kept_with, packet_in, packet_with, reply_with};
-ghost use Rattle.role_node.specs.inside.Entries.{said_in, said_of, said_kind};
+ghost use Rattle.role_node.specs.inside.Entries.{IsOwn, packed_with, packet_in, packet_with, reply_with};
+ghost use Rattle.role_node.specs.inside.Entries.{sent_in, sent_message, sent_kind};
 ghost use Rattle.role_node.specs.declared.event.Event.{Event};
 ghost use Rattle.role_node.specs.declared.event.Event.TheVariants.{Client};
 ghost use Rattle.role_node.specs.declared.event.Reply.{Reply};
@@ -28,13 +28,13 @@ struct Head {
     owner: NodeName,
     kind: Kind,
     grown: u8,
-    send: Said,
+    send: SentKind,
     delivered: bool,
 }
 
 /// The kind of what was sent, if anything: an `Option<Kind>` in one byte.
 #[derive(Clone, Copy)]
-enum Said {
+enum SentKind {
     Nothing,
     Send,
     Echo,
@@ -56,7 +56,7 @@ type Object = u32;
 ///
 /// A packet's command stands in it by its parts, so that an entry has 24 bytes and not 32.
 #[derive(Clone, Copy)]
-enum Kept {
+enum PackedEntry {
     /// A packet of this command, and what it caused.
     Assign(Head, Place, Reach, Role, User),
     Deassign(Head, Place, Reach, Role, User),
@@ -78,26 +78,26 @@ enum Kept {
 /// Contracts see both. A history has millions of these, so each keeps of the reply only what the event doesn't tell.
 #[derive(Clone, Copy)]
 pub struct Entry {
-    kept: Kept,
+    packed: PackedEntry,
 }
 
 const _: () = prove!(size_of::<Entry>() == 24);
 
 impl Model for Entry {
     ghost use Rattle.role_node.specs.Answers.{EntryValue};
-    ghost use Rattle.role_node.specs.inside.Entries.{entry_code, kept_value, IsKept, kept_of, kept_of-value};
+    ghost use Rattle.role_node.specs.inside.Entries.{entry_code, packed_value, IsPacked, packed_of, packed_of-value};
 
     ghost Value = { EntryValue };
 
     ghost coded = { entry_code };
 
-    ghost view = { λ a. kept_value a.kept };
+    ghost view = { λ a. packed_value a.packed };
 
-    ghost invariant = { λ a. IsKept a.kept };
+    ghost invariant = { λ a. IsPacked a.packed };
 
-    ghost inverse = { λ e. record { kept = kept_of e.event e.reply } };
+    ghost inverse = { λ e. record { packed = packed_of e.event e.reply } };
 
-    ghost inverse_ok = { λ a h i. record { kept = kept_of-value a.kept i } };
+    ghost inverse_ok = { λ a h i. record { packed = packed_of-value a.packed i } };
 }
 
 impl Entry {
@@ -106,7 +106,7 @@ impl Entry {
         ensures { result ≡ record { event = Event.Issue send.command; reply = Reply.Issued send } }
     {
         Entry {
-            kept: Kept::Issued(send),
+            packed: PackedEntry::Issued(send),
         }
     }
 
@@ -125,11 +125,11 @@ impl Entry {
             owner: message.owner,
             kind: message.kind,
             grown: (step.to - step.from) as u8,
-            send: Said::new(&step.broadcast),
+            send: SentKind::new(&step.broadcast),
             delivered: step.delivered.is_some(),
         };
         Entry {
-            kept: head.with(message.place, step.from, message.command),
+            packed: head.with(message.place, step.from, message.command),
         }
     }
 
@@ -138,7 +138,7 @@ impl Entry {
         ensures { result ≡ record { event = Client (ClientEvent.Open user); reply = Reply.Session session } }
     {
         Entry {
-            kept: Kept::Opened { user, session },
+            packed: PackedEntry::Opened { user, session },
         }
     }
 
@@ -147,7 +147,7 @@ impl Entry {
         ensures { result ≡ record { event = Client (ClientEvent.Activate session user role); reply = Reply.Done } }
     {
         Entry {
-            kept: Kept::Activated {
+            packed: PackedEntry::Activated {
                 role,
                 user,
                 session,
@@ -160,7 +160,7 @@ impl Entry {
         ensures { result ≡ record { event = Client (ClientEvent.DropRole session user role); reply = Reply.Done } }
     {
         Entry {
-            kept: Kept::Dropped {
+            packed: PackedEntry::Dropped {
                 role,
                 user,
                 session,
@@ -173,7 +173,7 @@ impl Entry {
         ensures { result ≡ record { event = Client (ClientEvent.Close session user); reply = Reply.Done } }
     {
         Entry {
-            kept: Kept::Closed { user, session },
+            packed: PackedEntry::Closed { user, session },
         }
     }
 
@@ -181,13 +181,13 @@ impl Entry {
     pub fn event(&self) -> Event
         ensures { result ≡ self.now.event }
     {
-        if let Some((head, place, _, command)) = self.kept.packet() {
+        if let Some((head, place, _, command)) = self.packed.packet() {
             return head.event(place, command);
         }
-        match self.kept {
-            Kept::Issued(send) => Event::Issue(send.command),
-            Kept::Opened { user, .. } => Event::Client(ClientEvent::Open { user }),
-            Kept::Activated {
+        match self.packed {
+            PackedEntry::Issued(send) => Event::Issue(send.command),
+            PackedEntry::Opened { user, .. } => Event::Client(ClientEvent::Open { user }),
+            PackedEntry::Activated {
                 role,
                 user,
                 session,
@@ -196,7 +196,7 @@ impl Entry {
                 user,
                 role,
             }),
-            Kept::Dropped {
+            PackedEntry::Dropped {
                 role,
                 user,
                 session,
@@ -205,7 +205,10 @@ impl Entry {
                 user,
                 role,
             }),
-            Kept::Closed { user, session } => Event::Client(ClientEvent::Close { session, user }),
+            PackedEntry::Closed { user, session } => Event::Client(ClientEvent::Close {
+                session,
+                user,
+            }),
             _ => unreachable!(),
         }
     }
@@ -215,31 +218,31 @@ impl Entry {
     pub fn reply(&self) -> Reply
         ensures { result ≡ self.now.reply }
     {
-        if let Some((head, place, reach, command)) = self.kept.packet() {
+        if let Some((head, place, reach, command)) = self.packed.packet() {
             return head.reply(place, reach, command);
         }
-        match self.kept {
-            Kept::Issued(send) => Reply::Issued(send),
-            Kept::Opened { session, .. } => Reply::Session(session),
+        match self.packed {
+            PackedEntry::Issued(send) => Reply::Issued(send),
+            PackedEntry::Opened { session, .. } => Reply::Session(session),
             _ => Reply::Done,
         }
     }
 }
 
-impl Kept {
+impl PackedEntry {
     /// What is kept of a packet: its head, its place, the first place that was new, and its command.
     #[inline(always)]
     fn packet(self) -> Option<(Head, Place, Reach, Command)>
         ensures { result ≡ packet_in self }
     {
         let (head, place, reach, command) = match self {
-            Kept::Assign(head, place, reach, role, user) => {
+            PackedEntry::Assign(head, place, reach, role, user) => {
                 (head, place, reach, Command::Assign { user, role })
             }
-            Kept::Deassign(head, place, reach, role, user) => {
+            PackedEntry::Deassign(head, place, reach, role, user) => {
                 (head, place, reach, Command::Deassign { user, role })
             }
-            Kept::Grant(head, place, reach, role, operation, object) => {
+            PackedEntry::Grant(head, place, reach, role, operation, object) => {
                 let command = Command::Grant {
                     role,
                     operation,
@@ -247,7 +250,7 @@ impl Kept {
                 };
                 (head, place, reach, command)
             }
-            Kept::Revoke(head, place, reach, role, operation, object) => {
+            PackedEntry::Revoke(head, place, reach, role, operation, object) => {
                 let command = Command::Revoke {
                     role,
                     operation,
@@ -255,7 +258,12 @@ impl Kept {
                 };
                 (head, place, reach, command)
             }
-            Kept::Clear(head, place, reach, role) => (head, place, reach, Command::Clear { role }),
+            PackedEntry::Clear(head, place, reach, role) => (
+                head,
+                place,
+                reach,
+                Command::Clear { role },
+            ),
             _ => return None,
         };
         Some((head, place, reach, command))
@@ -265,23 +273,25 @@ impl Kept {
 impl Head {
     /// What is kept of a packet at this place, of this command, with the first place that was new.
     #[inline(always)]
-    fn with(self, place: Place, reach: Reach, command: Command) -> Kept
-        ensures { result ≡ kept_with self place reach command }
+    fn with(self, place: Place, reach: Reach, command: Command) -> PackedEntry
+        ensures { result ≡ packed_with self place reach command }
     {
         match command {
-            Command::Assign { user, role } => Kept::Assign(self, place, reach, role, user),
-            Command::Deassign { user, role } => Kept::Deassign(self, place, reach, role, user),
+            Command::Assign { user, role } => PackedEntry::Assign(self, place, reach, role, user),
+            Command::Deassign { user, role } => PackedEntry::Deassign(
+                self, place, reach, role, user,
+            ),
             Command::Grant {
                 role,
                 operation,
                 object,
-            } => Kept::Grant(self, place, reach, role, operation, object),
+            } => PackedEntry::Grant(self, place, reach, role, operation, object),
             Command::Revoke {
                 role,
                 operation,
                 object,
-            } => Kept::Revoke(self, place, reach, role, operation, object),
-            Command::Clear { role } => Kept::Clear(self, place, reach, role),
+            } => PackedEntry::Revoke(self, place, reach, role, operation, object),
+            Command::Clear { role } => PackedEntry::Clear(self, place, reach, role),
         }
     }
 
@@ -314,30 +324,30 @@ impl Head {
     }
 }
 
-impl Said {
+impl SentKind {
     /// What is kept of a broadcast.
     #[inline(always)]
     fn new(broadcast: &Option<(Kind, Command)>) -> Self
-        ensures { result ≡ said_in broadcast.now }
+        ensures { result ≡ sent_in broadcast.now }
     {
         match broadcast {
-            Some((Kind::Send, _)) => Said::Send,
-            Some((Kind::Echo, _)) => Said::Echo,
-            Some((Kind::Ready, _)) => Said::Ready,
-            None => Said::Nothing,
+            Some((Kind::Send, _)) => SentKind::Send,
+            Some((Kind::Echo, _)) => SentKind::Echo,
+            Some((Kind::Ready, _)) => SentKind::Ready,
+            None => SentKind::Nothing,
         }
     }
 
     /// The message of this kind, if any.
     #[inline(always)]
     fn message(self, owner: NodeName, place: Place, command: Command) -> Option<Message>
-        ensures { result ≡ option_map (said_of owner place command) (said_kind self) }
+        ensures { result ≡ option_map (sent_message owner place command) (sent_kind self) }
     {
         let kind = match self {
-            Said::Nothing => return None,
-            Said::Send => Kind::Send,
-            Said::Echo => Kind::Echo,
-            Said::Ready => Kind::Ready,
+            SentKind::Nothing => return None,
+            SentKind::Send => Kind::Send,
+            SentKind::Echo => Kind::Echo,
+            SentKind::Ready => Kind::Ready,
         };
         Some(Message {
             kind,

@@ -2,7 +2,7 @@
 use Rattle.std.specs.Prelude.{◌≡◌, ℕ, ◌<◌, ◌≤◌, ◌-◌, ◌==◌, nat_le, nat_lt, Bool, false, ◌&&◌}
 use Rattle.std.specs.Prelude.{List, length, slice_index_or, slice_set, position, Option, Some, None, is_some, option_map}
 use Rattle.frame_queues.specs.declared.keys.PeerName.{PeerName}
-use Rattle.frame_queues.specs.declared.places.Connected.{Connected}
+use Rattle.frame_queues.specs.declared.slots.Connected.{Connected}
 use Rattle.operator_lines.specs.declared.answer.PeerStanding.{PeerStanding}
 use Rattle.served_node.specs.Counts.{grown}
 use Rattle.served_node.specs.declared.heard.PeerHeard.{PeerHeard}
@@ -43,11 +43,11 @@ abbrev pub is_of_index : ℕ → Option Connected → Bool
 is_of_index index None = false
 is_of_index index (Some c) = has_index index c.name
 
--- each peer stands where a connection at these places is its own; all else stays
-pub record StandsAt (places : List (Option Connected)) (old new : List PeerHeard) : Type 0 where
+-- each peer stands where a connection in these slots is its own; all else stays
+pub record StandsAt (slots : List (Option Connected)) (old new : List PeerHeard) : Type 0 where
   pub count : length new ≡ length old
   pub each : (index : ℕ) → index < length old →
-      peer_at new index ≡ record (peer_at old index) { stands = is_some (position (is_of_index index) places) }
+      peer_at new index ≡ record (peer_at old index) { stands = is_some (position (is_of_index index) slots) }
 
 -- a peer is heard where a connection of it stands, and a frame of it has opened in the last two and a half minutes
 abbrev pub is_heard : PeerHeard → ℕ → Bool

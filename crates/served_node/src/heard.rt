@@ -119,13 +119,13 @@ impl Heard {
     }
 
     /// These connections stand now.
-    pub fn note_places(&mut self, places: &[Option<Connected>])
-        ensures peers { StandsAt places.now self.old.peers self.new.peers }
+    pub fn note_slots(&mut self, slots: &[Option<Connected>])
+        ensures peers { StandsAt slots.now self.old.peers self.new.peers }
         ensures unopened { self.new.unopened ≡ self.old.unopened }
     {
         for index in 0..self.peers.len() {
             let mut peer = self.peers[index];
-            peer.stands = first_of(places, index).is_some();
+            peer.stands = first_of(slots, index).is_some();
             self.peers[index] = peer;
         }
     }
@@ -150,17 +150,17 @@ impl Heard {
     }
 }
 
-/// The first place of a connection on which a frame of the peer of this index has opened.
-fn first_of(places: &[Option<Connected>], index: usize) -> Option<usize>
-    ensures { result ≡ position (heard.is_of_index index) places.now }
+/// The first slot of a connection on which a frame of the peer of this index has opened.
+fn first_of(slots: &[Option<Connected>], index: usize) -> Option<usize>
+    ensures { result ≡ position (heard.is_of_index index) slots.now }
 {
-    places.iter().position(|place| is_of_index(place, index))
+    slots.iter().position(|slot| is_of_index(slot, index))
 }
 
-fn is_of_index(place: &Option<Connected>, index: usize) -> bool
-    ensures { result ≡ heard.is_of_index index place.now }
+fn is_of_index(slot: &Option<Connected>, index: usize) -> bool
+    ensures { result ≡ heard.is_of_index index slot.now }
 {
-    match place {
+    match slot {
         Some(
             Connected {
                 name: Some(name),

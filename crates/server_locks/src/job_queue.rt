@@ -26,7 +26,7 @@ pub struct JobQueue<'a> {
 }
 
 impl<'a> JobQueue<'a> {
-    /// Puts a job into the inbox. The workers hear of it by `ring`.
+    /// Puts a job into the inbox. The workers hear of it by `wake`.
     ///
     /// # Errors
     ///
@@ -38,15 +38,15 @@ impl<'a> JobQueue<'a> {
         self.inbox.put(rt, &mut self.pass, job)
     }
 
-    /// Puts a job into the inbox. Where that has no room `ring` tells those who do the jobs of it, and this thread
-    /// tries again, as long as `ring` says that they do any. Whether it is put.
+    /// Puts a job into the inbox. Where that has no room `wake` tells those who do the jobs of it, and this thread
+    /// tries again, as long as `wake` says that they do any. Whether it is put.
     pub fn put_patiently<R: Wait + Clock, F: Fn() -> bool>(
         &mut self,
         rt: &R,
-        ring: &F,
+        wake: &F,
         job: &Job,
     ) -> bool
-        requires ring { F.IsAlwaysCallable ring.now }
+        requires wake { F.IsAlwaysCallable wake.now }
         ensures put { IsTrue result → self.new.pass ≡ after_put self.old.pass job.now }
         ensures same { IsFalse result → self.new.pass ≡ self.old.pass }
     {
@@ -54,7 +54,7 @@ impl<'a> JobQueue<'a> {
             if self.put(rt, *job).is_ok() {
                 return true;
             }
-            if !ring() {
+            if !wake() {
                 return false;
             }
             thread::sleep(rt, Duration::from_millis(NEXT_PUT));
@@ -62,22 +62,22 @@ impl<'a> JobQueue<'a> {
         unreachable!()
     }
 
-    /// Puts a packet that came over the connection of a peer at this place, as [`put_patiently`](Self::put_patiently)
+    /// Puts a packet that came over the connection of a peer in this slot, as [`put_patiently`](Self::put_patiently)
     /// does. Whether it is put.
     pub fn put_packet<R: Wait + Clock, F: Fn() -> bool>(
         &mut self,
         rt: &R,
-        ring: &F,
+        wake: &F,
         slot: u32,
         packet: Packet,
     ) -> bool
-        requires ring { F.IsAlwaysCallable ring.now }
+        requires wake { F.IsAlwaysCallable wake.now }
         ensures put { IsTrue result → self.new.pass ≡ after_put self.old.pass (peer_job slot packet) }
         ensures same { IsFalse result → self.new.pass ≡ self.old.pass }
     {
         let number = Caller::Peer { slot }.number();
         let call = Call::Step(Event::Take(packet));
-        self.put_patiently(rt, ring, &Job { number, call })
+        self.put_patiently(rt, wake, &Job { number, call })
     }
 
     /// Puts messages that the node sends to itself, each as a job of this number, as
@@ -85,12 +85,12 @@ impl<'a> JobQueue<'a> {
     pub fn put_own<R: Wait + Clock, F: Fn() -> bool>(
         &mut self,
         rt: &R,
-        ring: &F,
+        wake: &F,
         number: u32,
         me: NodeName,
         messages: &[Message],
     ) -> Option<u32>
-        requires ring { F.IsAlwaysCallable ring.now }
+        requires wake { F.IsAlwaysCallable wake.now }
         ensures put { OnSome result
             (self.new.pass.put ≡ self.old.pass.put ++ own_jobs number me messages.now) }
         ensures count { IfSome result
@@ -100,7 +100,7 @@ impl<'a> JobQueue<'a> {
         for message in messages {
             if let Some(packet) = Packet::new(me, me, *message) {
                 let call = Call::Step(Event::Take(packet));
-                if !self.put_patiently(rt, ring, &Job { number, call }) {
+                if !self.put_patiently(rt, wake, &Job { number, call }) {
                     return None;
                 }
                 count = count.saturating_add(1);

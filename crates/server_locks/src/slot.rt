@@ -1,4 +1,4 @@
-//! Places for the clients' connections that are open at once.
+//! Slots for the clients' connections that are open at once.
 
 ghost use Rattle.std.specs.Prelude.{◌≡◌, ◌+◌, ◌-◌, ◌^◌, min, nat_le, slice_set, option_and_then, true, false, Some};
 ghost use Rattle.served_node.specs.Served.{served_said};
@@ -11,7 +11,7 @@ use std::sync::{Arc, Condvar, Mutex, MutexGuard, Wait};
 
 /// What a connection has, and what was done for it.
 #[derive(Drop)]
-pub struct Place<'a> {
+pub struct SlotState<'a> {
     stream: Option<Arc<TcpStream>>,
     /// Absent while a thread serves the connection.
     queue: Option<JobQueue<'a>>,
@@ -23,7 +23,7 @@ pub struct Place<'a> {
     ended: bool,
 }
 
-impl Place<'_> {
+impl SlotState<'_> {
     /// A job is done, and this was said to the line of this number. Whether all are done that are waited for.
     fn tell(&mut self, line: u32, said: Option<Said>) -> bool
         ensures told { self.new.told ≡ slice_set self.old.told line (option_and_then served_said said) }
@@ -36,8 +36,8 @@ impl Place<'_> {
     }
 }
 
-impl<'a> Place<'a> {
-    /// The place is free once more, if so many jobs are done, all that were put: else one could meet the next
+impl<'a> SlotState<'a> {
+    /// The slot is free once more, if so many jobs are done, all that were put: else one could meet the next
     /// connection.
     fn give_back(&mut self, queue: JobQueue<'a>, put: u32)
         ensures back { nat_le put self.old.done ≡ true → self.new.queue ≡ Some queue.entry }
@@ -50,23 +50,23 @@ impl<'a> Place<'a> {
     }
 }
 
-/// A place for one client's connection at a time.
+/// A slot for one client's connection at a time.
 #[derive(Drop)]
 pub struct Slot<'a> {
-    place: Mutex<Place<'a>>,
+    state: Mutex<SlotState<'a>>,
     /// The thread of the connection waits here.
     done: Condvar,
 }
 
 impl<'a> Slot<'a> {
-    /// A free place.
+    /// A free slot.
     ///
     /// # Errors
     ///
     /// Only for want of memory.
     pub fn new(alloc: Global, queue: JobQueue<'a>) -> Result<Slot<'a>, AllocError> {
         Ok(Slot {
-            place: Mutex::new(Place {
+            state: Mutex::new(SlotState {
                 stream: None,
                 queue: Some(queue),
                 done: 0,
@@ -80,83 +80,83 @@ impl<'a> Slot<'a> {
 
     /// Whether there is no connection.
     pub fn is_free<R: Wait>(&self, rt: &R) -> bool {
-        let place = self.place.lock(rt);
-        place.stream.is_none() && place.queue.is_some()
+        let state = self.state.lock(rt);
+        state.stream.is_none() && state.queue.is_some()
     }
 
-    /// Gives a connection to the place, which is free. False at the node's end, and for want of memory.
+    /// Gives a connection to the slot, which is free. False at the node's end, and for want of memory.
     pub fn give<R: Wait>(&self, rt: &R, stream: &Arc<TcpStream>) -> bool {
         let Ok(other) = Arc::try_clone(stream) else {
             return false;
         };
-        let mut place = self.place.lock(rt);
-        if place.ended {
+        let mut state = self.state.lock(rt);
+        if state.ended {
             return false;
         }
-        place.stream = Some(other);
+        state.stream = Some(other);
         true
     }
 
     /// The way into the inbox, for the thread that serves the connection.
     pub fn begin<R: Wait>(&self, rt: &R) -> Option<JobQueue<'a>> {
-        self.place.lock(rt).queue.take()
+        self.state.lock(rt).queue.take()
     }
 
-    /// The place is free again, for want of a thread.
+    /// The slot is free again, for want of a thread.
     pub fn refuse<R: Wait>(&self, rt: &R) {
-        self.place.lock(rt).stream = None;
+        self.state.lock(rt).stream = None;
     }
 
-    /// The place is free again once all jobs that were put are done, so that none of them meets the next connection.
+    /// The slot is free again once all jobs that were put are done, so that none of them meets the next connection.
     pub fn free<R: Wait>(&self, rt: &R, queue: JobQueue<'a>, put: u32) {
-        self.place.lock(rt).stream = None;
-        if let Some(mut place) = self.wait_for(rt, put) {
-            place.give_back(queue, put);
+        self.state.lock(rt).stream = None;
+        if let Some(mut state) = self.wait_for(rt, put) {
+            state.give_back(queue, put);
         }
     }
 
     /// Whether so many jobs are done.
     pub fn has_done<R: Wait>(&self, rt: &R, put: u32) -> bool {
-        self.place.lock(rt).done >= put
+        self.state.lock(rt).done >= put
     }
 
-    /// Waits until all jobs that were put are done, so many. The place then, where none is done of those that are put
+    /// Waits until all jobs that were put are done, so many. Its state then, where none is done of those that are put
     /// next; `None` at the end.
-    pub fn wait<R: Wait>(&self, rt: &R, put: u32) -> Option<MutexGuard<'_, Place<'a>>> {
-        let mut place = self.wait_for(rt, put)?;
-        place.done = 0;
-        Some(place)
+    pub fn wait<R: Wait>(&self, rt: &R, put: u32) -> Option<MutexGuard<'_, SlotState<'a>>> {
+        let mut state = self.wait_for(rt, put)?;
+        state.done = 0;
+        Some(state)
     }
 
-    fn wait_for<R: Wait>(&self, rt: &R, put: u32) -> Option<MutexGuard<'_, Place<'a>>> {
-        let mut place = self.place.lock(rt);
-        place.wanted = put;
-        let mut place = self.done.wait_while(
+    fn wait_for<R: Wait>(&self, rt: &R, put: u32) -> Option<MutexGuard<'_, SlotState<'a>>> {
+        let mut state = self.state.lock(rt);
+        state.wanted = put;
+        let mut state = self.done.wait_while(
             rt,
-            place,
-            |place| !place.ended && place.done < place.wanted,
+            state,
+            |state| !state.ended && state.done < state.wanted,
         );
-        if place.ended {
+        if state.ended {
             return None;
         }
-        place.wanted = u32::MAX;
-        Some(place)
+        state.wanted = u32::MAX;
+        Some(state)
     }
 
     /// A job is done, and this was said to the line of this number.
     pub fn tell<R: Wait>(&self, rt: &R, line: u32, said: Option<Said>) {
-        let mut place = self.place.lock(rt);
-        if place.tell(line, said) {
+        let mut state = self.state.lock(rt);
+        if state.tell(line, said) {
             self.done.notify_one();
         }
     }
 
     /// Shuts the connection down, and takes no other.
     pub fn end<R: Wait>(&self, rt: &R) {
-        let mut place = self.place.lock(rt);
-        place.ended = true;
+        let mut state = self.state.lock(rt);
+        state.ended = true;
         self.done.notify_all();
-        if let Some(stream) = &place.stream {
+        if let Some(stream) = &state.stream {
             let _ = stream.shutdown(Shutdown::Both);
         }
     }

@@ -13,10 +13,10 @@ use Rattle.lab_scripts.specs.Labs as labs
 use Rattle.lab_scripts.specs.Orders.{questions_at}
 use Rattle.lab_scripts.specs.Reads.{by_its_name}
 use Rattle.lab_scripts.specs.declared.given.Given.{Given}
-use Rattle.lab_scripts.specs.declared.grammar.Said.{Said}
+use Rattle.lab_scripts.specs.declared.grammar.LineMessage.{LineMessage}
 use Rattle.lab_scripts.specs.declared.lab.Lab.{Lab}
-use Rattle.lab_scripts.specs.declared.orders.Order.{Order}
-use Rattle.lab_scripts.specs.declared.orders.Order.TheVariants.{Do, Flush, Settle, Rest, Ask, Reach, Agree}
+use Rattle.lab_scripts.specs.declared.orders.ScriptLine.{ScriptLine}
+use Rattle.lab_scripts.specs.declared.orders.ScriptLine.TheVariants.{Do, Flush, Settle, Rest, Ask, Reach, Agree}
 
 abbrev pub given_in : Given → (ℕ → Bool)
 given_in given = labs.with_all_below (flagged given.flags.items) given.least
@@ -34,7 +34,7 @@ packet_given (Bytes to bytes) = None
 packet_given (Client node act) = None
 
 -- the owner whose reach is asked for is a node of these sizes
-abbrev pub IsWithinSizes : Counts → Order → Type 0
+abbrev pub IsWithinSizes : Counts → ScriptLine → Type 0
 IsWithinSizes s (Do step) = ⊤
 IsWithinSizes s Flush = ⊤
 IsWithinSizes s Settle = ⊤
@@ -48,11 +48,11 @@ abbrev pub NamesBytes : List ℕ → Type 0
 NamesBytes line = (text : List ℕ) × (split_word line ≡ Some (codes "bytes", text))
 
 -- what is asked at a node, by the name of the line
-unfoldable pub question_at_node : Counts → List ℕ → ℕ → List ℕ → Option Order
+unfoldable pub question_at_node : Counts → List ℕ → ℕ → List ℕ → Option ScriptLine
 question_at_node s name node text = by_its_name (questions_at s node) name text
 
 -- the message that was said
-abbrev pub take_said : Said → Take
+abbrev pub take_said : LineMessage → Take
 take_said said = record { kind = said.kind; from = said.from; command = said.command }
 
 abbrev pub is_want_of_memory : WorldFault → Bool

@@ -70,7 +70,7 @@ Answered old new before after false =
     × (after.held ≡ before.held ++ client_text before.node tail)
 
 -- What running client lines does. At the end the reader has ended or a line stopped the node, and the text that is due
--- is written, and else a front of it.
+-- is written, and else a prefix of it.
 abbrev pub LinesRan : NodeValue → Lines → Lines → Result (Unit {0}) PipeFault → Type 0
 LinesRan node old new (Ok _) =
     (input : List ℕ) × HasBytes old.unread input
@@ -86,7 +86,7 @@ LinesEndless node old new =
     (input : List ℕ) × (left : Option (List ℕ)) × Consumes old.unread left input
     × (2 ^ 64 - 2 ≤ length (lines_of input)) × Appends old.written new.written (client_text node input)
 
--- all that was held was written, or a front of it when the writer failed
+-- all that was held was written, or a prefix of it when the writer failed
 abbrev pub Finished : Option (List ℕ) → Option (List ℕ) → List ℕ → Result (Unit {0}) PipeFault
     → Result (Unit {0}) PipeFault → Type 0 → Type 0
 Finished writer_old writer_new held ending result Failed =

@@ -51,7 +51,7 @@ fn take(node: &mut Node, event: Event) -> Result<ClientAnswer, AllocError>
     ensures after { OnOk result (node.new ≡ answers.after_taken node.old event) }
 {
     let due = due(node, event)?;
-    settle(node, sent_by(&due))?;
+    take_own_packets(node, sent_by(&due))?;
     Ok(replied(node, &due))
 }
 
@@ -69,7 +69,7 @@ fn due(node: &mut Node, event: Event) -> Result<Result<Reply, NodeFault>, AllocE
 }
 
 /// Has the node take its own packets until none is left: of this message, of the one that it then sends, and so on.
-fn settle(node: &mut Node, send: Option<Message>) -> Result<(), AllocError>
+fn take_own_packets(node: &mut Node, send: Option<Message>) -> Result<(), AllocError>
     ensures { OnOk result (node.new ≡ settled node.old send) }
 {
     let mut waiting = send;

@@ -5,7 +5,7 @@ use Rattle.std.proofs.lemmas.List.{get_or-set_same, get_or-set_other, length-set
 use Rattle.std.proofs.lemmas.Bool.{cases_lt}
 use Rattle.sha2.specs.Sha256.{add32, round_constants, small_sigma0, small_sigma1}
 use Rattle.sha2.proofs.Schedule256.{slice_index-schedule_next}
-use Rattle.link_frames.specs.frames.inside.Schedules.{word, four_words, AreDue}
+use Rattle.link_frames.specs.frames.inside.Schedules.{word, four_words, AreRoundSums}
 use Rattle.link_frames.proofs.frame_lemmas.FourLanes.{same_four}
 
 turned : (w s v z : ℕ) → add32 (add32 (add32 w s) v) z ≡ add32 (add32 (add32 z v) s) w
@@ -62,26 +62,26 @@ followed b t fits x y ex ey =
     ∙ word_from b (t + 16 + 3) _ _ _ _ (omega arith) (omega arith)
     (at _ _ (omega arith)) (at _ _ (omega arith)) (at _ _ (omega arith)) (e1 ∙ at _ _ (omega arith)))
 
--- one word more is due
-due_more : (b due : List ℕ) (t d : ℕ) → t < 64 → AreDue b due t → d ≡ add32 (word b t) (slice_index round_constants t)
-    → AreDue b (slice_set due t d) (t + 1)
-due_more b due t d lt held e = record {
-  size = length-set due t d ∙ held.size;
+-- one sum more stands
+sums_more : (b sums : List ℕ) (t d : ℕ) → t < 64 → AreRoundSums b sums t
+    → d ≡ add32 (word b t) (slice_index round_constants t) → AreRoundSums b (slice_set sums t d) (t + 1)
+sums_more b sums t d lt held e = record {
+  size = length-set sums t d ∙ held.size;
   at = λ k below. elim (cases_lt k t) [
-    | inl before ↦ get_or-set_other due t k d 0 (omega arith) ∙ held.at k before
+    | inl before ↦ get_or-set_other sums t k d 0 (omega arith) ∙ held.at k before
     | inr here ↦
         let same : t ≡ k = omega arith in
-        rw (← same) (get_or-set_same due t d 0 (omega (arith, held.size)) ∙ e)
+        rw (← same) (get_or-set_same sums t d 0 (omega (arith, held.size)) ∙ e)
   ];
 }
 
-pub put_four : (b due : List ℕ) (t d0 d1 d2 d3 : ℕ) → t + 4 ≤ 64 → AreDue b due t
+pub set_four : (b sums : List ℕ) (t d0 d1 d2 d3 : ℕ) → t + 4 ≤ 64 → AreRoundSums b sums t
     → d0 ∷ d1 ∷ d2 ∷ d3 ∷ [] ≡ add32 (word b t) (slice_index round_constants t)
     ∷ add32 (word b (t + 1)) (slice_index round_constants (t + 1))
     ∷ add32 (word b (t + 2)) (slice_index round_constants (t + 2))
     ∷ add32 (word b (t + 3)) (slice_index round_constants (t + 3)) ∷ []
-    → AreDue b (slice_set (slice_set (slice_set (slice_set due t d0) (t + 1) d1) (t + 2) d2) (t + 3) d3) (t + 4)
-put_four b due t d0 d1 d2 d3 fits held same =
+    → AreRoundSums b (slice_set (slice_set (slice_set (slice_set sums t d0) (t + 1) d1) (t + 2) d2) (t + 3) d3) (t + 4)
+set_four b sums t d0 d1 d2 d3 fits held same =
     let e0 : d0 ≡ add32 (word b t) (slice_index round_constants t) = cc in
     let e1 : d1 ≡ add32 (word b (t + 1)) (slice_index round_constants (t + 1)) = cc in
     let e2 : d2 ≡ add32 (word b (t + 2)) (slice_index round_constants (t + 2)) = cc in
@@ -89,7 +89,7 @@ put_four b due t d0 d1 d2 d3 fits held same =
     let n2 : t + 1 + 1 ≡ t + 2 = omega arith in
     let n3 : t + 2 + 1 ≡ t + 3 = omega arith in
     let n4 : t + 3 + 1 ≡ t + 4 = omega arith in
-    let s1 = due_more b due t d0 (omega arith) held e0 in
-    let s2 = subst (AreDue b _) n2 (due_more b _ (t + 1) d1 (omega arith) s1 e1) in
-    let s3 = subst (AreDue b _) n3 (due_more b _ (t + 2) d2 (omega arith) s2 e2) in
-    subst (AreDue b _) n4 (due_more b _ (t + 3) d3 (omega arith) s3 e3)
+    let s1 = sums_more b sums t d0 (omega arith) held e0 in
+    let s2 = subst (AreRoundSums b _) n2 (sums_more b _ (t + 1) d1 (omega arith) s1 e1) in
+    let s3 = subst (AreRoundSums b _) n3 (sums_more b _ (t + 2) d2 (omega arith) s2 e2) in
+    subst (AreRoundSums b _) n4 (sums_more b _ (t + 3) d3 (omega arith) s3 e3)

@@ -77,7 +77,7 @@ module _ {S : Type 0} {next : S → List ℕ → Option (S × List ℕ)} {start 
     wrote = subst (Appends a c) (sym end.goes) (Appends-trans a b c end.sent held end.wrote wrote);
   }
 
-  -- a front of it was
+  -- a prefix of it was
   pub Ended-front : (c : Option (List ℕ)) → AppendsFront b c held
       → WroteFront (λ input. text_by next start (lines_of input)) k a c
   Ended-front c (front, rest, is, wrote) =
@@ -128,7 +128,7 @@ module _ {S : Type 0} {next : S → List ℕ → Option (S × List ℕ)} {start 
       ap (bad_by next number state) is ∙ bad_by-bad next number state line lines bad in
       subst (λ (bad : Option ℕ). Ended next start k a b held bad) first (ended_at tail has silent)
 
-  -- a front of what is held was written, whatever comes behind
+  -- a prefix of what is held was written, whatever comes behind
   pub Ran-front : (c : Option (List ℕ)) → AppendsFront b c held
       → WroteFront (λ input. text_by next start (lines_of input)) k a c
   Ran-front c (front, rest, is, wrote) =

@@ -23,7 +23,7 @@ abbrev pub HasBytes : Option (List ℕ) → List ℕ → Type 0
 HasBytes None input = ⊤
 HasBytes (Some bytes) input = bytes ≡ input
 
--- a front of the text of the input was written
+-- a prefix of the text of the input was written
 abbrev pub WroteFront : (List ℕ → List ℕ) → Option (List ℕ) → Option (List ℕ) → Option (List ℕ) → Type 0
 WroteFront text reader writer_old writer_new =
     (input : List ℕ) × HasBytes reader input × AppendsFront writer_old writer_new (text input)

@@ -30,6 +30,6 @@ lines_at remaining reader ahead written = record {
   written = written;
 }
 
--- a front of the text of the input was written
+-- a prefix of the text of the input was written
 abbrev pub WroteFrontOf : (List ℕ → List ℕ) → Lines → Lines → Type 0
 WroteFrontOf text old new = WroteFront text old.unread old.written new.written

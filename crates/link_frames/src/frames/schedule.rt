@@ -2,7 +2,7 @@
 
 ghost use Rattle.std.specs.Prelude.{◌≡◌, ◌+◌, ◌≤◌, ℕ, List, map};
 ghost use Rattle.sha2.specs.Sha256.{small_sigma0, small_sigma1};
-ghost use Rattle.link_frames.specs.frames.inside.Schedules.{four_words, AreDue};
+ghost use Rattle.link_frames.specs.frames.inside.Schedules.{four_words, AreRoundSums};
 
 use std::simd::u32x4;
 
@@ -112,9 +112,9 @@ pub(crate) fn next_four(w0: u32x4, w4: u32x4, w8: u32x4, w12: u32x4) -> u32x4
 
 /// Four words, with the constants of their rounds added, at the place of round `t`.
 #[inline(always)]
-pub(crate) fn put_due(due: &mut [u32; 64], t: usize, words: u32x4)
+pub(crate) fn set_round_sums(sums: &mut [u32; 64], t: usize, words: u32x4)
     requires { t + 4 ≤ 64 }
-    ensures { (b : List ℕ) → words ≡ four_words b t → AreDue b due.old t → AreDue b due.new (t + 4) }
+    ensures { (b : List ℕ) → words ≡ four_words b t → AreRoundSums b sums.old t → AreRoundSums b sums.new (t + 4) }
 {
     let constants = u32x4::from_array([
         ROUND_CONSTANTS[t],
@@ -123,8 +123,8 @@ pub(crate) fn put_due(due: &mut [u32; 64], t: usize, words: u32x4)
         ROUND_CONSTANTS[t + 3],
     ]);
     let [d0, d1, d2, d3] = (words + constants).to_array();
-    due[t] = d0;
-    due[t + 1] = d1;
-    due[t + 2] = d2;
-    due[t + 3] = d3;
+    sums[t] = d0;
+    sums[t + 1] = d1;
+    sums[t + 2] = d2;
+    sums[t + 3] = d3;
 }

@@ -4,9 +4,9 @@ ghost use Rattle.std.specs.Prelude.{◌≡◌, ◌+◌, ◌<◌, ◌≤◌, ◌�
 ghost use Rattle.std.specs.Int.{rotate_right, w32};
 ghost use Rattle.sha2.specs.Sha256.{add32, add_state, ch, maj};
 ghost use Rattle.sha2.specs.Sha256.{compress, first_words, round, rounds, schedule};
-ghost use Rattle.link_frames.specs.frames.inside.Schedules.{AreDue, four_words};
+ghost use Rattle.link_frames.specs.frames.inside.Schedules.{AreRoundSums, four_words};
 
-use crate::frames::schedule::{next_four, put_due};
+use crate::frames::schedule::{next_four, set_round_sums};
 use std::simd::u32x4;
 
 /// The initial hash value, from which the first block of each message is hashed (FIPS 180-4, 5.3.3).
@@ -61,16 +61,16 @@ fn rotations(word: u32, least: u32, middle: u32, most: u32) -> u32
 }
 
 /// The next `a` and the next `e`, the two words that a round finds (6.2.2, step 3): each other variable takes the value
-/// of the one before it. `due` is the sum of the round's word and its constant.
+/// of the one before it. `sum` is the round's word and its constant, added.
 #[inline(always)]
-fn next_a_and_e(abcd: [u32; 4], efgh: [u32; 4], due: u32) -> (u32, u32)
-    ensures { (k w : ℕ) → due ≡ add32 w k
+fn next_a_and_e(abcd: [u32; 4], efgh: [u32; 4], sum: u32) -> (u32, u32)
+    ensures { (k w : ℕ) → sum ≡ add32 w k
         → round (abcd ++ efgh) k w ≡ (result.0 ∷ take 3 abcd) ++ (result.1 ∷ take 3 efgh) }
 {
     let [a, b, c, d] = abcd;
     let [e, f, g, h] = efgh;
     let for_both = h
-        .wrapping_add(due)
+        .wrapping_add(sum)
         .wrapping_add(choice(e, f, g))
         .wrapping_add(rotations(e, 6, 11, 25));
     let for_a = rotations(a, 2, 13, 22).wrapping_add(majority(a, b, c));
@@ -79,16 +79,16 @@ fn next_a_and_e(abcd: [u32; 4], efgh: [u32; 4], due: u32) -> (u32, u32)
 
 /// The variables after rounds `t` to `t + 3`: by then each is a word that one of these found.
 #[inline(always)]
-fn four_rounds(due: &[u32; 64], v: [u32; 8], t: usize) -> [u32; 8]
+fn four_rounds(sums: &[u32; 64], v: [u32; 8], t: usize) -> [u32; 8]
     requires { t + 4 ≤ 64 }
-    ensures { (b h : List ℕ) → AreDue b due.now (t + 4) → v ≡ rounds h (schedule b 48) t
+    ensures { (b h : List ℕ) → AreRoundSums b sums.now (t + 4) → v ≡ rounds h (schedule b 48) t
         → result ≡ rounds h (schedule b 48) (t + 4) }
 {
     let [a, b, c, d, e, f, g, h] = v;
-    let (a1, e1) = next_a_and_e([a, b, c, d], [e, f, g, h], due[t]);
-    let (a2, e2) = next_a_and_e([a1, a, b, c], [e1, e, f, g], due[t + 1]);
-    let (a3, e3) = next_a_and_e([a2, a1, a, b], [e2, e1, e, f], due[t + 2]);
-    let (a4, e4) = next_a_and_e([a3, a2, a1, a], [e3, e2, e1, e], due[t + 3]);
+    let (a1, e1) = next_a_and_e([a, b, c, d], [e, f, g, h], sums[t]);
+    let (a2, e2) = next_a_and_e([a1, a, b, c], [e1, e, f, g], sums[t + 1]);
+    let (a3, e3) = next_a_and_e([a2, a1, a, b], [e2, e1, e, f], sums[t + 2]);
+    let (a4, e4) = next_a_and_e([a3, a2, a1, a], [e3, e2, e1, e], sums[t + 3]);
     [a4, a3, a2, a1, e4, e3, e2, e1]
 }
 
@@ -128,30 +128,30 @@ pub(crate) fn compress(state: [u32; 8], words: [u32; 16]) -> [u32; 8]
     let mut w4 = four_from(&words, 4);
     let mut w8 = four_from(&words, 8);
     let mut w12 = four_from(&words, 12);
-    let mut due = [0; 64];
-    put_due(&mut due, 0, w0);
-    put_due(&mut due, 4, w4);
-    put_due(&mut due, 8, w8);
-    put_due(&mut due, 12, w12);
+    let mut sums = [0; 64];
+    set_round_sums(&mut sums, 0, w0);
+    set_round_sums(&mut sums, 4, w4);
+    set_round_sums(&mut sums, 8, w8);
+    set_round_sums(&mut sums, 12, w12);
     let mut v = state;
     for turn in 0..3 {
         let t = 16 * turn;
-        let v4 = four_rounds(&due, v, t);
+        let v4 = four_rounds(&sums, v, t);
         w0 = next_four(w0, w4, w8, w12);
-        put_due(&mut due, t + 16, w0);
-        let v8 = four_rounds(&due, v4, t + 4);
+        set_round_sums(&mut sums, t + 16, w0);
+        let v8 = four_rounds(&sums, v4, t + 4);
         w4 = next_four(w4, w8, w12, w0);
-        put_due(&mut due, t + 20, w4);
-        let v12 = four_rounds(&due, v8, t + 8);
+        set_round_sums(&mut sums, t + 20, w4);
+        let v12 = four_rounds(&sums, v8, t + 8);
         w8 = next_four(w8, w12, w0, w4);
-        put_due(&mut due, t + 24, w8);
-        let v16 = four_rounds(&due, v12, t + 12);
+        set_round_sums(&mut sums, t + 24, w8);
+        let v16 = four_rounds(&sums, v12, t + 12);
         w12 = next_four(w12, w0, w4, w8);
-        put_due(&mut due, t + 28, w12);
+        set_round_sums(&mut sums, t + 28, w12);
         v = v16;
     }
-    let v52 = four_rounds(&due, v, 48);
-    let v56 = four_rounds(&due, v52, 52);
-    let v60 = four_rounds(&due, v56, 56);
-    next_hash(state, four_rounds(&due, v60, 60))
+    let v52 = four_rounds(&sums, v, 48);
+    let v56 = four_rounds(&sums, v52, 52);
+    let v60 = four_rounds(&sums, v56, 56);
+    next_hash(state, four_rounds(&sums, v60, 60))
 }

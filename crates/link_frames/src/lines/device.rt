@@ -89,7 +89,7 @@ fn write_patiently<W: Write>(writer: &mut Watched<W>, bytes: &[u8]) -> Result<us
 ///
 /// # Errors
 ///
-/// A write failed and was not interrupted, or took no byte; 1,025 writes in a row were interrupted. A front
+/// A write failed and was not interrupted, or took no byte; 1,025 writes in a row were interrupted. A prefix
 /// of the bytes was written then.
 pub fn write_whole<W: Write>(writer: &mut Watched<W>, bytes: &[u8]) -> Result<(), DeviceFault>
     ensures written { OnOk result

@@ -78,7 +78,7 @@ impl Held {
     ///
     /// # Errors
     ///
-    /// The writer has failed. A front of what is held was written then, and all of it stays held.
+    /// The writer has failed. A prefix of what is held was written then, and all of it stays held.
     pub fn write_when_due<W: Write>(
         &mut self,
         ahead: &Ahead,
@@ -104,7 +104,7 @@ impl Held {
     ///
     /// # Errors
     ///
-    /// The writer has failed. A front of what is held was written then, and all of it stays held.
+    /// The writer has failed. A prefix of what is held was written then, and all of it stays held.
     pub fn write_all<W: Write>(&mut self, writer: &mut Watched<W>) -> Result<(), DeviceFault>
         ensures written { OnOk result (Appends (W.contents (watched_inner writer.old))
             (W.contents (watched_inner writer.new)) self.old) }

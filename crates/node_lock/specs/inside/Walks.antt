@@ -12,7 +12,7 @@ use Rattle.node_lock.specs.Audits.{IsEventOf, recorded_at}
 use Rattle.node_lock.specs.Receipts.{outcome_due, outcome_from, is_recorded_outcome}
 use Rattle.node_lock.specs.declared.audits.AuditFault.{AuditFault}
 use Rattle.node_lock.specs.declared.audits.AuditFault.TheVariants.{Missing, Doubled, Differs, Memory}
-use Rattle.node_lock.specs.declared.audits.Recorded.{Recorded}
+use Rattle.node_lock.specs.declared.audits.EntryParts.{EntryParts}
 use Rattle.node_lock.specs.declared.receipt.Outcome.{Outcome}
 use Rattle.node_lock.specs.declared.receipt.Receipt.{Receipt}
 
@@ -29,12 +29,12 @@ pub record IsRest (receipts : List Receipt) (place : ℕ) (rest : List Receipt) 
   pub among : (r : Receipt) → Contains rest r → Contains receipts r
 
 -- the event of an entry
-abbrev pub event_in : Option Recorded → Option Event
+abbrev pub event_in : Option EntryParts → Option Event
 event_in None = None
 event_in (Some entry) = Some entry.event
 
 -- the entry's reply is due after the node's history, and its event is recorded
-abbrev pub IsNext : NodeValue → Option Recorded → Type 0
+abbrev pub IsNext : NodeValue → Option EntryParts → Type 0
 IsNext node None = ⊤
 IsNext node (Some entry) = (due_at node entry.event ≡ Ok entry.reply) × IsTrue (is_recorded (Ok entry.reply))
 

@@ -1,7 +1,7 @@
 use Rattle.std.proofs.Common.{◌≡◌, ◌∙◌, ℕ, ◌==◌, ◌<◌, Bool, true, false, cond, get_or, map, refl, ap, arith}
 use Rattle.std.proofs.lemmas.List.FromFn.{get_or-map-range_with_len}
 use Rattle.std.specs.List.{range_with_len}
-use Rattle.client_lines.specs.inside.Compact.{is_plain}
+use Rattle.client_lines.specs.inside.PlainLines.{is_plain}
 use Rattle.client_lines.specs.declared.bytes.TheConstants.{PLAIN}
 use Rattle.client_lines.proofs.bytes.is_plain.Goals as goal
 

@@ -10,7 +10,7 @@ word b t = slice_index (schedule b 48) t
 unfoldable pub four_words : List ℕ → ℕ → List ℕ
 four_words b t = word b t ∷ word b (t + 1) ∷ word b (t + 2) ∷ word b (t + 3) ∷ []
 
--- what the rounds before round t take: their words of block b, with their constants added
-pub record AreDue (b due : List ℕ) (t : ℕ) : Type 0 where
-  pub size : length due ≡ 64
-  pub at : (k : ℕ) → k < t → slice_index due k ≡ add32 (word b k) (slice_index round_constants k)
+-- the sums that the rounds before round t take: of each its word of block b and its constant
+pub record AreRoundSums (b sums : List ℕ) (t : ℕ) : Type 0 where
+  pub size : length sums ≡ 64
+  pub at : (k : ℕ) → k < t → slice_index sums k ≡ add32 (word b k) (slice_index round_constants k)

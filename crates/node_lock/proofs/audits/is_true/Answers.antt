@@ -1,7 +1,7 @@
 use Rattle.std.proofs.Common.{◌≡◌, sym, ap, ◌∙◌, subst}
 use Rattle.std.specs.Prelude.{Some, Option, IsTrue, ◌↔◌}
 use Rattle.node_lock.specs.inside.Walks.{event_in, IsNext, IsTrueHere}
-use Rattle.node_lock.specs.declared.audits.Recorded.{Recorded}
+use Rattle.node_lock.specs.declared.audits.EntryParts.{EntryParts}
 use Rattle.node_lock.proofs.DueOutcomes.{of_entry, of_another}
 use Rattle.node_lock.proofs.audits.is_true.Goals.{in_default-via-in-Some+else-is_of, in_default-via-in_default}
 use Rattle.node_lock.proofs.audits.is_true.Goals as goal
@@ -9,7 +9,7 @@ use Rattle.node_lock.proofs.audits.is_true.Goals as goal
 pub returns-in-Some-clause-is : goal.returns-in-Some-clause-is
 returns-in-Some-clause-is c =
     let same : c.in-Some.entry.event ≡ c.in-Step.event = c.is_of.ensures.0 c.if-is_of.true in
-    let P : Option Recorded → Type 0 = λ e.
+    let P : Option EntryParts → Type 0 = λ e.
     IsTrue c.is_reply.result ↔ IsTrueHere c.args.replay.now (event_in e) c.args.receipt.now in
     subst P (sym c.in-Some.is)
     (of_entry c.args.replay.now c.in-Some.entry c.args.receipt.now c.in-Step.event c.is_reply.result

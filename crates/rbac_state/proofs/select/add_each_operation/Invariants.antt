@@ -1,5 +1,5 @@
 use Rattle.std.proofs.Common.{◌≡◌, ◌==◌, ◌++◌, map, filter, take}
-use Rattle.rbac_state.specs.inside.Packed.{permission_of}
+use Rattle.rbac_state.specs.inside.PermissionNumbers.{permission_of}
 use Rattle.rbac_state.proofs.select.add_each_operation.Given as goal
 
 abbrev pub invariant-loop-grant : goal.invariant-loop-grant

@@ -1,7 +1,7 @@
 use Rattle.std.proofs.Common.{ℕ, ◌==◌, map, filter}
 use Rattle.std.specs.Ordering.{eq_by_cmp, nat_cmp}
 use Rattle.sorted_pairs.specs.Blocks.{items_in}
-use Rattle.rbac_state.specs.inside.Packed.{permission_of}
+use Rattle.rbac_state.specs.inside.PermissionNumbers.{permission_of}
 use Rattle.rbac_state.proofs.ListingLemmas.{joined_more}
 use Rattle.rbac_state.proofs.select.operations.Goals as goal
 

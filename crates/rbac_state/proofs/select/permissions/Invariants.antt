@@ -2,7 +2,7 @@ use Rattle.std.proofs.Common.{◌≡◌, map, filter, take}
 use Rattle.std.specs.List.{flat_map}
 use Rattle.std.specs.Ordering.{eq_by_cmp, nat_cmp}
 use Rattle.sorted_pairs.specs.Blocks.{items_in}
-use Rattle.rbac_state.specs.inside.Packed.{permission_of}
+use Rattle.rbac_state.specs.inside.PermissionNumbers.{permission_of}
 use Rattle.rbac_state.proofs.select.permissions.Given as goal
 
 abbrev pub invariant-loop-role : goal.invariant-loop-role

@@ -20,17 +20,17 @@ invariant_of-self g c =
       end = ap (λ n. c.self.inside.end + n) size;
       count = refl;
       waits = refl;
-      seen_same = c.settle.ensures.seen;
+      seen_same = c.sync_disk.ensures.seen;
       only = c.in-Ok.ensures.durable;
     })
-    c.in-Ok.ensures.usable c.settle.ensures.clean).kept
+    c.in-Ok.ensures.usable c.sync_disk.ensures.clean).kept
 
 pub returns-in-Ok-clause-batches : goal.returns-in-Ok-clause-batches
 returns-in-Ok-clause-batches g c honest =
     let seen = g.D.Disk.seen in
     let size : c.len.result ≡ length c.self.inside.last.items = search rules in
     let s = kept_synced seen g.D.Disk.may_leave g.D.Disk.is_usable g.D.Disk.is_clean _ (record {
-      disk = c.settle.new.disk;
+      disk = c.sync_disk.new.disk;
       beside = c.self.inside.files.log;
       key = c.self.inside.key;
       head = c.self.inside.head;
@@ -53,12 +53,12 @@ returns-in-Ok-clause-batches g c honest =
       end = ap (λ n. c.self.inside.end + n) size;
       count = refl;
       waits = refl;
-      seen_same = c.settle.ensures.seen;
+      seen_same = c.sync_disk.ensures.seen;
       only = c.in-Ok.ensures.durable;
     })
-    c.in-Ok.ensures.usable c.settle.ensures.clean in
-    let clean : IsTrue (g.D.Disk.is_clean c.settle.new.disk) =
-    subst IsTrue (ap (λ v. g.D.Disk.is_clean v.disk) (sym c.self.view_is) ∙ sym c.settle.ensures.clean) honest in
+    c.in-Ok.ensures.usable c.sync_disk.ensures.clean in
+    let clean : IsTrue (g.D.Disk.is_clean c.sync_disk.new.disk) =
+    subst IsTrue (ap (λ v. g.D.Disk.is_clean v.disk) (sym c.self.view_is) ∙ sym c.sync_disk.ensures.clean) honest in
     append-nil _ ∙ s.stored_all clean ∙ ap (λ v. v.batches) c.self.view_is
 
 pub returns-in-Ok-clause-crash : goal.returns-in-Ok-clause-crash

@@ -1,6 +1,6 @@
 use Rattle.std.proofs.Common.{◌≡◌, ◌+◌, ◌*◌, refl, ap, ◌∙◌, arith}
 use Rattle.sha2.specs.Sha256.{add_state, compress, rounds, schedule}
-use Rattle.link_frames.proofs.frame_lemmas.Turns.{none_due, fewer_due, words_at}
+use Rattle.link_frames.proofs.frame_lemmas.Turns.{no_sums, fewer_sums, words_at}
 use Rattle.link_frames.proofs.frames.sha256.compress.Goals as goal
 
 pub loop-turn-init : goal.loop-turn-init
@@ -10,9 +10,10 @@ loop-turn-init c = λ b e.
     let w4 = c.four_from-w4.ensures b e in
     let w8 = c.four_from-w8.ensures b e in
     let w12 = c.four_from-w12.ensures b e in
-    let due = c.put_due-3.ensures b w8 (c.put_due-2.ensures b w4 (c.put_due.ensures b w0 (none_due b))) in
+    let sums = c.set_round_sums-3.ensures b w8 (c.set_round_sums-2.ensures b w4
+    (c.set_round_sums.ensures b w0 (no_sums b))) in
     record {
-      due_till = c.put_due-4.ensures b w12 due;
+      sums_till = c.set_round_sums-4.ensures b w12 sums;
       words_0 = w0;
       words_4 = w4;
       words_8 = w8;
@@ -27,19 +28,20 @@ loop-turn-preserved c = λ b e.
     let before = c.loop-turn.invariant b e in
     let after = rounds h (schedule b 48) in
     let v4 =
-    c.four_rounds-v4.ensures b h (fewer_due b _ (t + 16) (t + 4) (omega arith) before.due_till) before.rounded in
+    c.four_rounds-v4.ensures b h (fewer_sums b _ (t + 16) (t + 4) (omega arith) before.sums_till) before.rounded in
     let w0 = c.next_four-w0.ensures b t (omega arith) before.words_0 before.words_4 before.words_8 before.words_12 in
-    let due0 = c.put_due-in-loop-turn.ensures b w0 before.due_till in
-    let v8 = c.four_rounds-v8.ensures b h (fewer_due b _ (t + 16 + 4) (t + 4 + 4) (omega arith) due0) v4 in
+    let sums0 = c.set_round_sums-in-loop-turn.ensures b w0 before.sums_till in
+    let v8 = c.four_rounds-v8.ensures b h (fewer_sums b _ (t + 16 + 4) (t + 4 + 4) (omega arith) sums0) v4 in
     let w4 =
     words_at b _ (t + 4 + 16) (t + 20) (omega arith)
     (c.next_four-w4.ensures b (t + 4) (omega arith) before.words_4
     (words_at b _ (t + 8) (t + 4 + 4) (omega arith) before.words_8)
     (words_at b _ (t + 12) (t + 4 + 8) (omega arith) before.words_12)
     (words_at b _ (t + 16) (t + 4 + 12) (omega arith) w0)) in
-    let due4 = c.put_due-in-loop-turn-2.ensures b w4 (fewer_due b _ (t + 16 + 4) (t + 20) (omega arith) due0) in
+    let sums4 = c.set_round_sums-in-loop-turn-2.ensures b w4
+    (fewer_sums b _ (t + 16 + 4) (t + 20) (omega arith) sums0) in
     let v12 =
-    c.four_rounds-v12.ensures b h (fewer_due b _ (t + 20 + 4) (t + 8 + 4) (omega arith) due4)
+    c.four_rounds-v12.ensures b h (fewer_sums b _ (t + 20 + 4) (t + 8 + 4) (omega arith) sums4)
     (v8 ∙ ap after (omega arith)) in
     let w8 =
     words_at b _ (t + 8 + 16) (t + 24) (omega arith)
@@ -47,9 +49,10 @@ loop-turn-preserved c = λ b e.
     (words_at b _ (t + 12) (t + 8 + 4) (omega arith) before.words_12)
     (words_at b _ (t + 16) (t + 8 + 8) (omega arith) w0)
     (words_at b _ (t + 20) (t + 8 + 12) (omega arith) w4)) in
-    let due8 = c.put_due-in-loop-turn-3.ensures b w8 (fewer_due b _ (t + 20 + 4) (t + 24) (omega arith) due4) in
+    let sums8 = c.set_round_sums-in-loop-turn-3.ensures b w8
+    (fewer_sums b _ (t + 20 + 4) (t + 24) (omega arith) sums4) in
     let v16 =
-    c.four_rounds-v16.ensures b h (fewer_due b _ (t + 24 + 4) (t + 12 + 4) (omega arith) due8)
+    c.four_rounds-v16.ensures b h (fewer_sums b _ (t + 24 + 4) (t + 12 + 4) (omega arith) sums8)
     (v12 ∙ ap after (omega arith)) in
     let w12 =
     words_at b _ (t + 12 + 16) (t + 28) (omega arith)
@@ -57,10 +60,11 @@ loop-turn-preserved c = λ b e.
     (words_at b _ (t + 16) (t + 12 + 4) (omega arith) w0)
     (words_at b _ (t + 20) (t + 12 + 8) (omega arith) w4)
     (words_at b _ (t + 24) (t + 12 + 12) (omega arith) w8)) in
-    let due12 = c.put_due-in-loop-turn-4.ensures b w12 (fewer_due b _ (t + 24 + 4) (t + 28) (omega arith) due8) in
+    let sums12 = c.set_round_sums-in-loop-turn-4.ensures b w12
+    (fewer_sums b _ (t + 24 + 4) (t + 28) (omega arith) sums8) in
     let next = 16 * (c.loop-turn.turn + 1) in
     record {
-      due_till = fewer_due b _ (t + 28 + 4) (next + 16) (omega arith) due12;
+      sums_till = fewer_sums b _ (t + 28 + 4) (next + 16) (omega arith) sums12;
       words_0 = words_at b _ (t + 16) next (omega arith) w0;
       words_4 = words_at b _ (t + 20) (next + 4) (omega arith) w4;
       words_8 = words_at b _ (t + 24) (next + 8) (omega arith) w8;
@@ -76,9 +80,9 @@ returns c = λ b e.
     let t = 16 * c.loop-turn.turn in
     let end : t ≡ 48 = omega (arith, c.loop-turn.auto.turn-end) in
     let after = rounds h (schedule b 48) in
-    let due = fewer_due b c.loop-turn.due (t + 16) 64 (omega arith) done.due_till in
-    let v52 = c.four_rounds-v52.ensures b h (fewer_due b _ 64 52 (omega arith) due) (done.rounded ∙ ap after end) in
-    let v56 = c.four_rounds-v56.ensures b h (fewer_due b _ 64 56 (omega arith) due) v52 in
-    let v60 = c.four_rounds-v60.ensures b h (fewer_due b _ 64 60 (omega arith) due) v56 in
-    let v64 = c.four_rounds.ensures b h due v60 in
+    let sums = fewer_sums b c.loop-turn.sums (t + 16) 64 (omega arith) done.sums_till in
+    let v52 = c.four_rounds-v52.ensures b h (fewer_sums b _ 64 52 (omega arith) sums) (done.rounded ∙ ap after end) in
+    let v56 = c.four_rounds-v56.ensures b h (fewer_sums b _ 64 56 (omega arith) sums) v52 in
+    let v60 = c.four_rounds-v60.ensures b h (fewer_sums b _ 64 60 (omega arith) sums) v56 in
+    let v64 = c.four_rounds.ensures b h sums v60 in
     c.next_hash.ensures ∙ ap (add_state h) v64

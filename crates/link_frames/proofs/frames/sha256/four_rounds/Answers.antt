@@ -6,7 +6,7 @@ use Rattle.link_frames.proofs.frames.sha256.four_rounds.Goals as goal
 pub returns : goal.returns
 returns c = λ b h held e.
     let t = c.args.t in
-    let next = after_one b h c.args.due.now in
+    let next = after_one b h c.args.sums.now in
     let at = rounds h (schedule b 48) in
     let n2 : t + 1 + 1 ≡ t + 2 = omega arith in
     let n3 : t + 2 + 1 ≡ t + 3 = omega arith in

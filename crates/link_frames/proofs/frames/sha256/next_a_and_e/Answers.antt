@@ -15,4 +15,4 @@ returns c = λ k w e.
       four c.args.abcd (omega arith),
       four c.args.efgh (omega arith),
     )
-    (found (x 0) (x 1) (x 2) (x 3) (y 0) (y 1) (y 2) (y 3) c.args.due k w e)
+    (found (x 0) (x 1) (x 2) (x 3) (y 0) (y 1) (y 2) (y 3) c.args.sum k w e)

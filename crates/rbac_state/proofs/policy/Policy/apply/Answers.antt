@@ -1,7 +1,7 @@
 use Rattle.std.proofs.Common.{refl, map, arith}
 use Rattle.role_commands.specs.declared.command.Command.TheVariants.{Assign, Deassign, Grant, Revoke, Clear}
 use Rattle.sorted_pairs.specs.Blocks.{items_in}
-use Rattle.rbac_state.specs.inside.Packed.{grant_of}
+use Rattle.rbac_state.specs.inside.PermissionNumbers.{grant_of}
 use Rattle.rbac_state.proofs.PairLemmas.{assigned-put, assigned-take_away, assigned-clear}
 use Rattle.rbac_state.proofs.PairLemmas.{granted-put, granted-take_away, granted-clear}
 use Rattle.rbac_state.proofs.GrantLemmas.{put_as_grant, taken_as_grant, cleared_as_grant}
@@ -33,7 +33,7 @@ returns-in-Grant-clause-applied c =
     c.in-Grant.operation c.in-Grant.object c.in-Grant.role operation object role
     (put_as_grant (items_in c.self.inside.granted.by_first.items) _ c.in-Grant.role
     (c.in-Grant.operation, c.in-Grant.object) (omega arith)
-    (rw (c.pack.ensures) at c.put-in-Grant.ensures.members) (operation, object) role))
+    (rw (c.number_of.ensures) at c.put-in-Grant.ensures.members) (operation, object) role))
 
 pub returns-in-Revoke-clause-applied : goal.returns-in-Revoke-clause-applied
 returns-in-Revoke-clause-applied c =
@@ -44,7 +44,7 @@ returns-in-Revoke-clause-applied c =
     c.in-Revoke.operation c.in-Revoke.object c.in-Revoke.role operation object role
     (taken_as_grant (items_in c.self.inside.granted.by_first.items) _ c.in-Revoke.role
     (c.in-Revoke.operation, c.in-Revoke.object) (omega arith)
-    (rw (c.pack-in-Revoke.ensures) at c.take_away-in-Revoke.ensures.members) (operation, object) role))
+    (rw (c.number_of-in-Revoke.ensures) at c.take_away-in-Revoke.ensures.members) (operation, object) role))
 
 pub returns-in-Clear-clause-applied : goal.returns-in-Clear-clause-applied
 returns-in-Clear-clause-applied c =

@@ -10,7 +10,7 @@ returns c =
     let kept = c.self.invariant in
     let assignments = ap (λ v. v.assignments) c.self.view_is in
     let grants = ap (λ v. v.grants) c.self.view_is in
-    rw (c.pack.ensures) at c.first_granting.ensures
+    rw (c.number_of.ensures) at c.first_granting.ensures
     ∙ (λ i. find (λ role. assigned_is value inside.assigned assignments kept.users c.args.user role i
     && may_is value inside.granted grants kept.permissions (c.args.operation, c.args.object) role (omega arith) i)
     c.args.roles.now)

@@ -1,7 +1,7 @@
 use Rattle.std.proofs.Common.{refl, ap, ◌∙◌, map}
 use Rattle.std.specs.FinSet as set
 use Rattle.rbac_state.specs.Policies.{assignment_cmp, grant_cmp}
-use Rattle.rbac_state.specs.inside.Packed.{grant_of}
+use Rattle.rbac_state.specs.inside.PermissionNumbers.{grant_of}
 use Rattle.rbac_state.proofs.policy.Policy.new.Goals as goal
 
 pub returns : goal.returns

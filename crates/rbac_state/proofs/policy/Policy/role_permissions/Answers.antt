@@ -2,7 +2,7 @@ use Rattle.std.proofs.Common.{◌≡◌, ℕ, map, filter, ap}
 use Rattle.std.specs.Ordering.{eq_by_cmp, nat_cmp}
 use Rattle.std.proofs.lemmas.Result.{IfOk-weaker}
 use Rattle.sorted_pairs.specs.Blocks.{items_in}
-use Rattle.rbac_state.specs.inside.Packed.{permission_of}
+use Rattle.rbac_state.specs.inside.PermissionNumbers.{permission_of}
 use Rattle.rbac_state.specs.Listings.{IsListing}
 use Rattle.rbac_state.specs.Policies.{permission_cmp, RoleMay}
 use Rattle.rbac_state.proofs.ListingLemmas.{permissions_listing}

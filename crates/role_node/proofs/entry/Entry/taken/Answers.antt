@@ -2,9 +2,9 @@ use Rattle.std.proofs.Common.{◌≡◌, ◌-◌, refl, sym, ap, ◌∙◌, subs
 use Rattle.link_frames.specs.frames.Packets.{PacketValue, IsSound, message_of}
 use Rattle.link_frames.specs.declared.frames.packet.Message.{Message}
 use Rattle.role_node.specs.declared.entry.Head.{Head}
-use Rattle.role_node.specs.declared.entry.Kept.{Kept}
-use Rattle.role_node.specs.inside.Entries.{IsKept, kept_value, kept_with, packet_with}
-use Rattle.role_node.proofs.PackedLemmas.{packed_is, packed_is_kept}
+use Rattle.role_node.specs.declared.entry.PackedEntry.{PackedEntry}
+use Rattle.role_node.specs.inside.Entries.{IsPacked, packed_value, packed_with, packet_with}
+use Rattle.role_node.proofs.PackedLemmas.{packed_is, is_packed}
 use Rattle.role_node.proofs.entry.Entry.taken.Goals as goal
 
 -- what is kept beside the message
@@ -20,15 +20,16 @@ head c m = record {
 }
 
 -- what is kept, of the packet's own message
-abbrev kept : goal.After-with → Kept
+abbrev kept : goal.After-with → PackedEntry
 kept c =
     let m = message_of c.args.packet.now in
-    kept_with (head c m) m.place c.args.step.now.from m.command
+    packed_with (head c m) m.place c.args.step.now.from m.command
 
 is : (c : goal.After-with) → c.with.result ≡ kept c
 is c =
     c.with.ensures
-    ∙ ap (λ (m : Message). kept_with (head c m) m.place c.args.step.now.from m.command) c.message-message.ensures.value
+    ∙ ap (λ (m : Message). packed_with (head c m) m.place c.args.step.now.from m.command)
+    c.message-message.ensures.value
 
 packet : (c : goal.After-with) → let p = c.args.packet.now in
     packet_with (head c (message_of p)) p.place p.command ≡ p
@@ -47,12 +48,12 @@ pub invariant_of-result : goal.invariant_of-result
 invariant_of-result c =
     let p = c.args.packet.now in
     let sound : IsSound p = (c.message-message.ensures.kept.0, c.message-message.ensures.kept.1) in
-    subst IsKept (sym (is c))
-    (packed_is_kept p c.args.step.now (head c (message_of p)) sound (packet c) (omega (arith, c.requires.onward)))
+    subst IsPacked (sym (is c))
+    (is_packed p c.args.step.now (head c (message_of p)) sound (packet c) (omega (arith, c.requires.onward)))
 
 pub returns : goal.returns
 returns c =
     let p = c.args.packet.now in
-    ap kept_value (is c)
+    ap packed_value (is c)
     ∙ packed_is p c.args.step.now (head c (message_of p)) c.requires.own (packet c) refl c.new.ensures
     c.is_some.ensures (omega (arith, c.requires.onward))

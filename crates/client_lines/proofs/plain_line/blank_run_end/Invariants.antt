@@ -1,0 +1,13 @@
+use Rattle.std.proofs.Common.{◌≡◌, ◌+◌, ◌-◌, ◌≤◌, length, drop}
+use Rattle.std.specs.List.{prefix_len}
+use Rattle.json.specs.Word.{is_space}
+use Rattle.client_lines.proofs.plain_line.blank_run_end.Given as goal
+
+abbrev pub invariant-loop-end : goal.invariant-loop-end
+invariant-loop-end l = record {
+  same_end : l.from + prefix_len is_space (drop l.from l.bytes) ≡ l.end + prefix_len is_space (drop l.end l.bytes);
+  within : l.from ≤ length l.bytes → l.end ≤ length l.bytes;
+}
+
+abbrev pub decreases-loop-end : goal.decreases-loop-end
+decreases-loop-end l = length l.bytes - l.end
