@@ -100,17 +100,6 @@ looked_since h now owner before rooms less owed a b c smaller many still was = r
   time = was.time;
 }
 
-pub round_none : (h : Held) (now : ℕ) (first : Standing) → IsRound h now 0 first first
-round_none h now first = record {
-  turn = λ some. inl (omega arith);
-  looks = λ place owner few turn within due. absurd (omega (arith, few));
-  rest = λ place owner more few turn within. still_same first.pairs owner;
-  later = λ owner late. still_same first.pairs owner;
-  apart = λ owner peer none. refl;
-  many = many_same first.pairs;
-  rooms = rooms_same first.rooms;
-}
-
 none_of : (room : Option ℕ) → is_some room ≡ false → room ≡ None
 none_of None same = refl
 none_of (Some free) same = cc

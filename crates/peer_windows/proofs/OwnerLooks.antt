@@ -107,18 +107,6 @@ pub no_connection : (room : Option ℕ) → room ≡ None → is_some room ≡ t
 no_connection None none connected = cc
 no_connection (Some free) none connected = cc
 
-pub part_none : (h : Held) (now owner : ℕ) (first : Standing) → first.due ≡ never → IsPart h now owner 0 first first
-part_none h now owner first is = record {
-  looks = λ peer few reached. absurd (omega (arith, few));
-  time = inl is;
-  rest = λ peer more. refl;
-  rest_rooms = λ peer more. refl;
-  apart = λ peer none. refl;
-  change = owners_same owner first.pairs;
-  rooms = rooms_same first.rooms;
-  peers = refl;
-}
-
 sooner_is : (a b c : ℕ) → c ≡ min a b → a < b → c ≡ a
 sooner_is a b c is before = omega (arith, is, before)
 
@@ -205,40 +193,9 @@ owner_due owner time a = record {
   turn = refl;
 }
 
--- an owner that is not due stays
-pub owner_later : (h : Held) (now owner : ℕ) (rooms : List (Option ℕ)) (owed : OwedValue) (a : PairsValue) →
-    now < due_at a owner → IsOwnerGathered h now owner rooms rooms owed a a
-owner_later h now owner rooms owed a late = record {
-  look = λ due. absurd (omega (arith, late, due));
-  later = λ past. record { pairs = λ peer. refl; time = refl };
-  apart = λ peer none. refl;
-  change = owners_same owner a;
-  rooms = rooms_same rooms;
-}
-
 -- one beyond the last is never due
 pub never_due : (now owner : ℕ) (a : PairsValue) → now ≤ most_time → length a.dues ≤ owner → now < due_at a owner
 never_due now owner a early past = omega (arith, early, get_or_past a.dues owner never past)
-
--- Nothing was gathered for an owner that is due and is no node's.
-pub owner_unknown : (h : Held) (now owner : ℕ) (rooms : List (Option ℕ)) (owed : OwedValue) (a b : PairsValue) →
-    due_at a owner ≤ now → now ≤ most_time → b ≡ with_due a owner (now + next_room) → (owner < node_count h → ⊥) →
-    IsOwnerGathered h now owner rooms rooms owed a b
-owner_unknown h now owner rooms owed a b due early is unknown =
-    let within : owner < length a.dues = elim (cases_lt owner (length a.dues)) [
-      | inl low ↦ low
-      | inr past ↦ absurd (omega (arith, due, never_due now owner a early past))
-    ] in
-    subst (IsOwnerGathered h now owner rooms rooms owed a) (sym is) (record {
-      look = λ in_time. record {
-        pairs = λ peer reached. absurd (unknown reached.owner_known);
-        time = inr (inl (get_or-set_same a.dues owner (now + next_room) never within));
-      };
-      later = λ past. absurd (omega (arith, past, due));
-      apart = λ peer none. refl;
-      change = owner_due owner (now + next_room) a;
-      rooms = rooms_same rooms;
-    })
 
 -- all peers
 pub owner_gathered : (h : Held) (now owner time count : ℕ) (a : PairsValue) (first s : Standing) →

@@ -182,17 +182,6 @@ looked_as g h now lasting longest owner peer room owed was due seen old found ne
     (subst (λ x. IsLookedAt g now lasting owner peer room owed was x new) first
     (subst (λ x. IsLookedAt g now lasting owner peer room owed was seen x) last looked))))
 
--- nothing was gathered for a pair that there is not, or to whose peer there is no connection
-pub pair_unreached : (h : Held) (now owner peer : ℕ) (room : Option ℕ) (owed : OwedValue) (a : PairsValue) →
-    (IsReached h a owner peer room → ⊥) → IsPairGathered h now owner peer room room owed never a a
-pair_unreached h now owner peer room owed a unreached = record {
-  look = λ reached. absurd (unreached reached);
-  time = inl refl;
-  apart = λ none. refl;
-  change = change_same owner peer a;
-  room = room_same room;
-}
-
 -- a look at a pair has brought nothing
 pub pair_quiet : (h : Held) (now owner peer : ℕ) (room : Option ℕ) (owed : OwedValue) (due : ℕ) (step : Step)
     (a b : PairsValue) → let old = pair_at a owner peer in
