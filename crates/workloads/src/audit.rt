@@ -17,18 +17,40 @@ pub fn run(alloc: Global, seed: u32, share: u32) -> Result<Digest> {
     let mut sample = Sample::new(seed, 5);
     let mut digest = Digest::new();
     for order in 0..6 {
-        let mut history = History::new(alloc, &mut sample, part(COMMANDS, share), &mut digest)?;
-        let mut receipts = history.receipts(alloc)?;
-        match order {
-            3 => receipts.reverse(),
-            4 => sample.shuffle(&mut receipts),
-            5 => forge(&mut receipts),
-            _ => {}
-        }
-        digest.number(u64::from(history.node.events()));
-        digest.number(judged(alloc, &history.node, &receipts)?);
+        audit_one(
+            alloc,
+            &mut sample,
+            part(COMMANDS, share),
+            order,
+            &mut digest,
+        )?;
     }
     Ok(digest)
+}
+
+/// Audits a history of so many commands, with its receipts in this order.
+fn audit_one(
+    alloc: Global,
+    sample: &mut Sample,
+    commands: u32,
+    order: u32,
+    digest: &mut Digest,
+) -> Result<()> {
+    let mut history = History::new(alloc, sample, commands, digest)?;
+    let mut receipts = history.receipts(alloc)?;
+    arrange(&mut receipts, sample, order);
+    digest.number(u64::from(history.node.events()));
+    digest.number(judged(alloc, &history.node, &receipts)?);
+    Ok(())
+}
+
+fn arrange(receipts: &mut [Receipt], sample: &mut Sample, order: u32) {
+    match order {
+        3 => receipts.reverse(),
+        4 => sample.shuffle(receipts),
+        5 => forge(receipts),
+        _ => {}
+    }
 }
 
 /// Has the receipt in the middle of the first seat's say something else.

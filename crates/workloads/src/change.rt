@@ -8,7 +8,6 @@ use anyhow::Result;
 use role_commands::Command;
 use role_node::{Node, Question};
 use std::alloc::Global;
-use std::mem;
 
 /// So many roles have users. The first have very many.
 const ROLES: u16 = 200;
@@ -117,6 +116,56 @@ impl Changes {
         }
     }
 
+    /// Assigns roles to so many users, in descending order of the users, and grants something with each eighth.
+    fn give_descending(&mut self, count: u32) -> Result<()> {
+        for number in 0..count {
+            self.assign(USERS.saturating_sub(number))?;
+            if number % 8 == 0 {
+                self.grant()?;
+            }
+        }
+        Ok(())
+    }
+
+    /// Makes so many assignments in random order.
+    fn give_at_random(&mut self, count: u32) -> Result<()> {
+        for _ in 0..count {
+            let user = self.sample.below(USERS);
+            self.assign(user)?;
+        }
+        Ok(())
+    }
+
+    /// So many commands of the mix.
+    fn mix(&mut self, count: u32) -> Result<()> {
+        for _ in 0..count {
+            self.mixed()?;
+        }
+        Ok(())
+    }
+
+    /// Gives, changes and clears, and looks at all before and after the last.
+    fn make_all(&mut self, share: u32) -> Result<()> {
+        self.give_descending(part(DESCENDING, share))?;
+        self.give_at_random(part(RANDOM, share))?;
+        self.mix(part(MIXED, share))?;
+        self.review()?;
+        self.clear_large_roles()?;
+        self.review()
+    }
+
+    fn into_digest(self) -> Digest {
+        let Changes { digest, .. } = self;
+        digest
+    }
+
+    fn clear_large_roles(&mut self) -> Result<()> {
+        for role in 0..LARGE_ROLES {
+            self.publish(Command::Clear { role })?;
+        }
+        Ok(())
+    }
+
     /// Adds who has each role, and what each may do, to the digest.
     fn review(&mut self) -> Result<()> {
         for role in 0..ALL_ROLES {
@@ -140,23 +189,6 @@ pub fn run(alloc: Global, seed: u32, share: u32) -> Result<Digest> {
         given: Vec::new(alloc),
         digest: Digest::new(),
     };
-    for number in 0..part(DESCENDING, share) {
-        changes.assign(USERS - number)?;
-        if number % 8 == 0 {
-            changes.grant()?;
-        }
-    }
-    for _ in 0..part(RANDOM, share) {
-        let user = changes.sample.below(USERS);
-        changes.assign(user)?;
-    }
-    for _ in 0..part(MIXED, share) {
-        changes.mixed()?;
-    }
-    changes.review()?;
-    for role in 0..LARGE_ROLES {
-        changes.publish(Command::Clear { role })?;
-    }
-    changes.review()?;
-    Ok(mem::replace(&mut changes.digest, Digest::new()))
+    changes.make_all(share)?;
+    Ok(changes.into_digest())
 }

@@ -11,7 +11,6 @@ use anyhow::{Context, Result};
 use role_commands::Command;
 use role_node::Node;
 use std::alloc::Global;
-use std::mem;
 
 const ROLES: u16 = 500;
 
@@ -60,28 +59,29 @@ struct Registry {
 
 /// Does the job on the input of a seed.
 pub fn run(alloc: Global, seed: u32, share: u32) -> Result<Digest> {
-    let mut sample = Sample::new(seed, 1);
     let users = part(USERS, share);
-    let permissions = Permissions::new(alloc, &mut sample, ROLES)?;
-    let mut registry = Registry {
-        alloc,
-        node: lone_node(alloc, ROLES)?,
-        sample,
-        digest: Digest::new(),
-        roles: Deck::new(alloc, u32::from(ROLES))?,
-        users: Deck::new(alloc, users)?,
-        roles_of: Vec::new(alloc),
-        permissions,
-    };
-    registry.assign(users)?;
-    registry.grant()?;
-    let sessions = registry.open_all(part(SESSIONS, share))?;
-    let rounds = registry.draw_rounds(&sessions)?;
-    registry.check_all(&sessions, &rounds)?;
-    Ok(mem::replace(&mut registry.digest, Digest::new()))
+    let mut registry = Registry::new(alloc, seed, users)?;
+    registry.check_all_of(users, part(SESSIONS, share))?;
+    Ok(registry.into_digest())
 }
 
 impl Registry {
+    /// A registry without commands, for so many users.
+    fn new(alloc: Global, seed: u32, users: u32) -> Result<Registry> {
+        let mut sample = Sample::new(seed, 1);
+        let permissions = Permissions::new(alloc, &mut sample, ROLES)?;
+        Ok(Registry {
+            alloc,
+            node: lone_node(alloc, ROLES)?,
+            sample,
+            digest: Digest::new(),
+            roles: Deck::new(alloc, u32::from(ROLES))?,
+            users: Deck::new(alloc, users)?,
+            roles_of: Vec::new(alloc),
+            permissions,
+        })
+    }
+
     fn publish(&mut self, command: Command) -> Result<()> {
         publish(&mut self.node, command, &mut self.digest)
     }
@@ -147,6 +147,20 @@ impl Registry {
             opened.push(Session { id, user, active })?;
         }
         Ok(opened)
+    }
+
+    fn into_digest(self) -> Digest {
+        let Registry { digest, .. } = self;
+        digest
+    }
+
+    /// Gives the users and the roles what they have, opens so many sessions, draws what is asked in each, and asks.
+    fn check_all_of(&mut self, users: u32, sessions: u32) -> Result<()> {
+        self.assign(users)?;
+        self.grant()?;
+        let sessions = self.open_all(sessions)?;
+        let rounds = self.draw_rounds(&sessions)?;
+        self.check_all(&sessions, &rounds)
     }
 
     /// Gives a user more roles, so that there are as many as may be active.

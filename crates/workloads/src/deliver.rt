@@ -87,6 +87,16 @@ impl Member {
         }
     }
 
+    /// Adds the streams of the owners, as the node has them, to the digest.
+    fn review(&self, digest: &mut Digest) -> Result<()> {
+        digest.number(u64::from(self.node.events()));
+        for owner in 0..OWNERS {
+            let owner = self.sizes.name(owner).context("no node")?;
+            digest.stream(&self.node, owner);
+        }
+        Ok(())
+    }
+
     /// The frame of a message to a node. Adds its bytes to the digest.
     fn frame(&self, to: u8, message: Message, digest: &mut Digest) -> Result<Frame> {
         let to = self.sizes.name(to).context("no node")?;
@@ -186,6 +196,16 @@ impl Net {
         Ok(())
     }
 
+    /// Has each owner publish as many commands as are on their way at once.
+    fn publish(&mut self, sample: &mut Sample, digest: &mut Digest) -> Result<()> {
+        for _ in 0..FLIGHT {
+            for owner in 0..OWNERS {
+                self.issue(owner, sample, digest)?;
+            }
+        }
+        Ok(())
+    }
+
     /// Has an owner publish a command.
     fn issue(&mut self, owner: u8, sample: &mut Sample, digest: &mut Digest) -> Result<()> {
         let index = usize::from(owner);
@@ -222,19 +242,11 @@ pub fn run(alloc: Global, seed: u32, share: u32) -> Result<Digest> {
     let mut net = Net::new(alloc, sample.below(u32::MAX))?;
     let mut digest = Digest::new();
     for _ in 0..part(COMMANDS / FLIGHT, share) {
-        for _ in 0..FLIGHT {
-            for owner in 0..OWNERS {
-                net.issue(owner, &mut sample, &mut digest)?;
-            }
-        }
+        net.publish(&mut sample, &mut digest)?;
         net.give_all(&mut digest)?;
     }
     for member in net.members.iter() {
-        digest.number(u64::from(member.node.events()));
-        for owner in 0..OWNERS {
-            let owner = member.sizes.name(owner).context("no node")?;
-            digest.stream(&member.node, owner);
-        }
+        member.review(&mut digest)?;
     }
     Ok(digest)
 }

@@ -37,14 +37,10 @@ impl History {
         commands: u32,
         digest: &mut Digest,
     ) -> Result<History> {
-        let mut seats = Vec::new(alloc);
-        for _ in 0..SEATS {
-            seats.push(Vec::new(alloc))?;
-        }
         let mut history = History {
             node: node(alloc, config(alloc, NODES, 1, 1, ROLES)?, 1)?,
             users: Deck::new(alloc, USERS)?,
-            seats,
+            seats: seats_without_receipts(alloc)?,
         };
         for place in 0..commands {
             history.deliver(sample, place, digest)?;
@@ -145,6 +141,14 @@ impl History {
         }
         Ok(all)
     }
+}
+
+fn seats_without_receipts(alloc: Global) -> Result<Vec<Vec<Receipt>>> {
+    let mut seats = Vec::new(alloc);
+    for _ in 0..SEATS {
+        seats.push(Vec::new(alloc))?;
+    }
+    Ok(seats)
 }
 
 fn call_of(event: &Event) -> Call {

@@ -52,26 +52,35 @@ pub fn run(alloc: Global, seed: u32, share: u32) -> Result<Digest> {
     let mut sample = Sample::new(seed, 4);
     let mut digest = Digest::new();
     for _ in 0..REGISTRIES {
-        let mut registry = Registry {
-            alloc,
-            node: lone_node(alloc, ROLES)?,
-            client: Client::new(alloc),
-            line: Line::new(alloc),
-            sample: &mut sample,
-            digest: &mut digest,
-            objects: Deck::new(alloc, OBJECTS)?,
-            roles_of: Vec::new(alloc),
-        };
-        registry.assign(part(USERS, share))?;
-        registry.grant()?;
-        registry.ask_of_users(part(USERS, share))?;
-        registry.ask_of_roles()?;
-        registry.ask_of_sessions(part(USERS, share), part(SESSIONS, share))?;
+        list_one(alloc, &mut sample, share, &mut digest)?;
     }
     Ok(digest)
 }
 
+/// Fills a registry, and asks it for its listings.
+fn list_one(alloc: Global, sample: &mut Sample, share: u32, digest: &mut Digest) -> Result<()> {
+    let mut registry = Registry {
+        alloc,
+        node: lone_node(alloc, ROLES)?,
+        client: Client::new(alloc),
+        line: Line::new(alloc),
+        sample,
+        digest,
+        objects: Deck::new(alloc, OBJECTS)?,
+        roles_of: Vec::new(alloc),
+    };
+    registry.list_all(part(USERS, share), part(SESSIONS, share))
+}
+
 impl Registry<'_> {
+    fn list_all(&mut self, users: u32, sessions: u32) -> Result<()> {
+        self.assign(users)?;
+        self.grant()?;
+        self.ask_of_users(users)?;
+        self.ask_of_roles()?;
+        self.ask_of_sessions(users, sessions)
+    }
+
     fn publish(&mut self, command: Command) -> Result<()> {
         publish(&mut self.node, command, self.digest)
     }
