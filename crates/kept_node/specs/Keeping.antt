@@ -1,8 +1,8 @@
 -- A node with its journal, what a file stands for, and what a crash leaves.
-use Rattle.std.specs.Prelude.{◌≡◌, ℕ, ◌-◌, ◌≤◌, ◌==◌, nat_le, if◌then◌else◌, Bool, IsTrue, List, length, take, All}
-use Rattle.std.specs.Prelude.{Option, Some, None, Ok}
+use Rattle.std.specs.Prelude.{◌≡◌, ◌⊎◌, ℕ, ◌+◌, ◌-◌, ◌<◌, ◌≤◌, ◌==◌, nat_le, if◌then◌else◌, Bool, IsTrue}
+use Rattle.std.specs.Prelude.{List, length, take, All, Option, Some, None, Ok}
 use Rattle.std.specs.List.{concat}
-use Rattle.batch_journal.specs.Readings.{reading}
+use Rattle.batch_journal.specs.Readings.{reading, room_behind}
 use Rattle.batch_journal.specs.declared.head.Head.{Head}
 use Rattle.role_node.specs.Configs.{ConfigValue}
 use Rattle.role_node.specs.Nodes.{NodeValue}
@@ -30,6 +30,12 @@ is_full k = nat_le most_waiting (end_of k.held - k.synced)
 -- the node, if all that it recorded is synced
 abbrev pub node_if_synced : {D : Type 0} → KeptValue D → Option NodeValue
 node_if_synced k = if k.synced == end_of k.held then Some k.held.node else None
+
+-- Nothing more can be kept: a call of the disk has failed, or the file is as long as a journal may be, unless it has
+-- lied.
+abbrev pub HasFailed : {D : Type 0} → (D → List ℕ) → (D → Bool) → D → Bool → Type 0
+HasFailed seen is_clean disk broken =
+    IsTrue broken ⊎ (IsTrue (is_clean disk) → 536870912 < length (seen disk) + room_behind)
 
 -- Bytes stand for these events of the node of this configuration and name: under its head they are read as batches, and
 -- the digits of these, one after another, are the events'.

@@ -22,7 +22,7 @@ ghost use Rattle.peer_windows.specs.Pauses.{most_time};
 ghost use Rattle.kept_node.specs.Events.{event_digits, IsEvent};
 ghost use Rattle.kept_node.specs.inside.Fields.{IsCommitted, event_in};
 ghost use Rattle.kept_node.specs.Keeping as keeping;
-ghost use Rattle.kept_node.specs.Keeping.{Survives, StandsFor, node_if_synced};
+ghost use Rattle.kept_node.specs.Keeping.{Survives, StandsFor, HasFailed, node_if_synced};
 ghost use Rattle.kept_node.specs.Restoring.{IsUnrestored, LeavesAsBefore, file_of};
 
 use crate::event_digits::push_event;
@@ -226,6 +226,7 @@ impl<L: Ledger, D: Disk> Kept<L, D> {
             (result ≡ Err journal_fault.Device) × (self.new ≡ self.old) }
         ensures err { OnErr result (self.new.synced ≡ self.old.synced) }
         ensures which { IfErr result (λ e. (e ≡ journal_fault.Device) ⊎ (e ≡ journal_fault.Full)) }
+        ensures fails { OnErr result (HasFailed D.Disk.seen D.Disk.is_clean self.new.disk self.new.broken) }
         ensures device { self.old.broken ≡ false → result ≡ Err journal_fault.Device → IsTrue self.new.broken
             × Failed 0 (D.Disk.faults self.new.disk) (D.Disk.is_mixing self.new.disk) }
         ensures full { result ≡ Err journal_fault.Full → (self.new ≡ self.old)
@@ -346,6 +347,7 @@ fn commit<D: Disk>(journal: &mut Journal<D>, waiting: &mut Vec<u8>) -> Result<()
         × (IsTrue (D.Disk.is_clean journal.old.disk) →
         536870912 < length (D.Disk.seen journal.old.disk) + room_behind) }
     ensures which { IfErr result (λ e. (e ≡ journal_fault.Device) ⊎ (e ≡ journal_fault.Full)) }
+    ensures fails { OnErr result (HasFailed D.Disk.seen D.Disk.is_clean journal.new.disk journal.new.broken) }
     ensures room { journal.old.room ≤ journal.new.room }
     ensures capacity { vec_capacity waiting.new ≡ vec_capacity waiting.old }
     ensures crash { journals.Survives D.Disk.may_leave D.Disk.is_clean journal.new }

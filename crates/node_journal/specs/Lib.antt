@@ -1,2 +1,4 @@
 pub mod Keeping
+pub mod Refusals
+pub mod Sights
 pub mod Statuses

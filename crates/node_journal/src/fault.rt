@@ -43,12 +43,23 @@ impl KeptFault {
 }
 
 impl From<JournalFault> for KeptFault {
+    ghost use Rattle.std.specs.Prelude.{◌≡◌};
+    ghost use Rattle.node_journal.specs.declared.fault.KeptFault.TheVariants.{Journal};
+
+    ghost from_gives = { λ fault kept. kept ≡ Journal fault };
+
     fn from(fault: JournalFault) -> Self {
         KeptFault::Journal(fault)
     }
 }
 
 impl From<AllocError> for KeptFault {
+    ghost use Rattle.std.specs.Prelude.{◌≡◌};
+    ghost use Rattle.batch_journal.specs.declared.fault.JournalFault.TheVariants.{Memory};
+    ghost use Rattle.node_journal.specs.declared.fault.KeptFault.TheVariants.{Journal};
+
+    ghost from_gives = { λ _ kept. kept ≡ Journal Memory };
+
     fn from(_e: AllocError) -> Self {
         KeptFault::Journal(JournalFault::Memory)
     }

@@ -17,10 +17,10 @@ pub struct Journaled<L: Ledger, D: Disk> {
 }
 
 impl<L: Ledger + Send + Sync, D: Disk> HeldNode for Journaled<L, D> {
-    ghost use Rattle.std.specs.Prelude.{◌≡◌, ◌≤◌, option_map};
+    ghost use Rattle.std.specs.Prelude.{◌≡◌, ◌≤◌};
     ghost use Rattle.node_lock.specs.Holds.{end_of};
     ghost use Rattle.kept_node.specs.Keeping as keeping;
-    ghost use Rattle.node_journal.specs.Keeping.{said_of, MayLeave};
+    ghost use Rattle.node_journal.specs.Keeping.{said_of};
 
     type Ledger = L;
 
@@ -32,9 +32,13 @@ impl<L: Ledger + Send + Sync, D: Disk> HeldNode for Journaled<L, D> {
 
     ghost is_kept = { λ a. a.kept.synced ≡ end_of a.kept.held };
 
+    ghost has_failed = { λ a. keeping.HasFailed D.Disk.seen D.Disk.is_clean a.kept.disk a.kept.broken };
+
     ghost said = { λ u. said_of u };
 
-    ghost may_leave = { λ a u. MayLeave a.kept.synced u };
+    ghost speaks_of = { λ u. u.at };
+
+    ghost may_leave = { λ a u. u.at ≤ a.kept.synced };
 
     fn may_sync_long() -> bool {
         true
@@ -74,16 +78,10 @@ impl<L: Ledger + Send + Sync, D: Disk> HeldNode for Journaled<L, D> {
     }
 
     fn release(&self, untold: Untold<L>) -> Option<Said> {
-        let synced = self.kept.synced();
-        let upto = synced.upto();
-        let Ok(told) = untold.release(&synced) else {
+        let Ok(told) = untold.release(&self.kept.synced()) else {
             return None;
         };
         let (receipt, view) = told.into_parts();
-        // the view is read under the same hold, so it speaks of no more
-        if u64::from(view.at) > upto {
-            return None;
-        }
         let outcome = receipt.map(|receipt| receipt.outcome);
         Some(Said { outcome, view })
     }

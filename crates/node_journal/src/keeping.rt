@@ -1,20 +1,27 @@
 //! The journal of a node: begun, opened, and looked at. Nothing here knows where the files are.
 
-ghost use Rattle.std.specs.Prelude.{◌≡◌, ◌<◌, ◌≤◌, ℕ, List, [], IsTrue, IfOk};
+ghost use Rattle.std.specs.Prelude.{◌≡◌, ◌↔◌, ◌⊎◌, ◌<◌, ◌≤◌, ◌==◌, ℕ, List, [], length, not, IsTrue, IfOk, IfErr};
+ghost use Rattle.std.specs.List.{list_any};
+ghost use Rattle.sqlite_disk.specs.Disk.{MoreFaults};
 ghost use Rattle.batch_journal.specs.Faults.{IsBlank};
+ghost use Rattle.batch_journal.specs.declared.fault.JournalFault.TheVariants as fault;
 ghost use Rattle.node_lock.specs.Holds.{end_of, Fits};
 ghost use Rattle.node_lock.specs.Seats.{most_seats};
+ghost use Rattle.role_node.specs.Nodes.{IsLegalNode, new_node};
 ghost use Rattle.kept_node.specs.Keeping.{StandsFor, Survives};
 ghost use Rattle.kept_node.specs.NodeHeads.{IsHeadOf};
 ghost use Rattle.cluster_text.specs.Linked.{own_key};
 ghost use Rattle.cluster_text.specs.Setups.{IsNodeSetup, IsServerSetup};
+ghost use Rattle.node_journal.specs.Refusals as refusals;
+ghost use Rattle.node_journal.specs.Refusals.{IsNotMade, IsNotRestored};
+ghost use Rattle.node_journal.specs.Sights.{HasByte, IsSeen};
 
 use crate::fault::KeptFault;
 use crate::held::Journaled;
 use batch_journal::{Journal, JournalFault, read};
 use cluster_text::cluster::Setup;
-use kept_node::{Kept, NotNew, ReplayFault, Unrestored, head_of, new_locked, replay_events};
-use node_lock::{Locked, Seat, SharedNode};
+use kept_node::{Kept, ReplayFault, Unrestored, head_of, replay_events};
+use node_lock::{Locked, Seat, unshared};
 use quorum_sizes::NodeName;
 use role_node::{Config, Node};
 use sqlite_disk::{Disk, Files};
@@ -40,6 +47,7 @@ pub fn begin<D: Disk + Drop>(
     ensures head { IfOk result (λ j. IsHeadOf setup.now.config setup.now.me j.head) }
     ensures empty { IfOk result (λ j. IsTrue (D.Disk.is_clean j.disk) → j.batches ≡ []) }
     ensures blank { IfOk result (λ j. IsTrue (D.Disk.is_clean j.disk) → IsBlank (D.Disk.seen files.db)) }
+    ensures why { IfErr result (IsNotMade D.Disk.seen D.Disk.faults D.Disk.is_clean D.Disk.is_mixing files) }
 {
     let head = head_of(alloc, &setup.config, setup.me)?;
     match Journal::begin(alloc, files, &setup.own_key(), head) {
@@ -68,11 +76,16 @@ pub fn restored<L: Ledger, D: Disk + Drop>(
     requires me { me < config.roles.sizes.nodes }
     requires beside { IsTrue (D.Disk.is_usable files.log) }
     requires usable { IsTrue (D.Disk.is_usable files.db) }
+    ensures node { IfOk result (λ r. r.0.kept.held.node ≡
+        record (new_node config me) { history = r.0.kept.held.node.history }) }
+    ensures legal { IfOk result (λ r. IsLegalNode r.0.kept.held.node) }
     ensures stands { IfOk result (λ r. IsTrue (D.Disk.is_clean r.0.kept.disk) → StandsFor key.now
-        r.0.kept.held.node.config r.0.kept.held.node.me (D.Disk.seen files.db) r.0.kept.held.node.history) }
+        config me (D.Disk.seen files.db) r.0.kept.held.node.history) }
     ensures synced { IfOk result (λ r. r.0.kept.synced ≡ end_of r.0.kept.held) }
     ensures key { IfOk result (λ r. r.0.kept.key ≡ key.now) }
     ensures crash { IfOk result (λ r. Survives D.Disk.may_leave D.Disk.is_clean r.0.kept) }
+    ensures why { IfErr result (IsNotRestored D.Disk.seen D.Disk.faults D.Disk.is_clean D.Disk.is_mixing key.now
+        config me files) }
 {
     let (locked, mut seat, mut others) = fresh(alloc, blank, seats, config, me)?;
     match Kept::restore(alloc, locked, &mut seat, key, files) {
@@ -82,9 +95,18 @@ pub fn restored<L: Ledger, D: Disk + Drop>(
             }
             Ok((Journaled { kept }, others))
         }
-        Err(Unrestored::Unopened { fault, .. }) => Err(KeptFault::Journal(fault)),
-        Err(Unrestored::Illegal { .. }) => Err(KeptFault::Illegal),
-        Err(Unrestored::Memory { .. }) => Err(KeptFault::Journal(JournalFault::Memory)),
+        Err(unrestored) => Err(fault_in(unrestored)),
+    }
+}
+
+/// Why a node was not restored, without what was handed back.
+fn fault_in<D: Disk + Drop>(unrestored: Unrestored<D>) -> KeptFault
+    ensures { result ≡ refusals.fault_in unrestored }
+{
+    match unrestored {
+        Unrestored::Unopened { fault, .. } => KeptFault::Journal(fault),
+        Unrestored::Illegal { .. } => KeptFault::Illegal,
+        Unrestored::Memory { .. } => KeptFault::Journal(JournalFault::Memory),
     }
 }
 
@@ -104,16 +126,15 @@ fn fresh<L: Ledger>(
     requires parts { (blank.parts ≡ L.parts) × (seats ≡ L.parts) }
     requires seats { (0 < seats) × (seats ≤ most_seats) }
     requires me { me < config.roles.sizes.nodes }
-    ensures new { IfOk result (λ r. r.0.node.history ≡ []) }
+    ensures node { IfOk result (λ r. r.0.node ≡ new_node config me) }
     ensures fits { IfOk result (λ r. Fits r.0 r.1) }
 {
     let node = Node::new(alloc, config, me)?;
-    let (shared, mut others) = SharedNode::<L>::new(alloc, blank, node, seats)?;
-    let mut seat = others.pop().ok_or(AllocError)?;
-    match new_locked(shared, &mut seat) {
-        Ok(locked) => Ok((locked, seat, others)),
-        Err(NotNew) => Err(AllocError),
-    }
+    let (locked, mut others) = unshared::<L>(alloc, blank, node, seats)?;
+    let Some(seat) = others.pop() else {
+        return Err(AllocError);
+    };
+    Ok((locked, seat, others))
 }
 
 /// What a journal is.
@@ -146,6 +167,10 @@ pub fn look<D: Disk + Drop>(
     requires me { me < config.roles.sizes.nodes }
     requires beside { IsTrue (D.Disk.is_usable files.old.log) }
     requires usable { IsTrue (D.Disk.is_usable files.old.db) }
+    ensures sight { IfOk result (λ s. IsTrue (D.Disk.is_clean files.new.db) →
+        IsSeen key.now config me (D.Disk.seen files.old.db) s) }
+    ensures why { IfErr result (IsNotRestored D.Disk.seen D.Disk.faults D.Disk.is_clean D.Disk.is_mixing key.now
+        config me files.old) }
     ensures seen { D.Disk.seen files.new.db ≡ D.Disk.seen files.old.db }
     ensures crash { (c : List ℕ) → D.Disk.may_leave files.new.db c → D.Disk.may_leave files.old.db c }
 {
@@ -169,6 +194,10 @@ fn look_at<L: Ledger, D: Disk + Drop>(
     requires me { me < config.roles.sizes.nodes }
     requires beside { IsTrue (D.Disk.is_usable files.old.log) }
     requires usable { IsTrue (D.Disk.is_usable files.old.db) }
+    ensures sight { IfOk result (λ s. IsTrue (D.Disk.is_clean files.new.db) →
+        IsSeen key.now config me (D.Disk.seen files.old.db) s) }
+    ensures why { IfErr result (IsNotRestored D.Disk.seen D.Disk.faults D.Disk.is_clean D.Disk.is_mixing key.now
+        config me files.old) }
     ensures seen { D.Disk.seen files.new.db ≡ D.Disk.seen files.old.db }
     ensures crash { (c : List ℕ) → D.Disk.may_leave files.new.db c → D.Disk.may_leave files.old.db c }
 {
@@ -203,12 +232,24 @@ fn has_bytes<D: Disk>(
 ) -> Result<bool, JournalFault>
     requires usable { IsTrue (D.Disk.is_usable file.old) }
     requires order { from ≤ to }
+    ensures byte { IfOk result (λ b. IsTrue (D.Disk.is_clean file.new) →
+        (IsTrue b ↔ HasByte (D.Disk.seen file.old) from to)) }
+    ensures why { IfErr result (λ e. (e ≡ fault.Memory) ⊎ ((e ≡ fault.Device) × ((IsTrue (D.Disk.is_clean file.old) →
+        to ≤ length (D.Disk.seen file.old)) → MoreFaults (D.Disk.faults file.old) (D.Disk.faults file.new)))) }
+    ensures clean { IsTrue (D.Disk.is_clean file.new) → IsTrue (D.Disk.is_clean file.old) }
     ensures seen { D.Disk.seen file.new ≡ D.Disk.seen file.old }
     ensures crash { (c : List ℕ) → D.Disk.may_leave file.new c → D.Disk.may_leave file.old c }
 {
     let mut bytes = Vec::from_elem(alloc, 0u8, to - from)?;
     match file.read_at(from, bytes.as_mut_slice()) {
-        Ok(()) => Ok(bytes.iter().any(|byte| *byte != 0)),
+        Ok(()) => Ok(has_byte(&bytes)),
         Err(_) => Err(JournalFault::Device),
     }
+}
+
+/// Whether a byte is not 0.
+fn has_byte(bytes: &[u8]) -> bool
+    ensures { result ≡ list_any (λ byte. not (byte == 0)) bytes.now }
+{
+    bytes.iter().any(|byte| *byte != 0)
 }

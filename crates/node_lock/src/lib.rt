@@ -29,5 +29,5 @@ pub use pool::{MOST_CALLS, run_pool};
 pub use receipt::{Call, Outcome, Receipt};
 pub use report::{Cause, PoolFault, PoolReport};
 pub use seat::{MOST_SEATS, Seat};
-pub use shared::{CloseFault, SharedNode, close};
+pub use shared::{CloseFault, SharedNode, close, unshared};
 pub use view::View;

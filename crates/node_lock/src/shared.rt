@@ -11,7 +11,7 @@ use std::alloc::{AllocError, Global};
 use std::error::Error;
 use std::fmt;
 use std::sync::Mutex;
-use std::sync::ledger::{Blank, Book, Ledger, Share};
+use std::sync::ledger::{Blank, Ledger, Share};
 
 /// A node that threads share. A caller locks the `Mutex` and calls [`Locked::step`], [`Locked::ask`] or
 /// [`Locked::hold`] with its seat.
@@ -73,20 +73,38 @@ impl<L: Ledger> SharedNode<L> {
         ensures seats { IfOk result (λ made. made.1.items ≡ new_seats seats) }
         ensures count { IfOk result (λ made. vec_len made.1 ≡ seats) }
     {
-        let (book, all) = blank.open::<L>();
-        let made = make_seats(alloc, all, seats)?;
-        Ok((SharedNode::over(alloc, node, book, seats), made))
+        let (locked, made) = unshared::<L>(alloc, blank, node, seats)?;
+        Ok((
+            SharedNode {
+                node: Mutex::new(locked),
+            },
+            made,
+        ))
     }
+}
 
-    /// The lock over a node that has recorded nothing.
-    fn over(alloc: Global, node: Node, book: Book<L>, seats: u8) -> SharedNode<L>
-        requires empty { node.history ≡ [] }
-        requires total { book.total ≡ 0 }
-        requires seats { (seats ≡ L.parts) × (0 < seats) }
-    {
-        let node = Mutex::new(Locked::new(alloc, node, book, seats));
-        SharedNode { node }
-    }
+/// What [`SharedNode::new`] puts behind the lock, before it is behind one, and its seats.
+///
+/// # Errors
+///
+/// Only for want of memory.
+pub fn unshared<L: Ledger>(
+    alloc: Global,
+    blank: Blank,
+    node: Node,
+    seats: u8,
+) -> Result<(Locked<L>, Vec<Seat<L>>), AllocError>
+    requires name { blank.name ≡ L.name }
+    requires parts { (blank.parts ≡ L.parts) × (seats ≡ L.parts) }
+    requires seats { (0 < seats) × (seats ≤ most_seats) }
+    requires empty { node.history ≡ [] }
+    ensures held { IfOk result (λ made. made.0 ≡ record { node = node; seats = [] }) }
+    ensures seats { IfOk result (λ made. made.1.items ≡ new_seats seats) }
+    ensures count { IfOk result (λ made. vec_len made.1 ≡ seats) }
+{
+    let (book, all) = blank.open::<L>();
+    let made = make_seats(alloc, all, seats)?;
+    Ok((Locked::new(alloc, node, book, seats), made))
 }
 
 /// So many new seats, numbered from 0, each with a part of the share.

@@ -1,6 +1,7 @@
 pub mod Answers
 pub mod Counts
 pub mod Heard
+pub mod Holds
 pub mod Sent
 pub mod Served
 pub mod Told

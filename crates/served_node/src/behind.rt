@@ -1,7 +1,7 @@
 //! What is behind a serving node's lock.
 
 ghost use Rattle.std.specs.Prelude.{◌≡◌, ◌≤◌, ◌↔◌, ◌<◌, Bool, false, IsTrue, IfOk, IfErr, IfSome, OnOk, OnErr, OnSome};
-ghost use Rattle.std.specs.Prelude.{◌⊎◌, option_map, Some, IsSome, true, map};
+ghost use Rattle.std.specs.Prelude.{◌⊎◌, ℕ, option_map, Some, IfNone, IsOk, IsSome, true, map};
 ghost use Rattle.std.specs.Option.{option_copied};
 ghost use Rattle.node_lock.specs.Holds.{end_of, Held};
 ghost use Rattle.node_lock.specs.Receipts.{outcome_due};
@@ -11,6 +11,7 @@ ghost use Rattle.peer_windows.specs.Looks.{AreLookedAt};
 ghost use Rattle.peer_windows.specs.Owed.{IsGathered, IsGatherFault, is_full as is_full_of};
 ghost use Rattle.peer_windows.specs.Owners.{next_probe};
 ghost use Rattle.peer_windows.specs.Pauses.{most_time};
+ghost use Rattle.served_node.specs.Holds.{IsNotHeld};
 ghost use Rattle.served_node.specs.Served.{own_packet};
 ghost use Rattle.served_node.specs.declared.said.Said.{Said};
 
@@ -29,8 +30,8 @@ pub struct NotKept;
 /// What is behind a serving node's lock: a node of which holds are made, which keeps what they record, and releases
 /// what they said once that is kept. So a server tells nobody what a crash could take back.
 ///
-/// Contracts see the node with the seat beside each event (`held`), what a hold said (`said`), and whether that may
-/// leave (`may_leave`).
+/// Contracts see the node with the seat beside each event (`held`), what a hold said (`said`), of how many events that
+/// speaks (`speaks_of`), and whether it may leave (`may_leave`).
 pub trait HeldNode {
     /// Of which ledger the node's seats are.
     type Ledger: Ledger + Send + Sync;
@@ -46,7 +47,12 @@ pub trait HeldNode {
     /// All that was recorded is kept.
     ghost is_kept: { Self → Type 0 };
 
+    /// Nothing more can be kept: what was to keep it has failed, or has no room.
+    ghost has_failed: { Self → Type 0 };
+
     ghost said: { Self.Untold → Said };
+
+    ghost speaks_of: { Self.Untold → ℕ };
 
     ghost may_leave: { Self → Self.Untold → Type 0 };
 
@@ -78,6 +84,7 @@ pub trait HeldNode {
         requires room { is_full self.old ≡ false }
         ensures outcome { IfOk result (λ u. (said u).outcome ≡ option_map (outcome_due (held self.old).node) call) }
         ensures view { IfOk result (λ u. (said u).view ≡ view_of (held self.new) owner place) }
+        ensures at { IfOk result (λ u. speaks_of u ≡ end_of (held self.new)) }
         ensures held { OnOk result (held self.new ≡ held_after_hold (held self.old) seat.old call) }
         ensures seat { OnOk result (seat.new ≡ seat_after_hold (held self.old) seat.old call) }
         ensures err { IfErr result (IsHoldFault (held self.old) seat.old call) }
@@ -95,21 +102,24 @@ pub trait HeldNode {
     /// It could not be kept. The server ends, and releases nothing more.
     fn sync(&mut self) -> Result<(), NotKept>
         ensures kept { OnOk result
-            ((u : Self.Untold) → (said u).view.at ≤ end_of (held self.new) → may_leave self.new u) }
+            ((u : Self.Untold) → speaks_of u ≤ end_of (held self.new) → may_leave self.new u) }
         ensures all { OnOk result (is_kept self.new) }
+        ensures err { OnErr result (has_failed self.new) }
+        ensures nothing { is_kept self.old → IsOk result }
         ensures same { held self.new ≡ held self.old };
 
     /// The node, where all that was recorded is kept; then what holds said until now may leave.
     fn kept(&self) -> Option<&Node>
         ensures node { IfSome result (λ node. node.now ≡ (held self.now).node) }
         ensures kept { OnSome result
-            ((u : Self.Untold) → (said u).view.at ≤ end_of (held self.now) → may_leave self.now u) }
+            ((u : Self.Untold) → speaks_of u ≤ end_of (held self.now) → may_leave self.now u) }
         ensures some { is_kept self.now → IsSome result };
 
     /// What a hold said, if that may leave.
     fn release(&self, untold: Self::Untold) -> Option<Said>
         ensures value { IfSome result (λ s. s ≡ said untold) }
-        ensures kept { OnSome result (may_leave self.now untold) };
+        ensures kept { OnSome result (may_leave self.now untold) }
+        ensures some { may_leave self.now untold → IsSome result };
 
     /// Notes in the pairs what the node answered to a packet, or to what else has none, as [`Pairs::note`] does.
     fn note(
@@ -157,8 +167,8 @@ pub fn taken_packet(call: &Call) -> Option<Packet> {
     }
 }
 
-/// Makes the call by one hold, and reads how far the node's own stream reaches; nothing for want of memory, and where
-/// the seat does not fit the node.
+/// Makes the call by one hold, and reads how far the node's own stream reaches; nothing for want of memory, where the
+/// seat does not fit the node, and where a sync has to come first.
 pub fn make_call<N: HeldNode>(
     node: &mut N,
     seat: &mut Seat<N::Ledger>,
@@ -167,7 +177,10 @@ pub fn make_call<N: HeldNode>(
 ) -> Option<N::Untold>
     ensures outcome { IfSome result (λ u. (N.said u).outcome ≡ Some (outcome_due (N.held node.old).node call)) }
     ensures view { IfSome result (λ u. (N.said u).view ≡ view_of (N.held node.new) me 0) }
+    ensures at { IfSome result (λ u. N.speaks_of u ≡ end_of (N.held node.new)) }
     ensures held { IfSome result (λ u. N.held node.new ≡ held_after_hold (N.held node.old) seat.old (Some call)) }
+    ensures none { IfNone result (IsNotHeld (N.held node.old) (N.is_full node.old) seat.old me call) }
+    ensures same { IfNone result (N.held node.new ≡ N.held node.old) }
 {
     if node.has(me) && !node.must_sync() {
         node.hold(seat, Some(call), me, 0).ok()
@@ -190,7 +203,11 @@ impl<L: Ledger + Send + Sync> HeldNode for Locked<L> {
 
     ghost is_kept = { λ _. ⊤ };
 
+    ghost has_failed = { λ _. ⊥ };
+
     ghost said = { λ u. u };
+
+    ghost speaks_of = { λ u. u.view.at };
 
     ghost may_leave = { λ _ _. ⊤ };
 

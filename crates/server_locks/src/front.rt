@@ -1,11 +1,12 @@
 //! What comes before the inbox, and what is sent to single peers.
 
 ghost use Rattle.std.specs.Prelude.{◌≡◌, ◌+◌, ◌≤◌, ◌<◌, ◌||◌, nat_le, ◌++◌, ◌∷◌, [], None, false, true, is_some};
-ghost use Rattle.std.specs.Prelude.{vec_len};
+ghost use Rattle.std.specs.Prelude.{◌↔◌, IsFalse, vec_len};
 ghost use Rattle.std.specs.Vec.{vec_capacity};
 ghost use Rattle.peer_windows.specs.Owners.{next_due};
 ghost use Rattle.peer_windows.specs.Pauses.{most_time};
 ghost use Rattle.served_node.specs.Served.{grows};
+ghost use Rattle.server_locks.specs.NextJobs.{IsNextJob};
 
 use crate::job_queue::JobQueue;
 use crate::outbox::Outbox;
@@ -95,6 +96,8 @@ impl<U: Drop> Front<U> {
     /// the inbox.
     pub fn next_job<R: Wait>(&mut self, rt: &R, queue: &mut JobQueue<'_>) -> Option<Job>
         ensures own { self.new.first.own ≡ None }
+        ensures next { IsNextJob self.old.first self.new.first self.old.again.items self.new.again.items
+            queue.old.pass queue.new.pass result }
         ensures same { self.new ≡ record self.old { first = self.new.first; again = self.new.again } }
     {
         let mut packet = self.first.next();
@@ -143,7 +146,9 @@ impl<U: Drop> Front<U> {
     }
 
     /// Whether the node sends something to itself once more.
-    pub fn owes_itself(&self) -> bool {
+    pub fn owes_itself(&self) -> bool
+        ensures { IsFalse result ↔ (self.now.again.items ≡ []) }
+    {
         !self.again.is_empty()
     }
 

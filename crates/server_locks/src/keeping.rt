@@ -1,6 +1,6 @@
 //! Keeping what was recorded, and how long that takes.
 
-ghost use Rattle.std.specs.Prelude.{◌≡◌, ◌≤◌, OnOk};
+ghost use Rattle.std.specs.Prelude.{◌≡◌, ◌≤◌, IsOk, OnOk, OnErr};
 ghost use Rattle.node_lock.specs.Holds.{end_of};
 
 use served_node::{HeldNode, NotKept, SyncTally, micros};
@@ -11,14 +11,17 @@ use std::time::Clock;
 ///
 /// # Errors
 ///
-/// It could not be kept.
+/// It could not be kept. Where all is kept already it never fails.
 pub fn keep<N: HeldNode, R: Wait + Clock>(
     rt: &R,
     syncs: &Mutex<SyncTally>,
     node: &mut N,
 ) -> Result<(), NotKept>
     ensures kept { OnOk result
-        ((u : N.Untold) → (N.said u).view.at ≤ end_of (N.held node.new) → N.may_leave node.new u) }
+        ((u : N.Untold) → N.speaks_of u ≤ end_of (N.held node.new) → N.may_leave node.new u) }
+    ensures all { OnOk result (N.is_kept node.new) }
+    ensures err { OnErr result (N.has_failed node.new) }
+    ensures nothing { N.is_kept node.old → IsOk result }
     ensures same { N.held node.new ≡ N.held node.old }
 {
     if !N::may_sync_long() || node.kept().is_some() {
