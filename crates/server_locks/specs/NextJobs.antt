@@ -1,5 +1,5 @@
 -- Which job comes next: of a packet that comes first, of one that the node sends to itself once more, or of the inbox.
-use Rattle.std.specs.Prelude.{◌≡◌, List, [], ◌∷◌, ◌++◌, Option, None, Some, MatchOption}
+use Rattle.std.specs.Prelude.{◌≡◌, List, [], ◌∷◌, Option, None, Some, MatchOption}
 use Rattle.link_frames.specs.frames.Packets.{PacketValue}
 use Rattle.node_lock.specs.Inboxes.{Passing, after_take}
 use Rattle.node_lock.specs.declared.job.Job.{Job}
@@ -26,8 +26,8 @@ IsBehindFirst [] again before after job =
 IsBehindFirst (p ∷ rest) again before after job = (again ≡ rest) × (after ≡ before) × (job ≡ Some (packet_job p))
 
 -- the next job; every other packet and job stays where it was
-pub record IsNextJob (old_first new_first : FirstValue) (old_again new_again : List PacketValue) (before after : Passing)
-    (job : Option Job) : Type 0 where
+pub record IsNextJob (old_first new_first : FirstValue) (old_again new_again : List PacketValue)
+    (before after : Passing) (job : Option Job) : Type 0 where
   pub packet : Option PacketValue
   pub taken : IsFirst old_first new_first packet
   pub job_is : MatchOption packet (IsBehindFirst old_again new_again before after job)
