@@ -209,14 +209,28 @@ def tries_at(port):
             if (to, state) == (f"0100007F:{port:04X}", SYN_SENT)}
 
 
+def only_connection(listener):
+    """The one connection that the kernel keeps for who listens with no backlog. The node may have come first: its
+    connection is closed then, as often as that happens."""
+    while True:
+        one = socket.socket()
+        one.settimeout(0.5)
+        try:
+            one.connect(listener.getsockname())
+            return one
+        except socket.timeout:
+            one.close()
+            listener.accept()[0].close()
+
+
 def dial_that_nobody_takes():
     """A peer at whose port nobody takes a connection, as behind a firewall that drops"""
-    with Cluster(PROGRAM, 4, 1, running=[0]) as cluster, socket.socket() as listener, socket.socket() as filler:
+    with Cluster(PROGRAM, 4, 1, running=[0]) as cluster, socket.socket() as listener:
         Client(cluster.clients[0]).ask(op="assign", user=7, role=2)
         listener.setsockopt(socket.SOL_SOCKET, socket.SO_REUSEADDR, 1)
         listener.bind(("127.0.0.1", cluster.nodes[1]))
         listener.listen(0)
-        filler.connect(("127.0.0.1", cluster.nodes[1]))  # the one that the kernel keeps for who listens so
+        filler = only_connection(listener)
         seen = set()
         wait_until(lambda: seen.update(tries_at(cluster.nodes[1])) or seen, "no connection is tried")
         begin = time.time()
