@@ -1,5 +1,6 @@
 -- The answers to the lines of a client, and of an operator.
-use Rattle.std.specs.Prelude.{ℕ, ◌≡◌, List, [], length, slice_get, Option, None, Some, IfSome}
+use Rattle.std.specs.Prelude.{ℕ, ◌≡◌, ◌≤◌, List, [], length, take, slice_get, All, Option, None, Some, IfSome}
+use Rattle.std.specs.Prelude.{IsTrue, is_some}
 use Rattle.std.specs.List.{flat_map}
 use Rattle.link_frames.specs.lines.Lines.{ended}
 use Rattle.client_lines.specs.AnswerTexts.{answer_text, IsWritten}
@@ -20,6 +21,11 @@ line_due (Some answer) = ended (answer_text answer)
 -- the lines that a client reads, one after the other
 abbrev pub lines_due : List (Option ClientAnswer) → List ℕ
 lines_due answers = flat_map line_due answers
+
+-- each of so many lines, the first, has an answer
+pub record AreAnswered (lines : ℕ) (answers : List (Option ClientAnswer)) : Type 0 where
+  pub many : lines ≤ length answers
+  pub each : All (λ a. IsTrue (is_some a)) (take lines answers)
 
 -- an answer that can be written, if there is one
 abbrev pub IsWrittenIfAny : Option ClientAnswer → Type 0

@@ -4,7 +4,7 @@ ghost use Rattle.std.specs.Prelude.{◌≡◌, ◌++◌, None, replicate, take, 
 ghost use Rattle.std.specs.Prelude.{OnOk};
 ghost use Rattle.frame_queues.specs.Callers.{client_numbers};
 ghost use Rattle.served_node.specs.Served.{served_said};
-ghost use Rattle.served_node.specs.Told.{lines_due, IsWrittenIfAny};
+ghost use Rattle.served_node.specs.Told.{lines_due, AreAnswered, IsWrittenIfAny};
 
 use crate::answers::hold_answer;
 use crate::said::Said;
@@ -62,6 +62,7 @@ impl Told {
     /// One of them has no answer, or finds no room. Those before it are held.
     pub fn hold_answers(&self, alloc: Global, held: &mut Held, lines: u32) -> Result<(), AllocError>
         ensures held { OnOk result (held.new ≡ held.old ++ lines_due (take lines self.now)) }
+        ensures all { OnOk result (AreAnswered lines self.now) }
     {
         let Some(answers) = self.answers.get(..lines as usize) else {
             return Err(AllocError);
