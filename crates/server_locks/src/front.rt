@@ -1,18 +1,21 @@
 //! What comes before the inbox, and what is sent to single peers.
 
 ghost use Rattle.std.specs.Prelude.{◌≡◌, ◌+◌, ◌≤◌, ◌<◌, ◌||◌, nat_le, ◌++◌, ◌∷◌, [], None, false, true, is_some};
-ghost use Rattle.std.specs.Prelude.{◌↔◌, IsFalse, vec_len};
+ghost use Rattle.std.specs.Prelude.{◌↔◌, IsFalse, IsOk, IfOk, IfErr, OnOk, replicate, vec_len};
 ghost use Rattle.std.specs.Vec.{vec_capacity};
-ghost use Rattle.peer_windows.specs.Owners.{next_due};
-ghost use Rattle.peer_windows.specs.Pauses.{most_time};
+ghost use Rattle.peer_windows.specs.Owed.{IsGathered, IsGatherFault};
+ghost use Rattle.peer_windows.specs.Owners.{next_due, pairs_at_first};
+ghost use Rattle.peer_windows.specs.Pauses.{most_time, never};
+ghost use Rattle.served_node.specs.Sent as sent;
 ghost use Rattle.served_node.specs.Served.{grows};
+ghost use Rattle.server_locks.specs.Fronts.{all_connected, is_due, own_packets, owed_behind, AreKept, AreSeen};
 ghost use Rattle.server_locks.specs.NextJobs.{IsNextJob};
 
 use crate::job_queue::JobQueue;
 use crate::outbox::Outbox;
 use frame_queues::{Caller, FirstPackets};
 use link_frames::{Message, Packet};
-use node_lock::{Call, Job, Outcome, Seat};
+use node_lock::{Call, Job, Outcome, Seat, StepFault};
 use owner_streams::WINDOW;
 use peer_windows::{ENOUGH_ROOM, NEVER, Owed, Pairs, Share};
 use quorum_sizes::{NodeName, Sizes};
@@ -78,6 +81,16 @@ impl<U: Drop> Front<U> {
         now: u64,
     ) -> Result<Front<U>, AllocError>
         requires { now ≤ most_time }
+        ensures first { IfOk result (λ f. f.first
+            ≡ record { own = None; due = None; parked = replicate sizes.nodes (replicate sizes.nodes []) }) }
+        ensures again { IfOk result (λ f. f.again.items ≡ []) }
+        ensures pairs { IfOk result (λ f. f.pairs ≡ pairs_at_first now sizes.nodes me) }
+        ensures grown { IfOk result (λ f. f.has_grown ≡ false) }
+        ensures connected { IfOk result (λ f. f.connected.items ≡ []) }
+        ensures untold { IfOk result (λ f. f.untold.items ≡ []) }
+        ensures room { IfOk result (λ f. most ≤ vec_capacity f.untold) }
+        ensures tell_by { IfOk result (λ f. f.tell_by ≡ never) }
+        ensures me { IfOk result (λ f. f.me ≡ me) }
     {
         Ok(Front {
             first: FirstPackets::new(alloc, sizes.n())?,
@@ -179,6 +192,11 @@ impl<U: Drop> Front<U> {
     }
 
     /// Gathers what is due now to single peers. What the node owes itself comes before the inbox.
+    ///
+    /// # Errors
+    ///
+    /// As [`HeldNode::gather`], and for want of memory: some of what the node owes itself is lost, as on any network.
+    /// What was gathered before is there.
     pub fn gather<N: HeldNode, R: Wait>(
         &mut self,
         rt: &R,
@@ -188,30 +206,52 @@ impl<U: Drop> Front<U> {
         seat: &mut Seat<N::Ledger>,
         now: u64,
         owed: &mut Owed,
-    )
+    ) -> Result<(), StepFault>
         requires { now ≤ most_time }
+        ensures node { N.held node.new ≡ N.held node.old }
+        ensures owed { IsGathered (N.held node.old) owed.old owed.new }
+        ensures due { is_due now (all_connected now self.old.connected.items self.old.pairs) ≡ true →
+            N.is_kept node.old → OnOk result (AreSeen (N.held node.old) now owed.new
+            (all_connected now self.old.connected.items self.old.pairs) self.new.pairs) }
+        ensures later { is_due now (all_connected now self.old.connected.items self.old.pairs) ≡ false →
+            IsOk result × (owed.new ≡ owed.old)
+            × (self.new.pairs ≡ all_connected now self.old.connected.items self.old.pairs) }
+        ensures own { OnOk result (self.new.again.items ≡ self.old.again.items
+            ++ own_packets self.old.me (owed_behind self.old.me owed.old owed.new)) }
+        ensures kept { AreKept self.old.me (owed_behind self.old.me owed.old owed.new) self.old.again.items
+            self.new.again.items }
+        ensures fault { IfErr result (IsGatherFault (N.held node.old) seat.old) }
+        ensures connected { self.new.connected.items ≡ [] }
+        ensures same { self.new ≡ record self.old {
+          again = self.new.again;
+          pairs = self.new.pairs;
+          connected = self.new.connected;
+          rooms = self.new.rooms;
+        } }
     {
-        for peer in self.connected.drain(..) {
-            self.pairs.connected(now, peer);
+        connect_all(&mut self.pairs, now, &self.connected);
+        self.connected.clear();
+        if self.pairs.next_due() > now {
+            return Ok(());
         }
-        if self.pairs.next_due() <= now {
-            self.look_at_rooms(rt, outboxes, owed);
-            let (shares, messages) = (owed.shares().len(), owed.messages().len());
-            // what was gathered before a fault is sent
-            let _ = node.gather(seat, now, &mut self.pairs, &mut self.rooms, owed);
-            if let (Some(shares), Some(messages)) = (
-                owed.shares().get(shares..),
-                owed.messages().get(messages..),
-            ) {
-                // without memory it is lost, as on any network
-                let _ = self.keep_own(alloc, shares, messages);
-            }
+        self.look_at_rooms(rt, outboxes, owed);
+        let (shares, messages) = (owed.shares().len(), owed.messages().len());
+        let gathered = node.gather(seat, now, &mut self.pairs, &mut self.rooms, owed);
+        match self.keep_own(
+            alloc,
+            &owed.shares()[shares..],
+            &owed.messages()[messages..],
+        ) {
+            Ok(()) => gathered,
+            Err(_) => Err(StepFault::Memory),
         }
     }
 
     /// How many frames each node takes, beside those that are owed to it already. The node itself takes some where it
     /// has taken all before.
-    fn look_at_rooms<R: Wait>(&mut self, rt: &R, outboxes: &[Outbox], owed: &Owed) {
+    fn look_at_rooms<R: Wait>(&mut self, rt: &R, outboxes: &[Outbox], owed: &Owed)
+        ensures { self.new ≡ record self.old { rooms = self.new.rooms } }
+    {
         self.rooms.fill(None);
         for outbox in outboxes {
             if let Some(room) = self.rooms.get_mut(usize::from(outbox.to.index())) {
@@ -238,12 +278,45 @@ impl<U: Drop> Front<U> {
         alloc: Global,
         shares: &[Share],
         messages: &[Message],
-    ) -> Result<(), AllocError> {
-        for message in owed_to(alloc, self.me, shares, messages)? {
-            if let Some(packet) = Packet::new(self.me, self.me, message) {
-                self.again.push_back(packet)?;
-            }
-        }
-        Ok(())
+    ) -> Result<(), AllocError>
+        ensures own { OnOk result (self.new.again.items ≡ self.old.again.items
+            ++ own_packets self.old.me (sent.owed_to self.old.me shares.now messages.now)) }
+        ensures kept { AreKept self.old.me (sent.owed_to self.old.me shares.now messages.now) self.old.again.items
+            self.new.again.items }
+        ensures same { self.new ≡ record self.old { again = self.new.again } }
+    {
+        let own = owed_to(alloc, self.me, shares, messages)?;
+        push_own(&mut self.again, self.me, &own)
     }
+}
+
+/// There is a new connection to each of these peers.
+fn connect_all(pairs: &mut Pairs, now: u64, peers: &[NodeName])
+    requires { now ≤ most_time }
+    ensures { pairs.new ≡ all_connected now peers.now pairs.old }
+{
+    for peer in peers {
+        pairs.connected(now, *peer);
+    }
+}
+
+/// Puts the packets of messages from a node to itself behind those that are there.
+///
+/// # Errors
+///
+/// Only for want of memory. Some of them are there.
+fn push_own(
+    again: &mut VecDeque<Packet>,
+    me: NodeName,
+    messages: &[Message],
+) -> Result<(), AllocError>
+    ensures own { OnOk result (again.new.items ≡ again.old.items ++ own_packets me messages.now) }
+    ensures kept { AreKept me messages.now again.old.items again.new.items }
+{
+    for message in messages {
+        if let Some(packet) = Packet::new(me, me, *message) {
+            again.push_back(packet)?;
+        }
+    }
+    Ok(())
 }

@@ -1,6 +1,7 @@
 //! The way of jobs into the inbox and out of it.
 
-ghost use Rattle.std.specs.Prelude.{◌≡◌, ◌++◌, ◌-◌, ◌^◌, All, IsTrue, IsFalse, OnOk, OnErr, OnSome, IfSome, MatchOption, length, min};
+ghost use Rattle.std.specs.Prelude.{◌≡◌, ◌++◌, ◌-◌, ◌^◌, All, IsTrue, IsFalse, OnOk, OnErr, OnSome, IfOk, IfSome};
+ghost use Rattle.std.specs.Prelude.{MatchOption, length, min, vec_len};
 ghost use Rattle.node_lock.specs.Inboxes.{IsPassTo, IsNewPassTo, after_put, after_take};
 ghost use Rattle.server_locks.specs.Jobs.{own_jobs, peer_job};
 
@@ -119,12 +120,17 @@ impl<'a> JobQueue<'a> {
 }
 
 /// A queue for each pass.
+///
+/// # Errors
+///
+/// Only for want of memory.
 pub fn job_queues<'a>(
     alloc: Global,
     inbox: &'a Inbox,
     mut passes: Vec<InboxPass>,
 ) -> Result<Vec<JobQueue<'a>>, AllocError>
     requires { All (IsNewPassTo inbox.now) passes.items }
+    ensures { IfOk result (λ made. vec_len made ≡ length passes.items) }
 {
     let mut made = Vec::new(alloc);
     while let Some(pass) = passes.pop() {

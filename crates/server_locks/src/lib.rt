@@ -2,8 +2,9 @@
 //! client's slot, and turns at the node; and what one thread has: its way into the inbox, what comes before the inbox,
 //! a client's stream.
 //!
-//! `specs/Counts.antt` says which frames are lost and when a connection is given up, `Jobs.antt` which jobs are put,
-//! `Turns.antt` whose turn is next.
+//! `specs/Counts.antt` says how many frames are lost and when a connection is given up, `Lines.antt` what else becomes
+//! of frames and of a connection, `Jobs.antt` which jobs are put, `NextJobs.antt` which comes next, `Fronts.antt` what is
+//! gathered for single peers, `Turns.antt` whose turn is next, `Requests.antt` what is no client's line.
 #![tactic(auto)]
 
 mod client_stream;

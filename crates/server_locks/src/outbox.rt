@@ -1,8 +1,9 @@
 //! Frames that wait for a peer, and the connection over which they go.
 
-ghost use Rattle.std.specs.Prelude.{◌≡◌, ◌≤◌};
+ghost use Rattle.std.specs.Prelude.{◌≡◌, ◌≤◌, ◌-◌, None};
 ghost use Rattle.frame_queues.specs.Unsent.{restarted};
 ghost use Rattle.server_locks.specs.Counts.{lost_of, is_stuck};
+ghost use Rattle.server_locks.specs.Lines.{ArePut, GoesOn, IsLeft, pause_due, next_pause, made_after};
 ghost use Rattle.served_node.specs.Counts.{grown};
 
 use frame_queues::{MOST_FRAMES, UnsentFrames};
@@ -67,6 +68,11 @@ impl Line {
     fn put(&mut self, frames: &[Frame], alone: usize)
         ensures lost { self.new.lost
             ≡ grown self.old.lost (lost_of self.old.unsent.frames frames.now self.new.unsent.frames) }
+        ensures again { self.new.again ≡ grown self.old.again
+            (alone - lost_of self.old.unsent.frames frames.now self.new.unsent.frames) }
+        ensures put { ArePut frames.now self.old.unsent self.new.unsent }
+        ensures same { self.new
+            ≡ record self.old { unsent = self.new.unsent; again = self.new.again; lost = self.new.lost } }
     {
         let waited = MOST_FRAMES - self.unsent.room();
         let _ = self.unsent.push(frames);
@@ -77,7 +83,10 @@ impl Line {
     }
 
     /// Writes until no frame waits, or the connection takes no more or has failed; without one frames wait.
-    fn write(&mut self, now: u64) {
+    fn write(&mut self, now: u64)
+        ensures frames { GoesOn self.old.unsent self.new.unsent }
+        ensures same { self.new ≡ record self.old { unsent = self.new.unsent; full_since = self.new.full_since } }
+    {
         for _ in 0..MOST_WRITES {
             let Link::Open(stream, _) = &self.link else {
                 return;
@@ -104,7 +113,11 @@ impl Line {
     /// There is no connection any more; the next one is made after a pause, twice as long as the one before, unless it
     /// lived for long. A frame of which a part was written is written again over the next.
     fn close(&mut self, now: u64)
-        ensures { self.new.unsent ≡ restarted self.old.unsent }
+        ensures frames { self.new.unsent ≡ restarted self.old.unsent }
+        ensures later { self.new.link ≡ made_after now (pause_due now self.old.link self.old.pause) }
+        ensures pause { self.new.pause ≡ next_pause (pause_due now self.old.link self.old.pause) }
+        ensures waits { self.new.full_since ≡ None }
+        ensures counts { (self.new.again ≡ self.old.again) × (self.new.lost ≡ self.old.lost) }
     {
         if let Link::Open(_, since) = self.link {
             if now.saturating_sub(since) >= LONG_LIFE {
@@ -118,7 +131,10 @@ impl Line {
     }
 
     /// Looks what has come of the connection. Whether it is made now.
-    fn look(&mut self, now: u64) -> bool {
+    fn look(&mut self, now: u64) -> bool
+        ensures frames { IsLeft self.old.unsent self.new.unsent }
+        ensures counts { (self.new.again ≡ self.old.again) × (self.new.lost ≡ self.old.lost) }
+    {
         match mem::replace(&mut self.link, Link::Later(now)) {
             Link::Later(time) => self.link = Link::Later(time),
             Link::Begun(stream, end) => match is_made(&stream) {
@@ -162,7 +178,9 @@ pub struct Outbox {
 
 impl Outbox {
     /// An empty outbox, to which a connection is made at once.
-    pub fn new(alloc: Global, to: NodeName, address: SocketAddr) -> Outbox {
+    pub fn new(alloc: Global, to: NodeName, address: SocketAddr) -> Outbox
+        ensures { result.to ≡ to }
+    {
         Outbox {
             to,
             address,

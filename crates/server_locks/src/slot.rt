@@ -29,6 +29,7 @@ impl SlotState<'_> {
         ensures told { self.new.told ≡ slice_set self.old.told line (option_and_then served_said said) }
         ensures done { self.new.done ≡ min (self.old.done + 1) (2 ^ 32 - 1) }
         ensures wanted { result ≡ nat_le self.old.wanted self.new.done }
+        ensures same { self.new ≡ record self.old { told = self.new.told; done = self.new.done } }
     {
         self.told.tell(line, said);
         self.done = self.done.saturating_add(1);
@@ -40,8 +41,9 @@ impl<'a> SlotState<'a> {
     /// The slot is free once more, if so many jobs are done, all that were put: else one could meet the next
     /// connection.
     fn give_back(&mut self, queue: JobQueue<'a>, put: u32)
-        ensures back { nat_le put self.old.done ≡ true → self.new.queue ≡ Some queue.entry }
-        ensures kept { nat_le put self.old.done ≡ false → self.new.queue ≡ self.old.queue }
+        ensures back { nat_le put self.old.done ≡ true →
+            self.new ≡ record self.old { queue = Some queue.entry; done = 0 } }
+        ensures kept { nat_le put self.old.done ≡ false → self.new ≡ self.old }
     {
         if self.done >= put {
             self.queue = Some(queue);

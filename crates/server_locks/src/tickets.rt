@@ -1,7 +1,7 @@
 //! Turns at the node: who looks comes before who works, and each kind in the order in which threads ask.
 
 ghost use Rattle.std.specs.Prelude.{◌≡◌, true, None, is_some};
-ghost use Rattle.server_locks.specs.Turns.{has_waiting, ticket_taken, called, asked, turn_due, passed_due};
+ghost use Rattle.server_locks.specs.Turns.{has_waiting, ticket_taken, called, asked, next_called, next_ticket};
 
 use std::sync::{Condvar, Mutex, Wait};
 
@@ -31,7 +31,9 @@ pub struct Tickets {
 
 impl Tickets {
     /// No ticket was taken.
-    fn new() -> Tickets {
+    fn new() -> Tickets
+        ensures { result ≡ record { next = 0; first = 0 } }
+    {
         Tickets { next: 0, first: 0 }
     }
 
@@ -77,8 +79,9 @@ pub struct Turns {
 impl Turns {
     /// Takes a ticket. Where nobody has a turn it is this one's.
     fn ask(&mut self, purpose: Purpose) -> Turn
-        ensures waits { is_some self.old.turn ≡ true → self.new.turn ≡ self.old.turn }
-        ensures next { self.old.turn ≡ None → self.new.turn ≡ turn_due (asked self.old purpose) }
+        ensures turn { result ≡ record { purpose = purpose; ticket = next_ticket self.old purpose } }
+        ensures waits { is_some self.old.turn ≡ true → self.new ≡ asked self.old purpose }
+        ensures next { self.old.turn ≡ None → self.new ≡ next_called (asked self.old purpose) }
     {
         let ticket = match purpose {
             Purpose::Look => self.looks.take(),
@@ -92,9 +95,8 @@ impl Turns {
 
     /// The turn has ended, and the next one is called. Whether there is one.
     fn end(&mut self) -> bool
-        ensures turn { self.new.turn ≡ turn_due self.old }
+        ensures called { self.new ≡ next_called self.old }
         ensures next { result ≡ is_some self.new.turn }
-        ensures passed { self.new.passed ≡ passed_due self.old }
     {
         self.call_next();
         self.turn.is_some()
@@ -102,8 +104,7 @@ impl Turns {
 
     /// Calls the first that waits to look, if work does not wait for long already, else the first that waits to work.
     fn call_next(&mut self)
-        ensures turn { self.new.turn ≡ turn_due self.old }
-        ensures passed { self.new.passed ≡ passed_due self.old }
+        ensures { self.new ≡ next_called self.old }
     {
         let works_wait = self.works.has_waiting();
         if self.looks.has_waiting() && !(works_wait && self.passed >= MOST_LOOKS) {
