@@ -13,7 +13,7 @@ use std::{io, thread};
 /// How often the thread looks for bytes before it waits for them.
 const MOST_LOOKS: u32 = 16;
 
-/// Whether bytes begin as an HTTP request does that a page in a browser can have sent to any port, and so as no client's
+/// Whether bytes begin as an HTTP request that a page in a browser can have sent to any port, and so are no client's
 /// line.
 pub fn is_http(bytes: &[u8]) -> bool
     ensures { result ≡ is_http bytes.now }

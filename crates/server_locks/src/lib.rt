@@ -3,8 +3,8 @@
 //! a client's stream.
 //!
 //! `specs/Counts.antt` says how many frames are lost and when a connection is given up, `Lines.antt` what else becomes
-//! of frames and of a connection, `Jobs.antt` which jobs are put, `NextJobs.antt` which comes next, `Fronts.antt` what is
-//! gathered for single peers, `Turns.antt` whose turn is next, `Requests.antt` what is no client's line.
+//! of frames and of a connection, `Jobs.antt` which jobs are put, `NextJobs.antt` which comes next, `Fronts.antt` what
+//! is gathered for single peers, `Turns.antt` whose turn is next, `Requests.antt` what is no client's line.
 #![tactic(auto)]
 
 mod client_stream;
