@@ -10,13 +10,25 @@ use Rattle.kept_node.specs.Restoring.{IsIllegalFile}
 use Rattle.kept_node.specs.declared.fault.Unrestored.{Unrestored}
 use Rattle.kept_node.specs.declared.fault.Unrestored.TheVariants as unrestored
 use Rattle.node_journal.specs.declared.fault.KeptFault.{KeptFault}
-use Rattle.node_journal.specs.declared.fault.KeptFault.TheVariants.{Illegal, Journal}
+use Rattle.node_journal.specs.declared.fault.KeptFault.TheVariants.{Absent, InUse, Illegal, Unopened, Journal}
 
 -- why a node was not restored, without what was handed back
 abbrev pub fault_in : {D : Type 0} → Unrestored D → KeptFault
 fault_in (unrestored.Unopened fault files) = Journal fault
 fault_in (unrestored.Illegal place journal) = Illegal
 fault_in (unrestored.Memory journal) = Journal Memory
+
+-- files are there that are not opened: another process has them, they can't be opened, or memory is wanting
+abbrev pub IsNotOpened : KeptFault → Type 0
+IsNotOpened InUse = ⊤
+IsNotOpened Unopened = ⊤
+IsNotOpened (Journal Memory) = ⊤
+IsNotOpened fault = ⊥
+
+-- files are not there, or not opened
+abbrev pub IsNotThere : KeptFault → Type 0
+IsNotThere Absent = ⊤
+IsNotThere fault = IsNotOpened fault
 
 -- `new` is what the calls of the disk have made of the files
 module _ {D : Type 0} (seen : D → List ℕ) (faults : D → ℕ) (is_clean is_mixing : D → Bool) where

@@ -1,7 +1,10 @@
 //! The file of a journal, and the empty one beside it.
 
-ghost use Rattle.std.specs.Prelude.{IsTrue, IfOk};
+ghost use Rattle.std.specs.Prelude.{◌≡◌, IsTrue, IfOk, IfErr};
 ghost use Rattle.sqlite_std_file.specs.File.{file_is_usable};
+ghost use Rattle.batch_journal.specs.declared.fault.JournalFault.TheVariants.{Memory};
+ghost use Rattle.node_journal.specs.Refusals.{IsNotThere, IsNotOpened};
+ghost use Rattle.node_journal.specs.declared.fault.KeptFault.TheVariants.{Journal};
 
 use crate::fault::KeptFault;
 use batch_journal::JournalFault;
@@ -24,6 +27,7 @@ pub fn open_journal<S: Start>(
 ) -> Result<Files<FileFrom<S>>, KeptFault>
     ensures beside { IfOk result (λ files. IsTrue (file_is_usable S.Start files.log)) }
     ensures usable { IfOk result (λ files. IsTrue (file_is_usable S.Start files.db)) }
+    ensures why { IfErr result IsNotThere }
 {
     match fs::exists(rt, path) {
         Ok(true) => opened(rt, path, start),
@@ -36,7 +40,7 @@ pub fn open_journal<S: Start>(
 ///
 /// # Errors
 ///
-/// As [`open_journal`].
+/// As [`open_journal`], save `Absent`.
 pub fn make_journal<S: Start>(
     rt: &HostRuntime,
     path: &str,
@@ -44,6 +48,7 @@ pub fn make_journal<S: Start>(
 ) -> Result<Files<FileFrom<S>>, KeptFault>
     ensures beside { IfOk result (λ files. IsTrue (file_is_usable S.Start files.log)) }
     ensures usable { IfOk result (λ files. IsTrue (file_is_usable S.Start files.db)) }
+    ensures why { IfErr result IsNotOpened }
 {
     let mut options = OpenOptions::new();
     options.write(true).create_new(true).mode(0o600);
@@ -71,6 +76,7 @@ pub fn open_to_look<S: Start>(
 ) -> Result<(Files<FileFrom<S>>, bool), KeptFault>
     ensures beside { IfOk result (λ r. IsTrue (file_is_usable S.Start r.0.log)) }
     ensures usable { IfOk result (λ r. IsTrue (file_is_usable S.Start r.0.db)) }
+    ensures why { IfErr result IsNotThere }
 {
     let beside = beside(rt, path)?;
     let was_there = match fs::exists(rt, beside.as_str()) {
@@ -88,13 +94,16 @@ pub fn remove_beside(rt: &HostRuntime, path: &str) {
 }
 
 /// The path of the file beside a journal.
-fn beside(rt: &HostRuntime, path: &str) -> Result<String, KeptFault> {
+fn beside(rt: &HostRuntime, path: &str) -> Result<String, KeptFault>
+    ensures { IfErr result (λ fault. fault ≡ Journal Memory) }
+{
     Ok(format!(in rt.alloc(); "{path}-wal")?)
 }
 
 fn opened<S: Start>(rt: &HostRuntime, path: &str, start: S) -> Result<Files<FileFrom<S>>, KeptFault>
     ensures beside { IfOk result (λ files. IsTrue (file_is_usable S.Start files.log)) }
     ensures usable { IfOk result (λ files. IsTrue (file_is_usable S.Start files.db)) }
+    ensures why { IfErr result IsNotOpened }
 {
     match open(rt, path, start) {
         Ok(files) => Ok(files),
@@ -105,7 +114,9 @@ fn opened<S: Start>(rt: &HostRuntime, path: &str, start: S) -> Result<Files<File
     }
 }
 
-fn fault_of(error: &io::Error) -> KeptFault {
+fn fault_of(error: &io::Error) -> KeptFault
+    ensures { IsNotOpened result }
+{
     if error.kind() == ErrorKind::OutOfMemory {
         KeptFault::Journal(JournalFault::Memory)
     } else {
