@@ -1,12 +1,13 @@
 //! How the workers stand. The thread that has put jobs does them with an idle worker.
 
+ghost use Rattle.std.specs.Prelude.{◌≡◌, ◌&&◌, nat_lt, vec_len, is_some, false, None, IfNone, IfSome, OnSome};
+
 use crate::server::Server;
 use crate::workers::Worker;
 use frame_queues::{Connected, FrameKeys};
-use peer_windows::NEVER;
 use quorum_sizes::NodeName;
 use served_node::{HeldNode, millis};
-use server_locks::Front;
+use server_locks::{Alarm, Front};
 use std::mem;
 use std::sync::Wait;
 use std::time::Clock;
@@ -27,10 +28,8 @@ pub struct Crew<'a, N: HeldNode> {
     pub connected: Vec<NodeName>,
     /// When a frame of the connection of peers in each slot counted last, in milliseconds; 0 where none has.
     pub counted: Vec<u64>,
-    /// When something is due for which nobody wakes a worker, and when the thread of the ports wakes by itself, in
-    /// milliseconds.
-    pub due: u64,
-    pub wakes: u64,
+    /// When something is due for which nobody wakes a worker.
+    pub alarm: Alarm,
     /// A port has failed, or what was recorded is not kept.
     pub failed: bool,
     /// The node has ended.
@@ -39,24 +38,33 @@ pub struct Crew<'a, N: HeldNode> {
 
 impl<'a, N: HeldNode> Crew<'a, N> {
     /// Whether an idle worker may take jobs.
-    fn is_due(&self) -> bool {
+    fn is_due(&self) -> bool
+        ensures { result ≡ (self.now.jobs && is_some self.now.front && nat_lt 0 (vec_len self.now.idle)) }
+    {
         self.jobs && self.front.is_some() && !self.idle.is_empty()
     }
 
     /// An idle worker takes jobs from now on, if none does, with what comes before them.
-    fn begin(&mut self) -> Option<(Worker<'a, N>, Front<N::Untold>)> {
-        let mut front = self.front.take()?;
-        match self.idle.pop() {
-            Some(worker) => {
-                self.jobs = false;
-                mem::swap(&mut self.connected, &mut front.connected);
-                Some((worker, front))
-            }
-            None => {
-                self.front = Some(front);
-                None
-            }
+    fn begin(&mut self) -> Option<(Worker<'a, N>, Front<N::Untold>)>
+        ensures begun { is_some result ≡ (is_some self.old.front && nat_lt 0 (vec_len self.old.idle)) }
+        ensures front { IfSome result (λ r. IfSome self.old.front
+            (λ f. r.1 ≡ record f { connected = self.old.connected })) }
+        ensures some { OnSome result (self.new ≡ record self.old {
+          idle = self.new.idle;
+          front = None;
+          jobs = false;
+          connected = self.new.connected;
+        }) }
+        ensures none { IfNone result (self.new ≡ self.old) }
+    {
+        if self.idle.is_empty() {
+            return None;
         }
+        let mut front = self.front.take()?;
+        let worker = self.idle.pop()?;
+        self.jobs = false;
+        mem::swap(&mut self.connected, &mut front.connected);
+        Some((worker, front))
     }
 }
 
@@ -137,9 +145,8 @@ impl<'a, N: HeldNode, K: FrameKeys, R: Wait + Clock> Server<'a, N, K, R> {
             return Some(front);
         }
         crew.jobs |= is_left;
-        crew.due = front.pairs.next_due().min(front.tell_by);
-        if crew.due < crew.wakes {
-            crew.wakes = crew.due;
+        let due = front.pairs.next_due().min(front.tell_by);
+        if crew.alarm.set(due) {
             self.wake_ports();
         }
         crew.front = Some(front);
@@ -177,20 +184,13 @@ impl<'a, N: HeldNode, K: FrameKeys, R: Wait + Clock> Server<'a, N, K, R> {
 
     /// For how many milliseconds the thread of the ports may wait now, until this time at most.
     pub fn wait_until_due(&self, now: u64, most: u64) -> u64 {
-        let mut crew = self.crew.lock(self.rt);
-        let wakes = most.min(crew.due).max(now);
-        crew.wakes = wakes;
-        wakes - now
+        self.crew.lock(self.rt).alarm.wait(now, most)
     }
 
     /// Whether something is due now for which nobody wakes a worker, a new connection among it.
     pub fn is_due(&self, now: u64) -> bool {
         let mut crew = self.crew.lock(self.rt);
-        crew.wakes = now;
-        let is_due = crew.due <= now || !crew.connected.is_empty();
-        if is_due {
-            crew.due = NEVER;
-        }
-        is_due
+        let is_due = crew.alarm.is_due(now);
+        is_due || !crew.connected.is_empty()
     }
 }

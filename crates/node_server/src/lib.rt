@@ -34,7 +34,7 @@ use ports::{Ports, poll_of};
 use served_node::{Heard, SyncTally, millis};
 pub use served_node::{HeldNode, NotKept, Said};
 use server::Server;
-use server_locks::{Front, JobQueue, Outbox, Slot, TicketLock, job_queues, most_batch};
+use server_locks::{Alarm, Front, JobQueue, Outbox, Slot, TicketLock, job_queues, most_batch};
 use std::alloc::{AllocError, Global};
 use std::net::{Net, SocketAddr, TcpListener, TcpStream};
 use std::sync::{Condvar, Mutex, Wait};
@@ -214,8 +214,7 @@ fn crew_of<'a, N: HeldNode>(
         jobs: false,
         connected: Vec::with_capacity(alloc, usize::from(nodes))?,
         counted: Vec::from_elem(alloc, 0, SLOTS)?,
-        due: 0,
-        wakes: 0,
+        alarm: Alarm::new(),
         failed: false,
         ended: false,
     })

@@ -3,14 +3,14 @@
 use crate::crew::REFUSED;
 use crate::server::Server;
 use frame_queues::{
-    BLOCK_FRAMES, Came, Connected, FrameBlock, FrameKeys, MOST_PEERS, PeerName, Turn, Turns,
-    slot_for, third_of,
+    BLOCK_FRAMES, Came, Connected, FrameBlock, FrameKeys, MOST_PEERS, PeerName, TURN_FRAMES, Turn,
+    Turns, slot_for, third_of,
 };
-use link_frames::Frame;
+use link_frames::{Frame, Packet};
 use mio::unix::SourceFd;
 use mio::{Interest, Registry, Token};
 use served_node::{Heard, HeldNode, millis};
-use server_locks::JobQueue;
+use server_locks::{JobQueue, Opened, open_frames};
 use std::alloc::AllocError;
 use std::io;
 use std::net::TcpStream;
@@ -70,8 +70,9 @@ pub struct Peers<'a, 'b, N: HeldNode, K: FrameKeys, R> {
     connections: Vec<Option<Connection>>,
     /// The slots of the connections that may have bytes.
     ready: Vec<usize>,
-    /// The turns in which the frames of their blocks are put.
+    /// The turns in which the frames of their blocks are put, and room for the packets of a turn.
     turns: Turns,
+    packets: Vec<Packet>,
     /// By what lots are drawn.
     lot: u64,
     /// What is heard of the peers, and whether others have to be told.
@@ -101,6 +102,7 @@ impl<'a, 'b, N: HeldNode, K: FrameKeys, R: Wait + Clock> Peers<'a, 'b, N, K, R> 
             connections,
             ready: Vec::with_capacity(alloc, SLOTS)?,
             turns: Turns::new(alloc, SLOTS)?,
+            packets: Vec::with_capacity(alloc, TURN_FRAMES)?,
             lot: millis(server.rt),
             heard: Heard::new(alloc, server.keys.sizes().n())?,
             is_news: false,
@@ -251,32 +253,25 @@ impl<'a, 'b, N: HeldNode, K: FrameKeys, R: Wait + Clock> Peers<'a, 'b, N, K, R> 
         ) else {
             return 0;
         };
-        let mut opened = connection.opened;
-        let (mut count, mut has_opened) = (0usize, false);
-        for frame in connection.frames().get(turn.from..turn.to).unwrap_or(&[]) {
-            if let Some(packet) = server.keys.open(frame) {
-                opened = opened.or(Some(server.keys.peer(&packet)));
-                has_opened = true;
-                if self
-                    .queue
-                    .put_packet(server.rt, &|| server.wake_for_room(), slot, packet)
-                {
-                    count = count.saturating_add(1);
-                }
-            } else {
-                self.heard.note_unopened(opened);
-                self.is_news = true;
-                if opened.is_none() {
-                    connection.came = Came::End;
-                    break;
-                }
+        let frames = connection.frames().get(turn.from..turn.to).unwrap_or(&[]);
+        let opened = open_frames(&server.keys, frames, connection.opened, &mut self.packets);
+        let Ok(Opened { peer, unopened }) = opened else {
+            return 0;
+        };
+        connection.opened = peer;
+        for _ in 0..unopened {
+            self.heard.note_unopened(peer);
+            self.is_news = true;
+        }
+        match peer {
+            Some(name) if !self.packets.is_empty() => {
+                self.is_news |= self.heard.note_opened(name.index, now);
             }
+            None if unopened > 0 => connection.came = Came::End,
+            _ => {}
         }
-        connection.opened = opened;
-        if let (true, Some(name)) = (has_opened, opened) {
-            self.is_news |= self.heard.note_opened(name.index, now);
-        }
-        count
+        self.queue
+            .put_packets(server.rt, &|| server.wake_for_room(), slot, &self.packets)
     }
 
     /// Whether a connection may have more. It is closed at its end. Where its first frame has opened it is the peer's

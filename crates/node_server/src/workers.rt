@@ -8,9 +8,8 @@ use frame_queues::{Caller, FrameKeys};
 use link_frames::{Frame, Message, Packet};
 use node_lock::Seat;
 use peer_windows::{NEVER, Owed};
-use quorum_sizes::NodeName;
-use served_node::{HeldNode, NotKept, Said, make_call, millis, taken_packet};
-use server_locks::{Done, Front, JobQueue, Purpose, keep, most_batch};
+use served_node::{HeldNode, NotKept, Said, millis};
+use server_locks::{Done, Front, JobQueue, Purpose, hear, keep, make_next, most_batch};
 use std::alloc::{AllocError, Global};
 use std::mem;
 use std::sync::Wait;
@@ -75,7 +74,7 @@ impl<'a, N: HeldNode> Worker<'a, N> {
         requires { now ≤ most_time }
     {
         for _ in 0..most_batch::<N>() {
-            let is_full = self.make_calls(server.rt, node, server.keys.me(), front, now);
+            let is_full = self.make_calls(server.rt, node, front, now);
             if !is_full && !tells_now(&*node, front, now) {
                 return Ok(false);
             }
@@ -91,37 +90,20 @@ impl<'a, N: HeldNode> Worker<'a, N> {
     }
 
     /// Makes the calls of what comes first and of jobs, until nothing is left or the batch is full. Whether it is full.
-    /// The node's own packet comes next after the call that sent it.
     fn make_calls<R: Wait>(
         &mut self,
         rt: &R,
         node: &mut N,
-        me: NodeName,
         front: &mut Front<N::Untold>,
         now: u64,
     ) -> bool
         requires { now ≤ most_time }
     {
         for _ in self.told.len().saturating_add(front.untold.len())..most_batch::<N>() {
-            let Some(job) = front.next_job(rt, &mut self.queue) else {
+            let (queue, seat) = (&mut self.queue, &mut self.seat);
+            if !make_next(rt, node, seat, queue, front, now) {
                 return false;
-            };
-            let packet = taken_packet(&job.call);
-            let said = make_call(node, &mut self.seat, job.call, me);
-            let caller = Caller::of(job.number);
-            let mut leaves = matches!(caller, Caller::Client { .. });
-            if let Some(untold) = &said {
-                if let Some(own) = node.own_packet(me, untold) {
-                    front.first.put_own(own);
-                    leaves = true;
-                }
             }
-            let done = Done {
-                caller,
-                packet,
-                said,
-            };
-            front.put_untold(done, leaves, now);
         }
         true
     }
@@ -133,30 +115,13 @@ impl<'a, N: HeldNode> Worker<'a, N> {
         mem::swap(&mut self.untold, &mut front.untold);
         front.tell_by = NEVER;
         for done in self.untold.drain(..) {
-            let Done {
-                caller,
-                packet,
-                said,
-            } = done;
-            let said = match said {
-                Some(untold) => node.release(untold),
-                None => None,
-            };
-            if let Some(said) = &said {
-                if let Some(outcome) = &said.outcome {
-                    let (seat, pairs) = (&mut self.seat, &mut front.pairs);
-                    node.note(seat, now, pairs, packet.as_ref(), outcome);
-                    front.note(packet.as_ref(), outcome);
-                }
+            let done = hear(node, &mut self.seat, front, done, now);
+            if let Some(said) = &done.said {
                 if let Some(message) = said.message() {
                     let _ = self.messages.push(message);
                 }
             }
-            let _ = self.told.push(Done {
-                caller,
-                packet,
-                said,
-            });
+            let _ = self.told.push(done);
         }
     }
 }

@@ -5,10 +5,14 @@ use Rattle.link_frames.specs.declared.frames.packet.Message.{Message}
 use Rattle.role_sessions.specs.declared.faults.SessionFault.{SessionFault}
 use Rattle.role_sessions.specs.declared.faults.SessionFault.TheVariants as session
 use Rattle.role_node.specs.Answers.{sent_by}
+use Rattle.role_node.specs.declared.event.Event.{Event}
+use Rattle.role_node.specs.declared.event.Event.TheVariants as event
 use Rattle.role_node.specs.declared.event.Reply.{Reply}
 use Rattle.role_node.specs.declared.event.Reply.TheVariants as reply
 use Rattle.role_node.specs.declared.faults.NodeFault.{NodeFault}
 use Rattle.role_node.specs.declared.faults.NodeFault.TheVariants as fault
+use Rattle.node_lock.specs.declared.receipt.Call.{Call}
+use Rattle.node_lock.specs.declared.receipt.Call.TheVariants.{Step}
 use Rattle.node_lock.specs.declared.receipt.Outcome.{Outcome}
 use Rattle.node_lock.specs.declared.receipt.Outcome.TheVariants as outcome
 use Rattle.node_lock.specs.declared.view.View.{View}
@@ -84,3 +88,12 @@ grows said = false
 -- the packet of that message to the node of this name itself
 abbrev pub own_packet : ℕ → Option Outcome → Option PacketValue
 own_packet me said = option_and_then (packet_due me me) (option_and_then sent_outcome said)
+
+-- the packet that a call has the node take
+abbrev pub event_packet : Event → Option PacketValue
+event_packet (event.Take packet) = Some packet
+event_packet e = None
+
+abbrev pub taken_by : Call → Option PacketValue
+taken_by (Step e) = event_packet e
+taken_by call = None

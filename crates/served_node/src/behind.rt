@@ -12,7 +12,7 @@ ghost use Rattle.peer_windows.specs.Owed.{IsGathered, IsGatherFault, is_full as 
 ghost use Rattle.peer_windows.specs.Owners.{next_probe};
 ghost use Rattle.peer_windows.specs.Pauses.{most_time};
 ghost use Rattle.served_node.specs.Holds.{IsNotHeld};
-ghost use Rattle.served_node.specs.Served.{own_packet};
+ghost use Rattle.served_node.specs.Served.{own_packet, taken_by};
 ghost use Rattle.served_node.specs.declared.said.Said.{Said};
 
 use crate::said::Said;
@@ -160,7 +160,9 @@ pub trait HeldNode {
 }
 
 /// The packet that a call has the node take.
-pub fn taken_packet(call: &Call) -> Option<Packet> {
+pub fn taken_packet(call: &Call) -> Option<Packet>
+    ensures { result ≡ taken_by call.now }
+{
     match call {
         Call::Step(Event::Take(packet)) => Some(*packet),
         _ => None,
@@ -179,8 +181,10 @@ pub fn make_call<N: HeldNode>(
     ensures view { IfSome result (λ u. (N.said u).view ≡ view_of (N.held node.new) me 0) }
     ensures at { IfSome result (λ u. N.speaks_of u ≡ end_of (N.held node.new)) }
     ensures held { IfSome result (λ u. N.held node.new ≡ held_after_hold (N.held node.old) seat.old (Some call)) }
+    ensures seat { IfSome result (λ u. seat.new ≡ seat_after_hold (N.held node.old) seat.old (Some call)) }
     ensures none { IfNone result (IsNotHeld (N.held node.old) (N.is_full node.old) seat.old me call) }
     ensures same { IfNone result (N.held node.new ≡ N.held node.old) }
+    ensures same_seat { IfNone result (seat.new ≡ seat.old) }
 {
     if node.has(me) && !node.must_sync() {
         node.hold(seat, Some(call), me, 0).ok()

@@ -1,1 +1,4 @@
+mod CallLemmas
 mod FrontLemmas
+mod OpenedLemmas
+mod WriteLemmas

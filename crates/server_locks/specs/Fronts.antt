@@ -9,6 +9,7 @@ use Rattle.peer_windows.specs.Looks.{AreLookedAt}
 use Rattle.peer_windows.specs.Owed.{OwedValue, is_full}
 use Rattle.peer_windows.specs.Owners.{PairsValue, connected, next_due, next_probe}
 use Rattle.served_node.specs.Sent.{owed_to}
+use Rattle.server_locks.specs.Rooms.{AreRooms}
 
 -- there is a new connection to each of these peers
 abbrev pub all_connected : ℕ → List ℕ → PairsValue → PairsValue
@@ -33,9 +34,11 @@ pub record AreKept (me : ℕ) (messages : List Message) (old new : List PacketVa
   pub count : ℕ
   pub kept : new ≡ old ++ own_packets me (take count messages)
 
--- The pairs were looked at, with some rooms, and those are probed that were due, unless no more is gathered at once.
-pub record AreSeen (h : Held) (now : ℕ) (owed : OwedValue) (old new : PairsValue) : Type 0 where
+-- The pairs were looked at, with these rooms, and those are probed that were due, unless no more is gathered at once.
+pub record AreSeen (h : Held) (now me : ℕ) (again : List PacketValue) (rooms : List (Option ℕ)) (had owed : OwedValue)
+    (old new : PairsValue) : Type 0 where
   pub before : List (Option ℕ)
   pub after : List (Option ℕ)
+  pub said : AreRooms me again had.shares rooms before
   pub looks : AreLookedAt h now before after owed old new
   pub probes : (is_full owed ≡ true) ⊎ (new.probes ≡ map (next_probe now) old.probes)

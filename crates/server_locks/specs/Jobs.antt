@@ -1,5 +1,5 @@
--- The jobs by which a node takes packets.
-use Rattle.std.specs.Prelude.{ℕ, List, Option, option_map, option_to_list}
+-- The jobs by which a node takes packets, and when it is told what came of a job.
+use Rattle.std.specs.Prelude.{ℕ, ◌+◌, Bool, if◌then◌else◌, List, Option, option_map, option_to_list}
 use Rattle.std.specs.List.{flat_map}
 use Rattle.link_frames.specs.frames.Packets.{PacketValue, packet_due}
 use Rattle.link_frames.specs.declared.frames.packet.Message.{Message}
@@ -24,3 +24,7 @@ own_job number me message =
 
 abbrev pub own_jobs : ℕ → ℕ → List Message → List Job
 own_jobs number me messages = flat_map (λ m. option_to_list (own_job number me m)) messages
+
+-- a job whose call was made is told of by this time, in milliseconds: now, where something leaves then
+abbrev pub told_by : Bool → ℕ → ℕ
+told_by leaves now = if leaves then now else now + 10

@@ -35,7 +35,9 @@ pub struct LineReader<'a> {
 impl<'a> LineReader<'a> {
     /// A reader that looks for bytes a few times before it waits for them, or waits at once. Between two looks it gives
     /// way to the other threads.
-    pub fn new(stream: &'a TcpStream, looks_first: bool) -> LineReader<'a> {
+    pub fn new(stream: &'a TcpStream, looks_first: bool) -> LineReader<'a>
+        ensures { result.looks_first ≡ looks_first }
+    {
         LineReader {
             stream,
             looks_first,

@@ -1,7 +1,7 @@
 //! What comes before the inbox, and what is sent to single peers.
 
-ghost use Rattle.std.specs.Prelude.{◌≡◌, ◌+◌, ◌≤◌, ◌<◌, ◌||◌, nat_le, ◌++◌, ◌∷◌, [], None, false, true, is_some};
-ghost use Rattle.std.specs.Prelude.{◌↔◌, IsFalse, IsOk, IfOk, IfErr, OnOk, replicate, vec_len};
+ghost use Rattle.std.specs.Prelude.{◌≡◌, ◌≤◌, ◌<◌, ◌||◌, nat_le, ◌++◌, ◌∷◌, [], None, false, true, is_some};
+ghost use Rattle.std.specs.Prelude.{◌↔◌, IsFalse, IsOk, IfOk, IfErr, OnOk, min, replicate, vec_len};
 ghost use Rattle.std.specs.Vec.{vec_capacity};
 ghost use Rattle.peer_windows.specs.Owed.{IsGathered, IsGatherFault};
 ghost use Rattle.peer_windows.specs.Owners.{next_due, pairs_at_first};
@@ -9,10 +9,13 @@ ghost use Rattle.peer_windows.specs.Pauses.{most_time, never};
 ghost use Rattle.served_node.specs.Sent as sent;
 ghost use Rattle.served_node.specs.Served.{grows};
 ghost use Rattle.server_locks.specs.Fronts.{all_connected, is_due, own_packets, owed_behind, AreKept, AreSeen};
+ghost use Rattle.server_locks.specs.Jobs.{told_by};
+ghost use Rattle.server_locks.specs.Rooms.{AreRooms};
 ghost use Rattle.server_locks.specs.NextJobs.{IsNextJob};
 
 use crate::job_queue::JobQueue;
 use crate::outbox::Outbox;
+use crate::rooms::find_rooms;
 use frame_queues::{Caller, FirstPackets};
 use link_frames::{Message, Packet};
 use node_lock::{Call, Job, Outcome, Seat, StepFault};
@@ -90,6 +93,7 @@ impl<U: Drop> Front<U> {
         ensures untold { IfOk result (λ f. f.untold.items ≡ []) }
         ensures room { IfOk result (λ f. most ≤ vec_capacity f.untold) }
         ensures tell_by { IfOk result (λ f. f.tell_by ≡ never) }
+        ensures rooms { IfOk result (λ f. vec_len f.rooms ≡ sizes.nodes) }
         ensures me { IfOk result (λ f. f.me ≡ me) }
     {
         Ok(Front {
@@ -103,6 +107,13 @@ impl<U: Drop> Front<U> {
             rooms: Vec::from_elem(alloc, None, usize::from(sizes.n()))?,
             me,
         })
+    }
+
+    /// The node itself.
+    pub(crate) fn me(&self) -> NodeName
+        ensures { result ≡ self.now.me }
+    {
+        self.me
     }
 
     /// The next job: a packet that comes first, else one that the node sends to itself once more, else what waits in
@@ -130,9 +141,7 @@ impl<U: Drop> Front<U> {
     /// A job's call was made. It is told at once where something leaves then, and else with what comes soon after.
     pub fn put_untold(&mut self, done: Done<U>, leaves: bool, now: u64)
         requires { now ≤ most_time }
-        ensures leaves { leaves ≡ true → self.new.tell_by ≤ now }
-        ensures soon { self.new.tell_by ≤ now + 10 }
-        ensures sooner { self.new.tell_by ≤ self.old.tell_by }
+        ensures told { self.new.tell_by ≡ min self.old.tell_by (told_by leaves now) }
         ensures put { vec_len self.old.untold < vec_capacity self.old.untold →
             self.new.untold.items ≡ self.old.untold.items ++ done ∷ [] }
         ensures same { self.new ≡ record self.old { untold = self.new.untold; tell_by = self.new.tell_by } }
@@ -211,8 +220,10 @@ impl<U: Drop> Front<U> {
         ensures node { N.held node.new ≡ N.held node.old }
         ensures owed { IsGathered (N.held node.old) owed.old owed.new }
         ensures due { is_due now (all_connected now self.old.connected.items self.old.pairs) ≡ true →
-            N.is_kept node.old → OnOk result (AreSeen (N.held node.old) now owed.new
+            N.is_kept node.old → OnOk result (AreSeen (N.held node.old) now self.old.me self.old.again.items
+            self.old.rooms.items owed.old owed.new
             (all_connected now self.old.connected.items self.old.pairs) self.new.pairs) }
+        ensures rooms { vec_len self.new.rooms ≡ vec_len self.old.rooms }
         ensures later { is_due now (all_connected now self.old.connected.items self.old.pairs) ≡ false →
             IsOk result × (owed.new ≡ owed.old)
             × (self.new.pairs ≡ all_connected now self.old.connected.items self.old.pairs) }
@@ -250,26 +261,17 @@ impl<U: Drop> Front<U> {
     /// How many frames each node takes, beside those that are owed to it already. The node itself takes some where it
     /// has taken all before.
     fn look_at_rooms<R: Wait>(&mut self, rt: &R, outboxes: &[Outbox], owed: &Owed)
-        ensures { self.new ≡ record self.old { rooms = self.new.rooms } }
+        ensures rooms { AreRooms self.old.me self.old.again.items owed.now.shares self.old.rooms.items
+            self.new.rooms.items }
+        ensures count { vec_len self.new.rooms ≡ vec_len self.old.rooms }
+        ensures same { self.new ≡ record self.old { rooms = self.new.rooms } }
     {
-        self.rooms.fill(None);
-        for outbox in outboxes {
-            if let Some(room) = self.rooms.get_mut(usize::from(outbox.to.index())) {
-                *room = outbox.room(rt);
-            }
-        }
-        if let Some(room) = self.rooms.get_mut(usize::from(self.me.index())) {
-            *room = Some(if self.again.is_empty() {
-                ENOUGH_ROOM
-            } else {
-                0
-            });
-        }
-        for share in owed.shares() {
-            if let Some(Some(room)) = self.rooms.get_mut(usize::from(share.peer.index())) {
-                *room = room.saturating_sub(u32::try_from(share.count).unwrap_or(u32::MAX));
-            }
-        }
+        let own = if self.again.is_empty() {
+            ENOUGH_ROOM
+        } else {
+            0
+        };
+        find_rooms(rt, outboxes, (self.me, own), owed.shares(), &mut self.rooms);
     }
 
     /// Keeps what the node owes itself.

@@ -1,7 +1,7 @@
 //! The way of jobs into the inbox and out of it.
 
 ghost use Rattle.std.specs.Prelude.{◌≡◌, ◌++◌, ◌-◌, ◌^◌, All, IsTrue, IsFalse, OnOk, OnErr, OnSome, IfOk, IfSome};
-ghost use Rattle.std.specs.Prelude.{MatchOption, length, min, vec_len};
+ghost use Rattle.std.specs.Prelude.{◌≤◌, MatchOption, length, map, min, take, vec_len};
 ghost use Rattle.node_lock.specs.Inboxes.{IsPassTo, IsNewPassTo, after_put, after_take};
 ghost use Rattle.server_locks.specs.Jobs.{own_jobs, peer_job};
 
@@ -65,7 +65,7 @@ impl<'a> JobQueue<'a> {
 
     /// Puts a packet that came over the connection of a peer in this slot, as [`put_patiently`](Self::put_patiently)
     /// does. Whether it is put.
-    pub fn put_packet<R: Wait + Clock, F: Fn() -> bool>(
+    fn put_packet<R: Wait + Clock, F: Fn() -> bool>(
         &mut self,
         rt: &R,
         wake: &F,
@@ -79,6 +79,29 @@ impl<'a> JobQueue<'a> {
         let number = Caller::Peer { slot }.number();
         let call = Call::Step(Event::Take(packet));
         self.put_patiently(rt, wake, &Job { number, call })
+    }
+
+    /// Puts packets that came over the connection of a peer in this slot, in their order, each as
+    /// [`put_packet`](Self::put_packet) does. How many: fewer where those who do the jobs have ended.
+    pub fn put_packets<R: Wait + Clock, F: Fn() -> bool>(
+        &mut self,
+        rt: &R,
+        wake: &F,
+        slot: u32,
+        packets: &[Packet],
+    ) -> usize
+        requires wake { F.IsAlwaysCallable wake.now }
+        ensures count { result ≤ length packets.now }
+        ensures put { self.new.pass.put ≡ self.old.pass.put ++ map (peer_job slot) (take result packets.now) }
+    {
+        let mut count = 0usize;
+        for packet in packets {
+            if !self.put_packet(rt, wake, slot, *packet) {
+                return count;
+            }
+            count = count.saturating_add(1);
+        }
+        count
     }
 
     /// Puts messages that the node sends to itself, each as a job of this number, as

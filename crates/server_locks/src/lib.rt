@@ -7,18 +7,25 @@
 //! is gathered for single peers, `Turns.antt` whose turn is next, `Requests.antt` what is no client's line.
 #![tactic(auto)]
 
+mod alarm;
+mod calls;
 mod client_stream;
 mod front;
 mod job_queue;
 mod keeping;
+mod opening;
 mod outbox;
+mod rooms;
 mod slot;
 mod tickets;
 
+pub use alarm::Alarm;
+pub use calls::{hear, make_next};
 pub use client_stream::{Farewell, LineReader, is_http};
 pub use front::{Done, Front, most_batch};
 pub use job_queue::{JobQueue, job_queues};
 pub use keeping::keep;
+pub use opening::{Opened, open_frames};
 pub use outbox::Outbox;
 pub use slot::{Slot, SlotState};
 pub use tickets::{Purpose, TicketLock};

@@ -1,19 +1,20 @@
 //! Frames that wait for a peer, and the connection over which they go.
 
-ghost use Rattle.std.specs.Prelude.{◌≡◌, ◌≤◌, ◌-◌, None};
+ghost use Rattle.std.specs.Prelude.{◌≡◌, ◌≤◌, ◌⊎◌, ◌-◌, [], None, Some, IfNone, IfSome};
 ghost use Rattle.frame_queues.specs.Unsent.{restarted};
 ghost use Rattle.server_locks.specs.Counts.{lost_of, is_stuck};
-ghost use Rattle.server_locks.specs.Lines.{ArePut, GoesOn, IsLeft, pause_due, next_pause, made_after};
+ghost use Rattle.server_locks.specs.Lines.{ArePut, GoesOn, HasGone, OnlyFullWaits, IsLeft};
+ghost use Rattle.server_locks.specs.Lines.{pause_due, next_pause, made_after, dials_at, room_of, standing_of};
 ghost use Rattle.served_node.specs.Counts.{grown};
 
 use frame_queues::{MOST_FRAMES, UnsentFrames};
-use link_frames::{FRAME_LEN, Frame};
+use link_frames::Frame;
 use mio::net::TcpStream;
 use mio::{Interest, Registry, Token};
 use operator_lines::PeerStanding;
 use quorum_sizes::NodeName;
 use std::alloc::Global;
-use std::io::ErrorKind;
+use std::io::{ErrorKind, Write};
 use std::net::{Net, SocketAddr};
 use std::sync::{Mutex, Wait};
 use std::{io, mem};
@@ -32,9 +33,6 @@ const DIAL_PATIENCE: u64 = 3_000;
 
 /// How many milliseconds a connection may take no bytes before it is given up.
 const PATIENCE: u64 = 5_000;
-
-/// So often a connection is written to in a row at most. Each time it takes a byte at least, so all frames go.
-const MOST_WRITES: usize = MOST_FRAMES * FRAME_LEN;
 
 /// How the connection to a peer stands. It never waits.
 #[derive(Drop)]
@@ -82,31 +80,50 @@ impl Line {
         self.again = self.again.saturating_add(alone.saturating_sub(lost) as u64);
     }
 
-    /// Writes until no frame waits, or the connection takes no more or has failed; without one frames wait.
+    /// Writes as [`write_all`] does, where there is a connection.
     fn write(&mut self, now: u64)
         ensures frames { GoesOn self.old.unsent self.new.unsent }
+        ensures waits { OnlyFullWaits self.old.link self.new.full_since self.new.unsent.frames }
         ensures same { self.new ≡ record self.old { unsent = self.new.unsent; full_since = self.new.full_since } }
     {
-        for _ in 0..MOST_WRITES {
-            let Link::Open(stream, _) = &self.link else {
-                return;
-            };
-            if self.unsent.is_empty() {
-                self.full_since = None;
-                return;
-            }
+        if let Link::Open(stream, _) = &self.link {
             let mut writer = stream;
-            match self.unsent.write(&mut writer) {
-                Err(error) if is_later(&error) => {
-                    self.full_since = self.full_since.or(Some(now));
-                    return;
-                }
-                Ok(0) | Err(_) => {
-                    self.full_since = Some(0);
-                    return;
-                }
-                Ok(_) => self.full_since = None,
-            }
+            self.full_since = write_all(&mut self.unsent, &mut writer, now, self.full_since);
+        }
+    }
+
+    /// How it stands; what is heard of the peer is left out.
+    fn standing(&self) -> PeerStanding
+        ensures { result
+            ≡ standing_of self.now.link self.now.unsent.frames self.now.again self.now.lost }
+    {
+        PeerStanding {
+            connected: matches!(self.link, Link::Open(_, _)),
+            heard: false,
+            waiting: (MOST_FRAMES - self.unsent.room()) as u32,
+            again: self.again,
+            lost: self.lost,
+            unopened: 0,
+        }
+    }
+
+    /// When the connection has to be made, or given up if it is not made; at no time while frames go over it.
+    fn dials_at(&self) -> u64
+        ensures { result ≡ dials_at self.now.link }
+    {
+        match &self.link {
+            Link::Later(time) | Link::Begun(_, time) => *time,
+            Link::Open(_, _) => u64::MAX,
+        }
+    }
+
+    /// How many frames more there is room for; `None` while there is no connection.
+    fn room(&self) -> Option<u32>
+        ensures { result ≡ room_of self.now.link self.now.unsent.frames }
+    {
+        match &self.link {
+            Link::Open(_, _) => Some(self.unsent.room() as u32),
+            _ => None,
         }
     }
 
@@ -197,24 +214,12 @@ impl Outbox {
 
     /// How the way to the peer stands; what is heard of it is left out.
     pub fn standing<R: Wait>(&self, rt: &R) -> PeerStanding {
-        let line = self.line.lock(rt);
-        PeerStanding {
-            connected: matches!(line.link, Link::Open(_, _)),
-            heard: false,
-            waiting: (MOST_FRAMES - line.unsent.room()) as u32,
-            again: line.again,
-            lost: line.lost,
-            unopened: 0,
-        }
+        self.line.lock(rt).standing()
     }
 
     /// How many frames more there is room for; `None` while there is no connection.
     pub fn room<R: Wait>(&self, rt: &R) -> Option<u32> {
-        let line = self.line.lock(rt);
-        match &line.link {
-            Link::Open(_, _) => u32::try_from(line.unsent.room()).ok(),
-            _ => None,
-        }
+        self.line.lock(rt).room()
     }
 
     /// Puts frames behind the others, of which the last so many go to this peer alone, and writes as far as the
@@ -239,10 +244,7 @@ impl Outbox {
             Link::Begun(_, end) if *end <= now => line.close(now),
             _ => {}
         }
-        match &line.link {
-            Link::Later(time) | Link::Begun(_, time) => *time,
-            Link::Open(_, _) => u64::MAX,
-        }
+        line.dials_at()
     }
 
     /// Something may have come of the connection: it is made now, has ended, or takes bytes again. What waits goes over
@@ -253,6 +255,29 @@ impl Outbox {
         line.write(now);
         is_made
     }
+}
+
+/// Hands frames to a writer until none waits, or it takes no more or has failed. Since when it has taken none then,
+/// while frames wait; since ever, where it has failed.
+fn write_all<W: Write>(
+    unsent: &mut UnsentFrames,
+    writer: &mut W,
+    now: u64,
+    full_since: Option<u64>,
+) -> Option<u64>
+    ensures gone { HasGone (W.contents writer.old) (W.contents writer.new) unsent.old unsent.new }
+    ensures all { IfNone result (unsent.new.frames ≡ []) }
+    ensures since { IfSome result (λ since. (since ≡ 0) ⊎ (since ≡ now) ⊎ (full_since ≡ Some since)) }
+{
+    let mut since = full_since;
+    while !unsent.is_empty() {
+        match unsent.write(writer) {
+            Err(error) if is_later(&error) => return since.or(Some(now)),
+            Ok(0) | Err(_) => return Some(0),
+            Ok(_) => since = None,
+        }
+    }
+    None
 }
 
 /// Begins to make a connection.

@@ -1,6 +1,7 @@
 //! Slots for the clients' connections that are open at once.
 
 ghost use Rattle.std.specs.Prelude.{◌≡◌, ◌+◌, ◌-◌, ◌^◌, min, nat_le, slice_set, option_and_then, true, false, Some};
+ghost use Rattle.std.specs.Prelude.{◌&&◌, not, is_some, IsTrue, IsFalse};
 ghost use Rattle.served_node.specs.Served.{served_said};
 
 use crate::job_queue::JobQueue;
@@ -38,6 +39,26 @@ impl SlotState<'_> {
 }
 
 impl<'a> SlotState<'a> {
+    /// Whether there is no connection, nor a thread that serves one.
+    fn is_free(&self) -> bool
+        ensures { result ≡ (not (is_some self.now.stream) && is_some self.now.queue) }
+    {
+        self.stream.is_none() && self.queue.is_some()
+    }
+
+    /// There is this connection, unless the node has ended. Whether there is.
+    fn give(&mut self, stream: Arc<TcpStream>) -> bool
+        ensures given { result ≡ not self.old.ended }
+        ensures stream { IsTrue result → self.new ≡ record self.old { stream = Some stream } }
+        ensures same { IsFalse result → self.new ≡ self.old }
+    {
+        if self.ended {
+            return false;
+        }
+        self.stream = Some(stream);
+        true
+    }
+
     /// The slot is free once more, if so many jobs are done, all that were put: else one could meet the next
     /// connection.
     fn give_back(&mut self, queue: JobQueue<'a>, put: u32)
@@ -82,21 +103,15 @@ impl<'a> Slot<'a> {
 
     /// Whether there is no connection.
     pub fn is_free<R: Wait>(&self, rt: &R) -> bool {
-        let state = self.state.lock(rt);
-        state.stream.is_none() && state.queue.is_some()
+        self.state.lock(rt).is_free()
     }
 
     /// Gives a connection to the slot, which is free. False at the node's end, and for want of memory.
     pub fn give<R: Wait>(&self, rt: &R, stream: &Arc<TcpStream>) -> bool {
-        let Ok(other) = Arc::try_clone(stream) else {
-            return false;
-        };
-        let mut state = self.state.lock(rt);
-        if state.ended {
-            return false;
+        match Arc::try_clone(stream) {
+            Ok(other) => self.state.lock(rt).give(other),
+            Err(_) => false,
         }
-        state.stream = Some(other);
-        true
     }
 
     /// The way into the inbox, for the thread that serves the connection.

@@ -1,0 +1,99 @@
+-- What is made of the next job: its call, by one hold; and what is heard of that.
+use Rattle.std.specs.Prelude.{◌≡◌, ℕ, min, Bool, true, false, ◌||◌, List, ◌∷◌, [], ◌++◌, Option, None, Some}
+use Rattle.std.specs.Prelude.{is_some, IfSome, IfNone, option_and_then}
+use Rattle.link_frames.specs.frames.Packets.{PacketValue}
+use Rattle.node_lock.specs.Holds.{Held, end_of}
+use Rattle.node_lock.specs.Inboxes.{Passing}
+use Rattle.node_lock.specs.Receipts.{outcome_due}
+use Rattle.node_lock.specs.Seats.{Sitting}
+use Rattle.node_lock.specs.Views.{view_of, held_after_hold, seat_after_hold}
+use Rattle.node_lock.specs.declared.job.Job.{Job}
+use Rattle.node_lock.specs.declared.receipt.Outcome.{Outcome}
+use Rattle.frame_queues.specs.Callers.{caller_of}
+use Rattle.frame_queues.specs.Firsts.{FirstValue}
+use Rattle.frame_queues.specs.declared.caller.Caller.{Caller}
+use Rattle.frame_queues.specs.declared.caller.Caller.TheVariants.{Client}
+use Rattle.peer_windows.specs.Notes.{noted}
+use Rattle.peer_windows.specs.Owners.{PairsValue}
+use Rattle.served_node.specs.Holds.{IsNotHeld}
+use Rattle.served_node.specs.Served.{own_packet, taken_by}
+use Rattle.served_node.specs.declared.said.Said.{Said}
+use Rattle.server_locks.specs.Jobs.{told_by}
+use Rattle.server_locks.specs.NextJobs.{IsNextJob}
+use Rattle.server_locks.specs.declared.front.Done.{Done}
+
+-- where jobs come from: what comes before the inbox, and the way into it
+pub record Source : Type 0 where
+  pub first : FirstValue
+  pub again : List PacketValue
+  pub pass : Passing
+
+-- a node, whether what it has recorded has to be kept before the next hold, and the seat by which holds are made
+pub record Seated : Type 0 where
+  pub held : Held
+  pub full : Bool
+  pub seat : Sitting
+
+abbrev pub IsNext : Source → Source → Option Job → Type 0
+IsNext old new job = IsNextJob old.first new.first old.again new.again old.pass new.pass job
+
+-- a client waits for it
+abbrev pub is_client : Caller → Bool
+is_client (Client slot line) = true
+is_client caller = false
+
+-- what a hold said may leave, if there was one
+abbrev pub MayLeave : {U : Type 0} → (U → Type 0) → Option U → Type 0
+MayLeave may_leave u = IfSome u may_leave
+
+-- the pairs, where it is noted in them what was said about a packet
+abbrev pub noted_outcome : Held → Sitting → ℕ → Option PacketValue → Option Outcome → PairsValue → PairsValue
+noted_outcome h s now packet None a = a
+noted_outcome h s now packet (Some outcome) a = noted h s now packet outcome a
+
+abbrev pub noted_said : Held → Sitting → ℕ → Option PacketValue → Option Said → PairsValue → PairsValue
+noted_said h s now packet None a = a
+noted_said h s now packet (Some said) a = noted_outcome h s now packet said.outcome a
+
+-- the packet that a hold has the node send to itself, by what it said
+abbrev pub own_of : {U : Type 0} → (U → Said) → ℕ → Option U → Option PacketValue
+own_of said me held = option_and_then (λ u. own_packet me (said u).outcome) held
+
+-- no hold was made
+pub record IsPassedOver (me : ℕ) (job : Job) (old new : Seated) : Type 0 where
+  pub why : IsNotHeld old.held old.full old.seat me job.call
+  pub held : new.held ≡ old.held
+  pub seat : new.seat ≡ old.seat
+
+module _ {U : Type 0} (said : U → Said) (speaks_of : U → ℕ) where
+  -- a hold has made the call: what it said is the outcome due, and the own stream after it
+  pub record IsHeldFor (me : ℕ) (job : Job) (old new : Seated) (u : U) : Type 0 where
+    pub outcome : (said u).outcome ≡ Some (outcome_due old.held.node job.call)
+    pub view : (said u).view ≡ view_of new.held me 0
+    pub at : speaks_of u ≡ end_of new.held
+    pub held : new.held ≡ held_after_hold old.held old.seat (Some job.call)
+    pub seat : new.seat ≡ seat_after_hold old.held old.seat (Some job.call)
+
+  -- what waits to be told of a job: who waits for it, the packet that it had the node take, and what the hold said
+  pub record IsDoneFor (me : ℕ) (job : Job) (old new : Seated) (done : Done U) : Type 0 where
+    pub caller : done.caller ≡ caller_of job.number
+    pub packet : done.packet ≡ taken_by job.call
+    pub made : IfSome done.said (IsHeldFor me job old new)
+    pub none : IfNone done.said (IsPassedOver me job old new)
+
+  -- what is told at once: a client waits for it, or the node sends something by it
+  abbrev pub leaves : ℕ → Done U → Bool
+  leaves me done = is_some (own_of said me done.said) || is_client done.caller
+
+  -- The call of the next job was made, and waits behind the others to be told; what the node sends to itself by it
+  -- comes first from now on. `by` is when all that waits is told, and was `had_by`.
+  pub record IsMade (me now had_by by : ℕ) (from to : Source) (old new : Seated) (had has : List (Done U)) :
+      Type 0 where
+    pub job : Job
+    pub done : Done U
+    pub next : Source
+    pub taken : IsNext from next (Some job)
+    pub own : to ≡ record next { first = record next.first { own = own_of said me done.said } }
+    pub is_done : IsDoneFor me job old new done
+    pub waits : has ≡ had ++ done ∷ []
+    pub told : by ≡ min had_by (told_by (leaves me done) now)
