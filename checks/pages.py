@@ -1,22 +1,36 @@
 #!/usr/bin/env python3
 """Holds the pages against the sources: checks/pages.py [list]
 
-README.md and docs/*.md have at most MOST_WORDS words together, and each crate a README.md of at most MOST_OF_CRATE.
-What must not be lost has its place: each public call of a crate in the first column of a table of its README, each law
-under Laws there, each refusal, by its code and name, once in docs/FORMATS.md's table of codes. Each link leads to a
-page and a heading that are there, and each path of the repository in backticks to a file.
+README.md and docs/*.md may say what they have to; each crate's README.md has at most MOST_OF_CRATE words. What must not
+be lost has its place: each public call of a crate in the first column of a table of its README, each law under Laws
+there, each refusal, by its code and name, once in docs/FORMATS.md's table of codes.
+
+What a page names is there. Each link leads to a page and a heading. What stands in backticks is somewhere in the
+repository: a type (a name like `Policy`) in the code of some source, without its comments and texts, or as the stem of
+a file of lemmas or definitions (`Block..` is the beginning of one); a file, by its path from the top or by its last
+parts (in a crate's README `src/`, `specs/`, `proofs/` and `must-fail/` are the crate's own), where `*` and a part in
+capitals, as in `src/NAME_tests.rt`, stand for anything; the wrong bodies of CONTRIBUTING's rules.
 
 With no word it prints the counts, or each fault, and fails at one. `list` prints each call, law and refusal.
 """
+import fnmatch
+import functools
+import os
 import re
 import sys
 from pathlib import Path
 
 TOP = Path(__file__).resolve().parent.parent
-MOST_WORDS, MOST_OF_CRATE = 22_500, 350
+MOST_OF_CRATE = 600
 PAGES = [TOP / "README.md", *sorted((TOP / "docs").glob("*.md"))]
 ROOMS = ("bench/", "checks/", "crates/", "docs/", "examples/", "packaging/", "tools/")
-ITEM = re.compile(r"^(?:pub )?(?:(impl|trait|fn|mod|use)\b)(.*)")
+OWN_ROOMS = ("src/", "specs/", "proofs/", "must-fail/")
+TYPE = re.compile(r"(?<![\w./-])[A-Z]\w*[a-z]\w*(?:\.\.)?(?![\w/])")
+FILE = re.compile(r"[\w./*{},-]+\.(?:rt|antt|edit|py|md|c|service|css|js|html|png|stdout)\b")
+ASIDE = {  # what says nothing to the compiler, by a file's ending
+    ".rt": r'//[^\n]*|"(?:[^"\\\n]|\\.)*"', ".c": r'//[^\n]*|"(?:[^"\\\n]|\\.)*"', ".antt": r"--[^\n]*",
+    ".py": r'(?s)""".*?"""|#[^\n]*|"(?:[^"\\\n]|\\.)*"',
+}
 
 
 def words_of(path):
@@ -86,7 +100,7 @@ def crate_faults(crate):
         return [f"{path.relative_to(TOP)} is not there"]
     text, faults = path.read_text(encoding="utf-8"), []
     if words_of(path) > MOST_OF_CRATE:
-        faults.append(f"{words_of(path)} words")
+        faults.append(f"{words_of(path)} words, of at most {MOST_OF_CRATE}")
     calls = " ".join(re.findall(r"`([^`]*)`", " ".join(rows_of(text))))
     for call in sorted(source.calls):
         holder, _, name = call.rpartition("::")
@@ -125,6 +139,73 @@ def code_faults():
     return faults
 
 
+@functools.lru_cache(maxsize=None)
+def files():
+    """The paths of the repository's files, from its top, without what is built."""
+    found = []
+    for folder, folders, names in os.walk(TOP):
+        folders[:] = [name for name in folders if name not in (".git", "out", "__pycache__")]
+        found += [(Path(folder) / name).relative_to(TOP).as_posix() for name in names]
+    return found
+
+
+@functools.lru_cache(maxsize=None)
+def type_names():
+    """Each name that begins with a capital, in the sources' code or as the stem of a file of lemmas or definitions."""
+    found = {Path(path).stem for path in files() if path.endswith(".antt")}
+    for path in files():
+        if aside := ASIDE.get(Path(path).suffix):
+            found |= set(re.findall(r"\b[A-Z]\w*", re.sub(aside, " ", (TOP / path).read_text(encoding="utf-8"))))
+    return found
+
+
+def is_type(name):
+    """Whether a type's name, or the beginning of one, is in the repository."""
+    if name.endswith(".."):
+        return any(one.startswith(name[:-2]) for one in type_names())
+    return name in type_names()
+
+
+@functools.lru_cache(maxsize=None)
+def endings():
+    """Each file's path from the top, and its last parts, of any number."""
+    return {path[at:] for path in files() for at in [0, *(found.end() for found in re.finditer("/", path))]}
+
+
+@functools.lru_cache(maxsize=None)
+def is_file(name, own):
+    """Whether the repository has this file, named from its top or by its last parts, or in a crate's own folder."""
+    begin = own if name.startswith(OWN_ROOMS) else ""
+    if begin + name in endings():
+        return True
+    pattern = begin + re.sub(r"\b[A-Z][A-Z_]+(?=[/._])(?!\.md)", "*", name)
+    return "*" in pattern and bool(fnmatch.filter(endings(), pattern))
+
+
+def spread(name):
+    """The names that braces stand for: `{One,Two}.antt` is `One.antt` and `Two.antt`."""
+    found = re.search(r"\{([^{}]*)\}", name)
+    if found is None:
+        return [name]
+    return [name[:found.start()] + one + name[found.end():] for one in found.group(1).split(",")]
+
+
+def absent(path):
+    """The types and files that a page names in backticks and that are nowhere, and CONTRIBUTING's wrong bodies."""
+    text = re.sub(r"(?s)```.*?```", "", path.read_text(encoding="utf-8"))
+    own = path.parent.relative_to(TOP).as_posix() + "/" if path.parent.parent == TOP / "crates" else ""
+    for span in re.findall(r"`([^`]+)`", text):
+        named = [name for found in FILE.findall(span) for name in spread(found)]
+        yield from (f"the file {name} is nowhere" for name in named if not is_file(name, own))
+        yield from (f"the type {name} is nowhere" for name in TYPE.findall(FILE.sub(" ", span)) if not is_type(name))
+    if path.name == "CONTRIBUTING.md":
+        rows = text[text.index("|rule|test|wrong body|"):].split("\n\n")[0].splitlines()[2:]
+        for name in re.findall(r"`([^`]+)`", " ".join(row.split("|")[3] for row in rows)):
+            crate, _, body = name.rpartition("/")
+            if not is_file(f"{crate}/must-fail/{body}.edit".lstrip("/"), own):
+                yield f"the wrong body {name} is nowhere"
+
+
 def anchors(path):
     heads = re.findall(r"(?m)^#+ (.*)$", re.sub(r"(?s)```.*?```", "", path.read_text(encoding="utf-8")))
     return {re.sub(r"[^\w\- ]", "", head.lower()).strip().replace(" ", "-") for head in heads}
@@ -158,9 +239,9 @@ def main():
         return
     words = sum(map(words_of, PAGES))
     own = [TOP / "crates" / crate / "README.md" for crate in crates()]
-    faults = [f"the pages have {words} words, of at most {MOST_WORDS}"] if words > MOST_WORDS else []
+    faults = []
     for path in PAGES + [path for path in own if path.exists()]:
-        faults += link_faults(path)
+        faults += link_faults(path) + [f"{path.relative_to(TOP)}: {fault}" for fault in absent(path)]
     for crate in crates():
         faults += crate_faults(crate)
     faults += code_faults()
