@@ -24,6 +24,7 @@ sys.path[:0] = [HERE, EXAMPLES, os.path.join(TOP, "tools")]
 import built  # noqa: E402
 import clients_page  # noqa: E402
 import gateway_cases  # noqa: E402
+import loss_cases  # noqa: E402
 import operator_cases  # noqa: E402
 import tundelca  # noqa: E402
 import tools_tried  # noqa: E402
@@ -331,6 +332,12 @@ def main():
         ("sessions that were left", lambda: operator_cases.sessions_left(keeper)),
         ("streams, read out", lambda: operator_cases.streams(keeper)),
         ("hosts", lambda: operator_cases.hosts(keeper, daemon)),
+    ]
+    examples += [
+        ("files that are there", loss_cases.files_stay),
+        ("begin-anew keep, while others publish", loss_cases.keep_sees),
+        ("a journal's folders are synced", lambda: loss_cases.folders_are_synced(keeper)),
+        ("check, killed", lambda: loss_cases.killed_check(keeper)),
     ]
     examples += tools_tried.trials(lab, keeper)
     failed = 0

@@ -43,7 +43,7 @@ def judge(well, text):
 
 
 def tool(*words, status=0):
-    """What the tool prints, which has to end with this status; what it tells of wrong words is one line.
+    """What the tool prints, which has to end with this status; what it tells of wrong words or of `keep` is one line.
 
     It runs in this process, which takes a hundredth of the time that a process of its own would take to start.
     """
@@ -55,7 +55,8 @@ def tool(*words, status=0):
             ended = end.code
     said = f"{words} ended with status {ended}: {out.getvalue()[-400:]} {told.getvalue()[-400:]}"
     judge(ended == status, said)
-    judge(told.getvalue().count("\n") == (1 if status in (AWAY, WRONG, REFUSED) and not out.getvalue() else 0), said)
+    tells = "keep" in words[1:2] if status == READY else status in (AWAY, WRONG, REFUSED) and not out.getvalue()
+    judge(told.getvalue().count("\n") == (1 if tells else 0), said)
     return out.getvalue() if status != WRONG else told.getvalue()
 
 

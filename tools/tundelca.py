@@ -14,6 +14,7 @@ user's name: keep it behind a service of yours that knows its users (examples/ga
 """
 import collections
 import contextlib
+import errno
 import io
 import itertools
 import json
@@ -464,12 +465,16 @@ def cluster_files(folder, roles, nodes, clients, may_lie, cluster=1, hosts=None)
 
     `roles` are pairs of a role and its owner, `nodes` and `clients` the ports of all nodes for frames and for clients,
     `hosts` their addresses where they aren't on one machine. A cluster that is begun anew takes new keys, which this
-    makes, and best another number.
+    makes, and best another number. Where one of the files is there already, that is a FileExistsError, and none is
+    written.
     """
     names = range(len(nodes))
     keys = {(a, b): secrets.token_hex(32) for a in names for b in names if a <= b}
-    paths = []
-    for me in names:
+    paths = [os.path.join(folder, f"node{me}.json") for me in names]
+    for path in paths:
+        if os.path.lexists(path):
+            raise FileExistsError(errno.EEXIST, "it is there, and no file was written", path)
+    for me, path in enumerate(paths):
         text = {
             "cluster": cluster,
             "n": len(nodes),
@@ -481,15 +486,13 @@ def cluster_files(folder, roles, nodes, clients, may_lie, cluster=1, hosts=None)
             "client": clients[me],
             **({} if hosts is None else {"hosts": list(hosts)}),
         }
-        paths.append(os.path.join(folder, f"node{me}.json"))
-        write_secret(paths[-1], json.dumps(text))
+        write_secret(path, json.dumps(text))
     return paths
 
 
-def write_secret(path, text, is_new=False):
-    """Writes a file that only you may read; where it has to be new, it is a FileExistsError that there is one."""
-    flags = os.O_WRONLY | os.O_CREAT | (os.O_EXCL if is_new else os.O_TRUNC)
-    descriptor = os.open(path, flags, 0o600)
+def write_secret(path, text):
+    """Writes a new file that only you may read. A FileExistsError where one is there."""
+    descriptor = os.open(path, os.O_WRONLY | os.O_CREAT | os.O_EXCL, 0o600)
     with open(descriptor, "w", encoding="ascii") as file:
         os.fchmod(descriptor, 0o600)
         file.write(text)

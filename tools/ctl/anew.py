@@ -1,4 +1,5 @@
 """`begin-anew`: what a cluster's roles hold, carried over to the next cluster: keep, compare, files, publish."""
+import itertools
 import json
 import os
 import sys
@@ -19,15 +20,19 @@ def add(steps):
   tundelca-ctl begin-anew files new node*.json               all files of the next cluster, where one may see all
   tundelca-ctl begin-anew publish kept.json new/node*.json   each role's holdings, at its owner
 
-Between the first and the last the old nodes are stopped and the new ones started. Where no owner may see another's
-file, each makes its own by `file --like OLD`, with a key for each pair of owners and the number that all agreed on,
-keeps by its own node and publishes at its own node; a role that is in no named file is left to its owner.""")
+Before the first all owners stop publishing, since what is published after `keep` isn't carried over. Between the
+first and the last the old nodes are stopped and the new ones started. Where no owner may see another's file, each
+makes its own by `file --like OLD`, with a key for each pair of owners and the number that all agreed on, keeps by its
+own node and publishes at its own node; a role that is in no named file is left to its owner.""")
     steps = Steps(one, "step")
     one = steps.add_parser("keep", "what the roles hold, as JSON", example="""
   tundelca-ctl begin-anew keep node1.json node2.json node3.json > kept.json
   tundelca-ctl begin-anew keep node0.json 7401 7402 > kept.json
 
-One of the nodes may lie, so ask as many as can be reached; where they differ the status is 1.""")
+One of the nodes may lie, so ask as many as can be reached. The status is 1 where they differ in what a role holds, or
+in how many commands of an owner they have; where a node hasn't all that it published; and where one has more commands
+at the end than before. At last it is told how many commands of each owner were there: stop a node only while `status`
+shows the same numbers, or keep again.""")
     one.add_argument("nodes", nargs="+", type=nodes.node, metavar="NODE",
                      help="a client port, or a cluster file; one file at least")
     one.patience(30.0)
@@ -66,20 +71,52 @@ def holdings(port, roles, patience):
 
 
 def keep(given):
-    """Prints what all the nodes say that the roles hold."""
+    """Prints what all the nodes say that the roles hold, and tells how many commands of each owner that is."""
     files_of_some = [one for one in given.nodes if one.text is not None]
     if not files_of_some:
         raise Fault(WORDS, "one cluster file at least is wanted: ports alone don't tell the roles")
     roles = sorted(role for role, _ in files_of_some[0].text["roles"])
     with Nodes(given.nodes, given.patience) as watched:
+        before = level(watched)
         heard = list(watched.pool.map(lambda one: holdings(one.port, roles, given.patience), watched.named))
-    for one, other in zip(watched.named[1:], heard[1:]):
-        for role in heard[0]:
-            if other[role] != heard[0][role]:
-                raise Fault(NO, f"{watched.named[0]} and {one} differ in role {role}: wait, or ask others")
+        for one, other in zip(watched.named[1:], heard[1:]):
+            for role in heard[0]:
+                if other[role] != heard[0][role]:
+                    raise Fault(NO, f"{watched.named[0]} and {one} differ in role {role}: wait, or ask others")
+        after = level(watched)
+    for owner, (reach, later) in enumerate(zip(before, after)):
+        if reach != later:
+            raise Fault(NO, f"node {owner} published meanwhile, {reach:,} commands and then {later:,}: have all owners "
+                            "stop, and keep again")
     json.dump(heard[0], sys.stdout)
-    print()
+    print(flush=True)
+    print(f"kept: {reaches_text(after)}; stop a node only while `status` shows the same", file=sys.stderr)
     return DONE
+
+
+def level(watched):
+    """How many commands of each owner all nodes have, which are the same, and all that those published which say it."""
+    first, *others = seen = watched.look()
+    for one in seen:
+        if one.standing is None:
+            raise tundelca.Unreachable(one.why)
+        own, published = dict(enumerate(one.standing.reaches)).get(one.standing.me), one.standing.published
+        if published is not None and published != own:
+            raise Fault(NO, f"{one} published {counted(published, 'command')}, and has {own} of its own: wait, and see "
+                            "what `status` says of it")
+    for one in others:
+        rows = itertools.zip_longest(first.standing.reaches, one.standing.reaches)
+        for owner, (here, there) in enumerate(rows):
+            if here != there:
+                raise Fault(NO, f"{first} has {here} commands of node {owner}, and {one} has {there}: have all owners "
+                                "stop publishing, and wait, or ask others")
+    return first.standing.reaches
+
+
+def reaches_text(reaches):
+    """How many commands of each owner there are, in words."""
+    return ", ".join(f"{counted(reach, 'command')} of node {owner}" for owner, reach in enumerate(reaches)
+                     if reach) or "no command of any node"
 
 
 def read_kept(path):

@@ -32,7 +32,8 @@ fingerprint. A file has 64 hexadecimal digits, and is for its owner alone.""")
   tundelca-ctl files /tmp/cluster --nodes 7300 7301 7302 7303 --clients 7400 7401 7402 7403 \\
       --roles 2=0 3=1 --may-lie 1
 
-For a cluster of one owner, or to try; where each owner has a key with each other, take `key` and `file`.""")
+For a cluster of one owner, or to try; where each owner has a key with each other, take `key` and `file`. Where one of
+the files is there already, none is written: it has the keys that a journal is bound to.""")
     one.add_argument("folder", metavar="FOLDER")
     one.add_argument("--nodes", type=port, nargs="+", required=True, metavar="PORT", help="where nodes take frames")
     one.add_argument("--clients", type=port, nargs="+", required=True, metavar="PORT", help="where they take lines")
@@ -129,7 +130,7 @@ def key(given):
     """Makes keys, or shows their fingerprints."""
     for path in given.keys:
         if not given.show:
-            tundelca.write_secret(path, os.urandom(KEY_DIGITS // 2).hex() + "\n", is_new=True)
+            tundelca.write_secret(path, os.urandom(KEY_DIGITS // 2).hex() + "\n")
         print(f"{fingerprint_of_key(read_key(path))}  {path}")
     return DONE
 
@@ -164,7 +165,7 @@ def file(given):
     text["keys"] = keys_of(text, old, given.keys)
     names = ["cluster", "n", "f", "me", "roles", "keys", "nodes", "client", "hosts"]
     whole = {name: text[name] for name in names if text.get(name) is not None}
-    tundelca.write_secret(given.file, json.dumps(whole), is_new=True)
+    tundelca.write_secret(given.file, json.dumps(whole))
     print("\n".join(report(given.file, text)))
     return DONE
 
@@ -241,7 +242,8 @@ def faults_of(path, text):
     found = []
     mode = stat.S_IMODE(os.stat(path).st_mode)
     if mode & 0o027:  # the package's node reads it by its group
-        found.append(f"{path}: others may read it, its mode is {mode:o}: chmod 600, or 640 for a group of the node's own")
+        found.append(f"{path}: others may read it, its mode is {mode:o}: chmod 600, or 640 for a group of the node's "
+                     "own")
     fault = shape_fault(text)
     if fault is not None:
         found.append(f"{path}: {fault}")
