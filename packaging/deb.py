@@ -94,6 +94,9 @@ def put_tools(root):
             put(root, f"usr/lib/tundelca/{name}", read(path), 0o755 if name == "tundelca_ctl.py" else 0o644)
     put(root, f"usr/share/doc/{NAME}/examples/gateway.py", read(os.path.join(TOP, "examples", "gateway.py")))
     os.symlink("../lib/tundelca/tundelca_ctl.py", os.path.join(root, "usr/bin/tundelca-ctl"))
+    modules = os.path.join(root, "usr/lib/python3/dist-packages")  # where Debian's Python finds `import tundelca`
+    os.makedirs(modules)
+    os.symlink("../../tundelca/tundelca.py", os.path.join(modules, "tundelca.py"))
 
 
 def put_manuals(root, version, date):
@@ -155,7 +158,8 @@ def put_control(root, version, programs):
     address = os.environ.get("DEBEMAIL", "root@localhost")
     put(root, "DEBIAN/md5sums", "".join(
         f"{hashlib.md5(read(os.path.join(root, path))).hexdigest()}  {path}\n" for path in files_of(root)))
-    put(root, "DEBIAN/postinst", read(os.path.join(HERE, "postinst")), 0o755)
+    for script in ("postinst", "prerm"):
+        put(root, f"DEBIAN/{script}", read(os.path.join(HERE, script)), 0o755)
     put(root, "DEBIAN/control", f"""Package: {NAME}
 Version: {version}
 Section: net

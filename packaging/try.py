@@ -24,8 +24,10 @@ NODES, ROLE = 4, "2=0"
 HARDENED = {
     "User": "tundelca", "UMask": "0077", "NoNewPrivileges": "yes", "ProtectSystem": "strict", "Restart": "on-failure",
     "RestartPreventExitStatus": "2 3 6", "StateDirectory": "tundelca/%i", "StateDirectoryMode": "0700",
+    "LimitCORE": "0", "SystemCallFilter": "@system-service", "SystemCallErrorNumber": "EPERM",
 }
 SERVE = ["serve", "--cluster", "/etc/tundelca/%i.json", "--journal", "/var/lib/tundelca/%i/node.journal"]
+MODULES = "usr/lib/python3/dist-packages"  # where Debian's Python looks by itself
 LIBC = {"libc.so.6", "libm.so.6", "libpthread.so.0", "ld-linux-x86-64.so.2", "linux-vdso.so.1"}
 
 
@@ -75,7 +77,8 @@ def checksums(one):
     for program in ("tundelca", "role_lab"):
         judge(hashlib.sha256(one.read(f"usr/bin/{program}")).hexdigest() in built, f"BUILT doesn't know {program}")
     judge(re.search(r"^commit [0-9a-f]{40}", built) and re.search(r"^kit rattle-", built, re.MULTILINE), built)
-    said("sh", "-n", os.path.join(one.control, "postinst"))
+    for script in ("postinst", "prerm"):
+        said("sh", "-n", os.path.join(one.control, script))
     return f"{len(rows)} files"
 
 
@@ -132,6 +135,21 @@ def unit(one):
     return f"{len(parts['Service'])} settings"
 
 
+ASKING = """
+import sys
+from tundelca import Client
+with Client(int(sys.argv[1])) as node:
+    print(sys.modules["tundelca"].__file__, node.reach(owner=0))
+"""
+
+
+def client(one, port, reach):
+    """A program elsewhere that looks where Debian's Python does, and nowhere else of the package, finds the client."""
+    words = [sys.executable, "-c", ASKING, str(port)]
+    told = said(*words, cwd="/", env={**os.environ, "PYTHONPATH": one.path(MODULES), "PYTHONDONTWRITEBYTECODE": "1"})
+    judge(told == f"{one.path(MODULES)}/tundelca.py {reach}\n", told)
+
+
 def cluster(one):
     """Four nodes with journals and the tool, all from the scratch root; one is killed and started again."""
     etc, var = one.path("etc/tundelca"), one.path("var/lib/tundelca")
@@ -179,6 +197,7 @@ def cluster(one):
             session = node.open(7)
             node.ask("activate", session=session, user=7, role=2)
             judge(node.check(session, 7, 5, 9).allow, "it isn't allowed")
+        client(one, clients[3], 2)
         for name in ("node.journal", "node.journal-wal"):
             mode = os.stat(os.path.join(var, "3", name)).st_mode & 0o777
             judge(mode & 0o077 == 0, f"{name} has mode {mode:o}")
