@@ -19,9 +19,9 @@ MOST_NAMES = 4  # of functions in a row
 HEAD = (
     "# Files of lemmas\n\n"
     "For whoever changes a proof: which file of a crate's `proofs/` carries what. `checks/lemma_map.py write` makes "
-    "this page from the comments at the files' heads, so change those. The last column has the functions and laws whose "
-    "own proofs, in the folder of their name, cite the file; a file without any serves other files of lemmas, or the "
-    "crates above.\n"
+    "this page from the comments at the files' heads, so change those. The last column has the functions and laws "
+    "whose own proofs, in the folder of their name, cite the file; a file without any serves other files of lemmas, "
+    "or the crates above.\n"
 )
 
 
