@@ -5,7 +5,8 @@
 
 Nodes 0, 1 and 2 are `tundelca serve --in-memory`, each of which `rt try` compiles for itself, with checks and not for
 speed: it proves nothing, and says so at the end. Where three processors are idle the three take as long as one,
-two to three minutes. PROGRAM is a tundelca that was proved and built, to take in its place.
+two to five minutes. Such nodes are to be looked at: they deliver some commands a second. PROGRAM is a tundelca that was
+proved and built, to take in its place.
 Node 3 is liar.py. Node 0 publishes that user 7 has role 2 and what that role may do; the liar says otherwise. Then the
 cluster stands for N seconds, or until Ctrl-C, to be tried by hand.
 """
@@ -158,6 +159,8 @@ def main():
     with tempfile.TemporaryDirectory(prefix="tundelca-") as folder:
         cluster, fault = Cluster(folder, given.first_port), None
         try:
+            if given.program is None:
+                print("rt try compiles the nodes, in two to five minutes", flush=True)
             show(cluster, given.program, given.seconds)
             print(f"it stands for {given.seconds} s, or until Ctrl-C; look on, and ask on:")
             ports, tool = " ".join(map(str, cluster.clients[:LIAR])), "python3 tools/tundelca_ctl.py"
