@@ -28,6 +28,9 @@ TOP = Path(__file__).resolve().parent.parent
 WORDS = {word: str(value) for value, word in enumerate(
     "zero one two three four five six seven eight nine ten eleven twelve".split())}
 WORDS |= {"hundred": "100", "half": "0.5"}
+# What counts behind a number in words: "one that" and "two of" are no figures.
+UNITS = set("byte bit digit second minute hour day million hundred thousand node peer liar owner place command event "
+            "message packet frame session role line sync step thread program crate connection millisecond".split())
 NUMBER = r"\d+(?:[,.]\d+)*(?:\^\d+)?"
 FORMULA = re.compile(r"\b\d*[nfP](?:\*[nP])* ?[*+/-] ?\(?\d*[nfP]?(?: ?\+ ?\d)?\)?|\b[2-9][nf]\b|n/3|\b2\^\d+")
 CODE = re.compile(r"\b([A-Z])(\d{1,2})\b(?: to ([A-Z])(\d{1,2})\b)?")
@@ -71,8 +74,10 @@ def numbers_in(text):
     """The numbers of a text, each with the word behind it."""
     plain = re.sub(r"[*`|\[\]()\"]", " ", re.sub(CODE, " ", SPAN.sub(r"\1 to \2", text)))
     for found in re.finditer(rf"(?<![\w.^-])({NUMBER}|(?i:{'|'.join(WORDS)}))(?![\w^])[ -]?(\w[\w/]*)?", plain):
-        number, unit = WORDS.get(found[1].lower(), found[1].replace(",", "")), (found[2] or "").lower()
-        yield number, unit[:-1] if len(unit) > 3 and unit.endswith("s") else unit
+        unit = (found[2] or "").lower()
+        unit = unit[:-1] if len(unit) > 3 and unit.endswith("s") else unit
+        if found[1].lower() not in WORDS or unit in UNITS:
+            yield WORDS.get(found[1].lower(), found[1].replace(",", "")), unit
 
 
 def blocks_of(text):
