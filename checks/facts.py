@@ -101,7 +101,8 @@ def facts_of(text):
         seen = list(dict.fromkeys(codes))
         facts["order"].update((one, other) for at, one in enumerate(seen) for other in seen[at + 1:])
     prose = re.sub(r"(?s)```.*?```", "", text)
-    facts["name"].update(re.findall(r"`([^`\n]+)`", prose))
+    for name in re.findall(r"`([^`\n]+)`", prose):
+        facts["name"].update({name, name.split("/")[-1]} if re.fullmatch(r"[\w./]+\.\w+", name) else {name})
     return facts
 
 
