@@ -11,6 +11,8 @@ a file of lemmas or definitions (`Block..` is the beginning of one); a file, by 
 parts (in a crate's README `src/`, `specs/`, `proofs/` and `must-fail/` are the crate's own), where `*` and a part in
 capitals, as in `src/NAME_tests.rt`, stand for anything; the wrong bodies of CONTRIBUTING's rules.
 
+A page's first paragraph names its reader (READER).
+
 With no word it prints the counts, or each fault, and fails at one. `list` prints each call, law and refusal.
 """
 import fnmatch
@@ -26,6 +28,7 @@ PAGES = [TOP / "README.md", *sorted((TOP / "docs").glob("*.md"))]
 ROOMS = ("bench/", "checks/", "crates/", "docs/", "examples/", "packaging/", "tools/")
 OWN_ROOMS = ("src/", "specs/", "proofs/", "must-fail/")
 TYPE = re.compile(r"(?<![\w./-])[A-Z]\w*[a-z]\w*(?:\.\.)?(?![\w/])")
+READER = re.compile(r"(?:^For|\bis for) (?:a |all )?(?:readers?|whoever|anybody|somebody|services|operators)\b")
 FILE = re.compile(r"[\w./*{},-]+\.(?:rt|antt|edit|py|md|c|service|css|js|html|png|stdout)\b")
 ASIDE = {  # what says nothing to the compiler, by a file's ending
     ".rt": r'//[^\n]*|"(?:[^"\\\n]|\\.)*"', ".c": r'//[^\n]*|"(?:[^"\\\n]|\\.)*"', ".antt": r"--[^\n]*",
@@ -226,6 +229,14 @@ def link_faults(path):
     return [f"{path.relative_to(TOP)}: {fault}" for fault in faults]
 
 
+def reader_faults(path):
+    """What is wrong where the first paragraph behind the page's title doesn't say for whom the page is."""
+    text = path.read_text(encoding="utf-8")
+    behind = text[re.search(r"(?m)^# .*\n", text).end():].strip()
+    first = re.split(r"\n\s*\n", behind)[0]
+    return [] if READER.search(first) else [f"{path.relative_to(TOP)}: its first paragraph names no reader"]
+
+
 def main():
     if sys.argv[1:] == ["list"]:
         for crate in crates():
@@ -240,6 +251,8 @@ def main():
     words = sum(map(words_of, PAGES))
     own = [TOP / "crates" / crate / "README.md" for crate in crates()]
     faults = []
+    for path in PAGES:
+        faults += reader_faults(path)
     for path in PAGES + [path for path in own if path.exists()]:
         faults += link_faults(path) + [f"{path.relative_to(TOP)}: {fault}" for fault in absent(path)]
     for crate in crates():
