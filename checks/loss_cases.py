@@ -3,6 +3,7 @@ import contextlib
 import io
 import json
 import os
+import re
 import shutil
 import signal
 import subprocess
@@ -116,6 +117,20 @@ def refused(words, why):
     status, out, told = tool(*words)
     judge(status == NO and not out and told.startswith(f"tundelca-ctl: {why}"),
           f"due {why!r}, came status {status}, {out!r} {told!r}")
+
+
+def page_warns():
+    """docs/OPERATIONS.md says before each step that can lose something what it would be."""
+    with open(os.path.join(os.path.dirname(os.path.dirname(os.path.abspath(__file__))), "docs", "OPERATIONS.md"),
+              encoding="utf-8") as file:
+        page = file.read()
+    due = [r"\| `D1 Absent` \|.*\| .*\*\*Never begin one for a cluster number under which this node may have run",
+           r"\|[^|]*empty PATH-wal of another account \|[^|]*\| remove the PATH-wal",
+           r"Never replace or move the journal's file while its node runs",
+           r"To begin anew,\n\n1\. \*\*Stop publishing\*\*", r"You trust your own node"]
+    missing = [pattern for pattern in due if not re.search(pattern, page)]
+    judge(not missing, f"docs/OPERATIONS.md has not {missing}")
+    return f"{len(due)} warnings"
 
 
 def run(words, steps=None, account=None, **variables):

@@ -336,6 +336,7 @@ def main():
     examples += [
         ("files that are there", loss_cases.files_stay),
         ("begin-anew keep, while others publish", loss_cases.keep_sees),
+        ("OPERATIONS.md, what it warns of", loss_cases.page_warns),
         ("a journal's folders are synced", lambda: loss_cases.folders_are_synced(keeper)),
         ("check, killed", lambda: loss_cases.killed_check(keeper)),
     ]
