@@ -5,7 +5,7 @@ OLD and NEW are commits, or folders that hold a checkout; `.` is this one as it 
 of the PAGEs alone, it takes the facts that a rewriting must not lose:
 
   number  a number, or a formula that a power or a product makes, as 4,096, 2^32, 2n + 1
-  figure  a number and the word behind it, its unit: 64 places, 5 s, four nodes
+  figure  a number with its unit, the word behind it: 64 places, 5 s, four nodes
   code    a refusal's code, also one of a span as L1 to L11, and a status behind the word
   order   two codes that stand in this order in one paragraph, row or list
   name    what stands in backticks
@@ -28,9 +28,12 @@ TOP = Path(__file__).resolve().parent.parent
 WORDS = {word: str(value) for value, word in enumerate(
     "zero one two three four five six seven eight nine ten eleven twelve".split())}
 WORDS |= {"hundred": "100", "half": "0.5"}
-# What counts behind a number in words: "one that" and "two of" are no figures.
-UNITS = set("byte bit digit second minute hour day million hundred thousand node peer liar owner place command event "
-            "message packet frame session role line sync step thread program crate connection millisecond".split())
+# What a number may count: "one that" and "place 0 without" are no figures. A number alone counts without a unit.
+UNITS = set("""ms s kb mb gb kib mib millisecond second minute hour day microsecond byte bit digit character line word
+    node peer liar owner client place command event message packet frame echo ready send vote session login role user
+    permission operation object sync step call crash start thread worker seat connection slot descriptor job batch
+    crate function definition clause law test case file column row wrong processor core program organisation party
+    million hundred thousand time fold""".split())
 NUMBER = r"\d+(?:[,.]\d+)*(?:\^\d+)?"
 FORMULA = re.compile(r"\b\d*[nfP](?:\*[nP])* ?[*+/-] ?\(?\d*[nfP]?(?: ?\+ ?\d)?\)?|\b[2-9][nf]\b|n/3|\b2\^\d+")
 CODE = re.compile(r"\b([A-Z])(\d{1,2})\b(?: to ([A-Z])(\d{1,2})\b)?")
@@ -71,13 +74,13 @@ def codes_in(text):
 
 
 def numbers_in(text):
-    """The numbers of a text, each with the word behind it."""
+    """The numbers of a text, each with its unit, or None where what stands behind it is none."""
     plain = re.sub(r"[*`|\[\]()\"]", " ", re.sub(CODE, " ", SPAN.sub(r"\1 to \2", text)))
     for found in re.finditer(rf"(?<![\w.^-])({NUMBER}|(?i:{'|'.join(WORDS)}))(?![\w^])[ -]?(\w[\w/]*)?", plain):
         unit = (found[2] or "").lower()
         unit = unit[:-1] if len(unit) > 3 and unit.endswith("s") else unit
         if found[1].lower() not in WORDS or unit in UNITS:
-            yield WORDS.get(found[1].lower(), found[1].replace(",", "")), unit
+            yield WORDS.get(found[1].lower(), found[1].replace(",", "")), unit if unit in UNITS else None
 
 
 def blocks_of(text):
@@ -93,7 +96,7 @@ def facts_of(text):
         for number, unit in numbers_in(block):
             if number not in WORDS.values():
                 facts["number"][number] += 1
-            if unit and not unit[0].isdigit():
+            if unit:
                 facts["figure"][f"{number} {unit}"] += 1
         facts["number"].update(re.sub(r"\s", "", found) for found in FORMULA.findall(block))
         codes = codes_in(block)
@@ -157,8 +160,9 @@ def compare(old, new, only):
 def planted(text):
     """A copy of a page for each mistake that can be planted in it, with what was done and the kind that shows it."""
     facts, plain = facts_of(text), re.sub(r"(?s)```.*?```|\]\([^)]*\)", "", text)
-    found = next((hit for hit in re.finditer(r"(?<![\w.^,*`-])(\d[\d,]*\d) ([a-z]{2,})", plain)
-                  if text.count(hit[0]) == 1 and facts["number"][hit[1].replace(",", "")]), None)
+    found = next((hit for hit in re.finditer(r"(?<![\w.^,*`-])(\d[\d,]*\d) (\w+)", plain)
+                  if text.count(hit[0]) == 1 and hit[2].lower().rstrip("s") in UNITS
+                  and facts["number"][hit[1].replace(",", "")]), None)
     if found:
         yield "a limit changed", "number", text.replace(found[0], f"{found[1]}7 {found[2]}")
         yield "a unit changed", "figure", text.replace(found[0], f"{found[1]} furlongs")
