@@ -1,8 +1,8 @@
 #!/usr/bin/env python3
 """What a page says before and after it is rewritten: facts.py OLD NEW [PAGE..] | facts.py plant [PAGE..]
 
-OLD and NEW are commits, or folders that hold a checkout; `.` is this one as it stands. Of README.md and docs/*.md, or
-of the PAGEs alone, it takes the facts that a rewriting must not lose:
+OLD and NEW are commits, or folders that hold a checkout; `.` is this one as it stands. Of README.md, docs/*.md and the
+lists in docs/data, or of the PAGEs alone, it takes the facts that a rewriting must not lose:
 
   number  a number, or a formula that a power or a product makes, as 4,096, 2^32, 2n + 1
   figure  a number with its unit, the word behind it: 64 places, 5 s, four nodes
@@ -44,10 +44,11 @@ def pages_of(source):
     """The pages of a commit or a folder, by their names."""
     folder = TOP if source == "." else Path(source)
     if folder.is_dir():
-        found = [folder / "README.md", *sorted((folder / "docs").glob("*.md"))]
+        docs = folder / "docs"
+        found = [folder / "README.md", *sorted(docs.glob("*.md")), *sorted(docs.glob("data/*"))]
         return {str(path.relative_to(folder)): path.read_text(encoding="utf-8") for path in found}
     names = git("ls-tree", "-r", "--name-only", source, "README.md", "docs/").split()
-    return {name: git("show", f"{source}:{name}") for name in names if name.endswith(".md")}
+    return {name: git("show", f"{source}:{name}") for name in names if name.endswith((".md", ".tsv"))}
 
 
 def git(*words):

@@ -11,7 +11,8 @@ a file of lemmas or definitions (`Block..` is the beginning of one); a file, by 
 parts (in a crate's README `src/`, `specs/`, `proofs/` and `must-fail/` are the crate's own), where `*` and a part in
 capitals, as in `src/NAME_tests.rt`, stand for anything; the wrong bodies of CONTRIBUTING's rules.
 
-A page's first paragraph names its reader (READER).
+A page's first paragraph names its reader (READER). docs/data/*.md, lists that stand beside the pages, are held to links
+and names alone.
 
 With no word it prints the counts, or each fault, and fails at one. `list` prints each call, law and refusal.
 """
@@ -25,6 +26,7 @@ from pathlib import Path
 TOP = Path(__file__).resolve().parent.parent
 MOST_OF_CRATE = 600
 PAGES = [TOP / "README.md", *sorted((TOP / "docs").glob("*.md"))]
+DATA = sorted((TOP / "docs" / "data").glob("*.md"))
 ROOMS = ("bench/", "checks/", "crates/", "docs/", "examples/", "packaging/", "tools/")
 OWN_ROOMS = ("src/", "specs/", "proofs/", "must-fail/")
 TYPE = re.compile(r"(?<![\w./-])[A-Z]\w*[a-z]\w*(?:\.\.)?(?![\w/])")
@@ -253,7 +255,7 @@ def main():
     faults = []
     for path in PAGES:
         faults += reader_faults(path)
-    for path in PAGES + [path for path in own if path.exists()]:
+    for path in PAGES + DATA + [path for path in own if path.exists()]:
         faults += link_faults(path) + [f"{path.relative_to(TOP)}: {fault}" for fault in absent(path)]
     for crate in crates():
         faults += crate_faults(crate)
