@@ -106,6 +106,7 @@ def came_of(port, *parts, pause=0.0):
             for part in parts:
                 one.sendall(part)
                 time.sleep(pause)
+        with contextlib.suppress(OSError):  # it has ended
             one.shutdown(socket.SHUT_WR)
         with contextlib.suppress(ConnectionError):
             while more := one.recv(65_536):
