@@ -89,8 +89,8 @@ def openings():
     addresses = bytes([192, 0, 2, 1, 192, 0, 2, 2]) + struct.pack(">HH", 56_324, 7_400)
     sent["PROXY 2"] = b"\r\n\r\n\0\r\nQUIT\n\x21\x11" + counted(2, addresses) + LINES
     for name, first in [("a blank", b" "), ("a tab", b"\t"), ("an empty line", b"\n"), ("CR LF", b"\r\n"),
-                        ("a list", b"[1]"), ("nope", b"nope"), ("a text", b'"op"'), ("a byte order mark", b"\xef\xbb\xbf"),
-                        ("too long a line", b"x" * LONG)]:
+                        ("a list", b"[1]"), ("nope", b"nope"), ("a text", b'"op"'),
+                        ("a byte order mark", b"\xef\xbb\xbf"), ("too long a line", b"x" * LONG)]:
         sent[name] = first + LINES
     sent["a blank, and a line"] = b" " + LINES[1:]
     return sent
