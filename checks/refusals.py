@@ -12,6 +12,7 @@ refused, or with status 0 and all of it; it writes nothing to standard error. A 
 serves on, answers rightly or closes the connection concerned, and `stop` ends it.
 """
 import argparse
+import contextlib
 import json
 import os
 import shlex
@@ -240,6 +241,60 @@ def sweep_serve(refuser, folder, kind, every, at_once=False):
     return f"{told(refusals + 1, refusals)}, ended with status {counts}"
 
 
+PAGE = b'PATCH / HTTP/1.1\r\nContent-Length: 14\r\n\r\n{"op":"stop"}\n'
+
+
+def show_page(process, port):
+    """Sends a node what a web page may, whether or not it answers, and waits until it has ended the connection."""
+    while process.poll() is None:
+        with contextlib.suppress(ConnectionError):
+            with socket.create_connection((tundelca.LOOPBACK, port), timeout=PATIENCE) as page:
+                page.sendall(PAGE)
+                while page.recv(100):
+                    pass
+                return
+        time.sleep(0.01)
+
+
+def ended_by_itself(process, port):
+    """Whether a node has ended, or doesn't answer and ends soon."""
+    try:
+        with tundelca.Client(port, SOON) as node:
+            node.reach(0)
+    except tundelca.NodeFault:
+        with contextlib.suppress(subprocess.TimeoutExpired):
+            process.wait(1)
+    return process.poll() is not None
+
+
+def sweep_page(refuser, folder, kind):
+    """Whatever is refused, a node obeys no line of a web page, also none behind its last answer. Calls that come before
+    it serves are refused too, where a node may end by itself."""
+    program = built("tundelca", "tundelca")
+    ended = {}
+
+    def run(_, at):
+        ports = tundelca.free_ports(2)
+        [path] = tundelca.cluster_files(folder, [(2, 0)], ports[:1], ports[1:], 0)
+        process = subprocess.Popen(
+            [program, "serve", "--in-memory", "--cluster", path], env=refuser.environment(kind, at),
+            stdin=subprocess.DEVNULL, stdout=subprocess.DEVNULL, stderr=subprocess.DEVNULL)
+        try:
+            show_page(process, ports[1])
+            if ended_by_itself(process, ports[1]) and process.returncode == 0:
+                raise Fault(f"{kind}, call {at}: the page's stop was obeyed")
+            status = stop(process, ports[1])
+        finally:
+            if process.poll() is None:
+                process.kill()
+            process.wait()
+        ended[status] = ended.get(status, 0) + 1
+
+    refusals = refuser.sweep(kind, run)
+    counts = ", ".join(f"{key}: {ended[key]}" for key in sorted(ended))
+    return f"{told(refusals + 1, refusals)}, ended with status {counts}"
+
+
 def main():
     parser = argparse.ArgumentParser(description=__doc__, formatter_class=argparse.RawDescriptionHelpFormatter)
     parser.add_argument("--only", default="", help="what has this word in its name")
@@ -258,6 +313,8 @@ def main():
         for kind in ("memory", "write"):
             run = lambda kind=kind: sweep_serve(refuser, folder, kind, words.every, at_once=True)
             sweeps.append((f"serve, {kind}, all lines at once", run))
+        for kind in ("memory", "read"):
+            sweeps.append((f"a web page, {kind}", lambda kind=kind: sweep_page(refuser, folder, kind)))
         for name, sweep in sweeps:
             if words.only not in name:
                 continue

@@ -23,6 +23,7 @@ sys.dont_write_bytecode = True
 sys.path[:0] = [HERE, EXAMPLES, os.path.join(TOP, "tools")]
 import built  # noqa: E402
 import clients_page  # noqa: E402
+import first_bytes  # noqa: E402
 import gateway_cases  # noqa: E402
 import loss_cases  # noqa: E402
 import operator_cases  # noqa: E402
@@ -340,6 +341,7 @@ def main():
         ("a journal's folders are synced", lambda: loss_cases.folders_are_synced(keeper)),
         ("check, killed", lambda: loss_cases.killed_check(keeper)),
     ]
+    examples += first_bytes.cases(daemon, keeper)
     examples += tools_tried.trials(lab, keeper)
     failed = 0
     for name, example in examples:

@@ -19,7 +19,8 @@ use quorum_sizes::NodeName;
 use role_node::{Event, NodeAgain, Question};
 use served_node::answers::{hold_answer, hold_operator_answer, sent_count};
 use served_node::{HeldNode, Said};
-use server_locks::{Farewell, JobQueue, LineReader, Slot, is_http};
+use server_locks::{Farewell, JobQueue, LineReader, Slot, hears_foreign};
+use std::io::Read;
 use std::mem;
 use std::net::{Shutdown, TcpStream};
 use std::sync::Wait;
@@ -48,6 +49,8 @@ struct Client<'a, 'b, N: HeldNode, K: FrameKeys, R> {
     number: u32,
     stream: &'b TcpStream,
     queue: JobQueue<'a>,
+    /// Whether the connection is no client's, once its first bytes have told.
+    foreign: Option<bool>,
     /// How many lines were answered or have jobs since this thread last saw whether much is held.
     lines: u32,
     /// How many lines, and how many jobs, are in flight.
@@ -78,6 +81,7 @@ pub fn answer_client<N: HeldNode, K: FrameKeys, R: Wait + Clock>(
         number,
         stream,
         queue,
+        foreign: None,
         lines: 0,
         in_flight: 0,
         put: 0,
@@ -123,10 +127,28 @@ impl<N: HeldNode, K: FrameKeys, R: Wait + Clock> Client<'_, '_, N, K, R> {
         let _ = self.held.write_all(&mut self.writer);
     }
 
-    /// Whether one of the lines that come within two seconds, and are answered no more, stops the node.
+    /// Whether the connection is no client's. Its first bytes are waited for once, and nothing is obeyed before.
+    fn is_foreign<S: Read>(
+        &mut self,
+        ahead: &mut Ahead,
+        reader: &mut Watched<S>,
+    ) -> Result<bool, AheadFault> {
+        if let Some(foreign) = self.foreign {
+            return Ok(foreign);
+        }
+        let foreign = hears_foreign(self.server.operators, ahead, reader)?;
+        self.foreign = Some(foreign);
+        Ok(foreign)
+    }
+
+    /// Whether one of the lines that come within two seconds, and are answered no more, stops the node. No line of a
+    /// connection that is no client's does.
     fn leaves_a_stop(&mut self, ahead: &mut Ahead) -> bool {
         let _ = self.stream.shutdown(Shutdown::Write);
         let mut reader = Watched::new(Farewell::new(self.server.rt, self.stream, LAST_READS));
+        if !matches!(self.is_foreign(ahead, &mut reader), Ok(false)) {
+            return false;
+        }
         for _ in self.server.rt.forever() {
             let (stops, goes_on) = match ahead.peek(&mut reader, MOST_LINE_BYTES) {
                 Ok(Next::Line(count)) => {
@@ -150,11 +172,11 @@ impl<N: HeldNode, K: FrameKeys, R: Wait + Clock> Client<'_, '_, N, K, R> {
         matches!(self.requests.read(&sizes, line), Ok(Request::Stop))
     }
 
-    /// Answers the lines, up to the last. An HTTP request, of which a page in a browser has chosen what comes behind
-    /// its first line, is answered once.
+    /// Answers the lines, up to the last. A connection that is no client's is answered once, and nothing behind its
+    /// first bytes is looked at.
     fn answer_lines(&mut self, ahead: &mut Ahead) -> Result<AfterLine, AheadFault> {
-        self.wait_for_next(ahead)?;
-        if is_http(ahead.front()) {
+        let mut reader = Watched::new(LineReader::new(self.stream, false));
+        if self.is_foreign(ahead, &mut reader)? {
             self.say(&ClientAnswer::BadLine(LineFault::NotJson))?;
             return Ok(AfterLine::Close);
         }

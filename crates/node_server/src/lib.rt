@@ -63,7 +63,8 @@ pub struct Site {
     pub addresses: Vec<SocketAddr>,
     /// After so long a client that sends nothing is closed.
     pub idle: Duration,
-    /// Whether the lines of operators are answered, beside those of clients.
+    /// Whether the lines of operators are answered, beside those of clients. Then a connection of clients begins with
+    /// `{`; else one that does not begin as an HTTP request is a client's.
     pub operators: bool,
 }
 

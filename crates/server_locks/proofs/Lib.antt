@@ -1,4 +1,5 @@
 mod CallLemmas
 mod FrontLemmas
 mod OpenedLemmas
+mod RequestLemmas
 mod WriteLemmas

@@ -1,9 +1,15 @@
 //! Reading a client's lines, and the last that is read of it and written to it.
 
-ghost use Rattle.std.specs.Prelude.{◌≡◌, IfSome};
+ghost use Rattle.std.specs.Prelude.{◌≡◌, IfOk, IfSome};
 ghost use Rattle.std.specs.Io.{ReadsAtMost};
-ghost use Rattle.server_locks.specs.Requests.{is_http};
+ghost use Rattle.std.specs.Io.KnownBytes.{Keeps};
+ghost use Rattle.link_frames.specs.lines.Aheads.{front_of, pending};
+ghost use Rattle.link_frames.specs.lines.Blocks.{ReadAhead};
+ghost use Rattle.link_frames.specs.lines.Watching.{watched_inner, watched_tally};
+ghost use Rattle.server_locks.specs.Requests.{is_foreign, is_http, HoldsOfAll};
 
+use client_lines::MOST_LINE_BYTES;
+use link_frames::{Ahead, AheadFault, Watched};
 use served_node::millis;
 use std::io::{ErrorKind, Read, Write};
 use std::net::TcpStream;
@@ -15,7 +21,7 @@ const MOST_LOOKS: u32 = 16;
 
 /// Whether bytes begin as an HTTP request that a page in a browser can have sent to any port, and so are no client's
 /// line.
-pub fn is_http(bytes: &[u8]) -> bool
+fn is_http(bytes: &[u8]) -> bool
     ensures { result ≡ is_http bytes.now }
 {
     bytes.starts_with(b"GET ")
@@ -23,6 +29,42 @@ pub fn is_http(bytes: &[u8]) -> bool
         || bytes.starts_with(b"POST ")
         || bytes.starts_with(b"PUT ")
         || bytes.starts_with(b"OPTIONS ")
+}
+
+/// Whether the first bytes of a connection are no client's. Where operators' lines are answered, the first has to be
+/// `{`, since any other protocol may carry a line: behind a method of a page's own, or in a TLS hello. Elsewhere they
+/// are no client's where they begin as an HTTP request.
+fn is_foreign(operators: bool, bytes: &[u8]) -> bool
+    ensures { result ≡ is_foreign operators bytes.now }
+{
+    if operators {
+        bytes.first().is_some_and(|first| *first != b'{')
+    } else {
+        is_http(bytes)
+    }
+}
+
+/// Whether a connection is no client's, as its first bytes tell, which are read as far as that takes: where operators'
+/// lines are answered one byte, elsewhere a line, or as many bytes as one may have. A connection that ends before is a
+/// client's unless these tell otherwise. Nothing is used up.
+///
+/// # Errors
+///
+/// `Device` where the reader has failed, and `Memory`. Whose the connection is isn't known then.
+pub fn hears_foreign<R: Read>(
+    operators: bool,
+    ahead: &mut Ahead,
+    reader: &mut Watched<R>,
+) -> Result<bool, AheadFault>
+    ensures first { IfOk result (λ foreign. foreign ≡ is_foreign operators (front_of ahead.new)) }
+    ensures all { IfOk result (HoldsOfAll operators (pending (R.remaining (watched_inner reader.old)) ahead.old)) }
+    ensures keeps { Keeps (pending (R.remaining (watched_inner reader.old)) ahead.old)
+        (pending (R.remaining (watched_inner reader.new)) ahead.new) }
+    ensures counts { ReadAhead (watched_tally reader.old) (watched_tally reader.new) result }
+{
+    let most = if operators { 0 } else { MOST_LINE_BYTES };
+    ahead.peek(reader, most)?;
+    Ok(is_foreign(operators, ahead.front()))
 }
 
 /// A client's stream, from which its lines are read.

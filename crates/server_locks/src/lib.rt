@@ -4,7 +4,7 @@
 //!
 //! `specs/Counts.antt` says how many frames are lost and when a connection is given up, `Lines.antt` what else becomes
 //! of frames and of a connection, `Jobs.antt` which jobs are put, `NextJobs.antt` which comes next, `Fronts.antt` what
-//! is gathered for single peers, `Turns.antt` whose turn is next, `Requests.antt` what is no client's line.
+//! is gathered for single peers, `Turns.antt` whose turn is next, `Requests.antt` which connection is no client's.
 #![tactic(auto)]
 
 mod alarm;
@@ -21,7 +21,7 @@ mod tickets;
 
 pub use alarm::Alarm;
 pub use calls::{hear, make_next};
-pub use client_stream::{Farewell, LineReader, is_http};
+pub use client_stream::{Farewell, LineReader, hears_foreign};
 pub use front::{Done, Front, most_batch};
 pub use job_queue::{JobQueue, job_queues};
 pub use keeping::keep;
