@@ -190,7 +190,8 @@ class Nodes:
 
     def __init__(self, program, folder, count):
         ports = tundelca.free_ports(2 * count)
-        paths = tundelca.cluster_files(folder, [(2, 0)], ports[:count], ports[count:], (count - 1) // 3)
+        own = tempfile.mkdtemp(dir=folder)
+        paths = tundelca.cluster_files(own, [(2, 0)], ports[:count], ports[count:], (count - 1) // 3)
         self.ports, self.running = ports[count:], [tundelca.start(program, path) for path in paths]
         self.clients = [tundelca.Client(port) for port in self.ports]
         self.issued = 0

@@ -207,7 +207,8 @@ def sweep_serve(refuser, folder, kind, every, at_once=False):
 
     def run(kind, at):
         ports = tundelca.free_ports(5)
-        path = tundelca.cluster_files(folder, [(2, 0)], ports[:4], ports[4:] * 4, 1)[0]
+        own = tempfile.mkdtemp(dir=folder)
+        path = tundelca.cluster_files(own, [(2, 0)], ports[:4], ports[4:] * 4, 1)[0]
         environment = refuser.environment(kind, at)
         process = subprocess.Popen(
             [program, "serve", "--cluster", path], env=environment, stdin=subprocess.DEVNULL,

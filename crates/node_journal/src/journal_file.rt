@@ -36,7 +36,8 @@ pub fn open_journal<S: Start>(
     }
 }
 
-/// The files of a journal that is to begin. One that is absent is made, for its owner alone.
+/// The files of a journal that is to begin. One that is absent is made, for its owner alone. Its folder, and the folder
+/// that this one is in, are synced, so that no loss of power takes the journal's path.
 ///
 /// # Errors
 ///
@@ -53,10 +54,10 @@ pub fn make_journal<S: Start>(
     let mut options = OpenOptions::new();
     options.write(true).create_new(true).mode(0o600);
     match options.open(rt, path) {
-        Ok(_made) => opened(rt, path, start),
+        Ok(_made) => made(rt, path, start),
         Err(error) => {
             if error.kind() == ErrorKind::AlreadyExists {
-                opened(rt, path, start)
+                made(rt, path, start)
             } else {
                 Err(fault_of(&error))
             }
@@ -98,6 +99,44 @@ fn beside(rt: &HostRuntime, path: &str) -> Result<String, KeptFault>
     ensures { IfErr result (λ fault. fault ≡ Journal Memory) }
 {
     Ok(format!(in rt.alloc(); "{path}-wal")?)
+}
+
+/// The files of a journal that is there, once the folder above theirs is synced.
+fn made<S: Start>(rt: &HostRuntime, path: &str, start: S) -> Result<Files<FileFrom<S>>, KeptFault>
+    ensures beside { IfOk result (λ files. IsTrue (file_is_usable S.Start files.log)) }
+    ensures usable { IfOk result (λ files. IsTrue (file_is_usable S.Start files.db)) }
+    ensures why { IfErr result IsNotOpened }
+{
+    let files = opened(rt, path, start)?;
+    sync_above(rt, path)?;
+    Ok(files)
+}
+
+/// Syncs the folder that a journal's folder is in, where there is one that this process may open. The journal's own
+/// folder is synced whenever its files are opened.
+fn sync_above(rt: &HostRuntime, path: &str) -> Result<(), KeptFault>
+    ensures why { IfErr result IsNotOpened }
+{
+    match folder_above(rt, path) {
+        Ok(Some(folder)) => match folder.sync_all() {
+            Ok(()) => Ok(()),
+            Err(error) => Err(fault_of(&error)),
+        },
+        Ok(None) => Ok(()),
+        Err(error) if error.kind() == ErrorKind::PermissionDenied => Ok(()),
+        Err(error) => Err(fault_of(&error)),
+    }
+}
+
+/// The folder that a file's folder is in; none where that is the root.
+fn folder_above(rt: &HostRuntime, path: &str) -> io::Result<Option<fs::File>> {
+    let mut folder = fs::canonicalize(rt, path)?;
+    folder.pop();
+    if folder.pop() {
+        Ok(Some(fs::File::open(rt, folder.as_str())?))
+    } else {
+        Ok(None)
+    }
 }
 
 fn opened<S: Start>(rt: &HostRuntime, path: &str, start: S) -> Result<Files<FileFrom<S>>, KeptFault>
