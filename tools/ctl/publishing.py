@@ -6,7 +6,7 @@ import sys
 import time
 
 import tundelca
-from ctl import DONE, REFUSED, WORDS, Fault, nodes
+from ctl import DONE, NO, REFUSED, WORDS, Fault, nodes
 from ctl.nodes import Nodes
 from ctl.terminal import counted
 
@@ -65,9 +65,11 @@ def pair(word):
 def ask(given):
     """Prints the answer to one line."""
     with tundelca.Client(given.node.port, given.patience) as client:
-        client.send([{"op": given.op, **dict(given.members)}])
-        answer = client.answer({"op": given.op})
+        [answer] = client.ask_all([{"op": given.op, **dict(given.members)}])
     print(json.dumps(answer))
+    twice = "issued" in answer and tundelca.beyond_published(answer["issued"] + 1, answer["reach"], 0)
+    if twice:
+        raise Fault(NO, f"the node at port {given.node.port} {twice}: {tundelca.TWICE}")
     return REFUSED if "error" in answer else DONE
 
 
