@@ -44,7 +44,7 @@ def judge(well, text):
 
 
 def tool(*words, status=0):
-    """What the tool prints, which has to end with this status; what it tells of wrong words or of `keep` is one line."""
+    """What the tool prints, which has to end with this status; it tells a line of wrong words, of `keep` too."""
     came, out, told = ended(*words)
     said = f"{words} ended with status {came}: {out[-400:]} {told[-400:]}"
     judge(came == status, said)
