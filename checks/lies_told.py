@@ -110,6 +110,29 @@ def odd_standings(well):
             yield line(answer)
 
 
+def all_that_nodes_say_fits():
+    """Each stored answer of a node is of its form, so no correct node is taken for a liar."""
+    count, top = 0, os.path.dirname(os.path.dirname(tools_tried.TOOL[1]))
+    for path, first in [("operators/one_node", 0), *((f"pipe/{name}", 1) for name in os.listdir(f"{top}/examples/pipe")
+                                                     if "." not in name)]:
+        with open(f"{top}/examples/{path}", "rb") as asked, open(f"{top}/examples/{path}.stdout", "rb") as answers:
+            for question, answer in zip(asked.read().split(b"\n")[first:], answers.read().splitlines()):
+                request = question_in(question)
+                judge(tundelca.read_answer(request, answer.decode()) is not None, f"{path}: {question!r}, {answer!r}")
+                count += 1
+    judge(count > 90, f"{count} answers alone")
+    return f"{count} answers"
+
+
+def question_in(line):
+    """The request in a line; of what is none, one that gets a refusal too."""
+    try:
+        request = json.loads(line)
+        return request if isinstance(request["op"], str) else {"op": "fly"}
+    except (ValueError, KeyError, TypeError):
+        return {"op": "fly"}
+
+
 def endless(_):
     """A line without end."""
     block = b'{"at":1,"users":[' + b"7," * (BLOCK // 2)
@@ -298,6 +321,7 @@ def state_of(address):
 def trials():
     """Each trial by its name."""
     return [
+        ("tools: what nodes say", all_that_nodes_say_fits),
         ("tools: beside lies", words_end_well),
         ("tools: beside silence", silence_is_short),
         ("tools: memory beside lies", memory_is_bounded),
