@@ -16,10 +16,11 @@ import tools_tried
 import tundelca
 from tools_tried import AWAY, BEHIND, PATIENCE, READY, fetch, judge, playing, serving, tool, wait_until
 
-ASKED = 0.5  # seconds of patience
+ASKED, SHORT = 0.5, 0.2  # seconds of patience, and of patience beside a node that is silent
 MORE = 2.0  # seconds that a word may take beside it
 SMALL, LARGE = 64, 256  # MB
 TOO_MUCH = 1 << 64
+WORDS = 13  # of `tries`, and then those that ask for what one likes
 FOREVER = 4_000_000_000  # bytes, which is more than anybody waits for
 BLOCK = 1 << 16  # bytes
 COMMAND = {"op": "assign", "role": 2, "user": 7}
@@ -157,7 +158,8 @@ def tries(ports, files):
         (["diff", last, ports[0], "--owner", 0], ["reach", "command"]),
         (["sessions", last], ["sessions"]), (["sessions", last, "--close-user", 7], ["sessions", "close"]),
         (["publish", files["commands"], last, *others], ["status", "reach", "assign", "command"]),
-        (["begin-anew", "keep", files[0], last], ["assigned_users", "role_permissions"]),
+        (["begin-anew", "keep", files[0], last], ["status", "assigned_users", "role_permissions"]),
+        (["begin-anew", "publish", files["kept"], files[3], *others], ["status", "reach", "assign", "command"]),
         *((["ask", last, op, *(f"{name}=1" for name in ("user", "role", "session", "operation", "object", "owner",
                                                           "place", "from"))], [op]) for op in TRUE),
         (["ask", last, "status"], ["status"]), (["ask", last, "fly"], ["fly"]),
@@ -192,6 +194,9 @@ def written(folder, ports):
     files["commands"] = os.path.join(folder, "commands")
     with open(files["commands"], "w", encoding="ascii") as file:
         file.write('{"op":"assign","user":7,"role":4}\n')
+    files["kept"] = os.path.join(folder, "kept")
+    with open(files["kept"], "w", encoding="ascii") as file:
+        json.dump({"4": {"users": [7], "permissions": []}}, file)
     return files
 
 
@@ -214,26 +219,28 @@ def silence_is_short():
     """Each word beside a node that is silent, that answers by drops, or each line late: it ends in its time."""
     with playing() as (cluster, ports), tempfile.TemporaryDirectory(prefix="tundelca-") as folder:
         liar, files, longest = cluster.nodes[3], written(folder, ports), 0.0
+        cluster.owners[4] = 3
 
         def late(_):
-            time.sleep(0.8 * ASKED)
+            time.sleep(0.8 * SHORT)
             yield b'{"error":"J4 UnknownOp"}\n'
 
         def slowly(_):
-            time.sleep(0.8 * ASKED)
+            time.sleep(0.8 * SHORT)
             yield b'{"reach":7}\n'
 
-        for how in ({"mute": True}, {"drips": 0.1}, {"lies": {"status": late, "reach": slowly}}):
-            for name, value in {"mute": False, "drips": None, "lies": {}, **how}.items():
-                setattr(liar, name, value)
-            for words, _ in tries(ports, files)[:12]:
-                if "lies" not in how or words[0] in ("status", "health", "metrics", "diff"):
-                    begun = time.monotonic()
-                    status, said, told = tools_tried.ended(*words, "--patience", ASKED)
-                    longest = max(longest, time.monotonic() - begun)
-                    shown = f"{words}, {how}: status {status}, {longest:.1f} s, {told}"
-                    judge((status == AWAY or "--owner" in words) and longest < ASKED + MORE, shown)
-    return f"{longest:.1f} s at most, of which {ASKED} are patience"
+        silent = [{"mute": True}, {"drips": 0.1}, {"lies": {"status": late, "reach": slowly}}]
+        for words, ops in tries(ports, files)[:WORDS]:
+            for how in [*silent, *({"lies": {op: b""}} for op in ops)]:
+                for name, value in {"mute": False, "drips": None, "lies": {}, "sessions": {1: 7}, **how}.items():
+                    setattr(liar, name, value)
+                begun = time.monotonic()
+                status, _, told = tools_tried.ended(*words, "--patience", SHORT)
+                longest = max(longest, time.monotonic() - begun)
+                is_well = how is silent[2] and status in (READY, BEHIND, tools_tried.REFUSED)  # it was not too slow
+                shown = f"{words}, {how}: status {status}, {longest:.1f} s, {told}"
+                judge((status == AWAY or is_well) and longest < SHORT + MORE, shown)
+    return f"{longest:.1f} s at most, of which {SHORT} are patience"
 
 
 WEIGHED = """

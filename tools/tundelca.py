@@ -521,8 +521,9 @@ class Client:
                 publication.arrive()
                 publication.read_back()
             except (Refused, Unreachable) as fault:
-                with contextlib.suppress(NodeFault):
-                    publication.linger()
+                if isinstance(fault, Refused):
+                    with contextlib.suppress(NodeFault):
+                        publication.linger()
                 raise Unfinished(owner, publication.done(), len(commands), fault) from fault
             return publication.done()
 
@@ -606,6 +607,7 @@ class Watched:
         self.port, self.reach = port, None
         self.question = {"op": "reach", "owner": owner}
         self.socket, self.text, self.is_asked, self.next_try = None, b"", False, 0.0
+        self.is_odd = False  # the last that it said is what no node says
 
     def ask(self):
         """Asks, if the last question is answered. A connection that broke is made anew after a second."""
@@ -628,16 +630,15 @@ class Watched:
         try:
             came = self.socket.recv(self.LONGEST)
             self.text += came
-            if not came or len(self.text) > self.LONGEST:
-                raise ValueError
-            if self.text.endswith(b"\n"):
+            if self.text.endswith(b"\n") or len(self.text) > self.LONGEST:
                 answer = read_answer(self.question, self.text[:-1].decode("ascii", "replace"))
-                if answer is None or "error" in answer:
-                    raise ValueError
-                self.reach, self.text, self.is_asked = answer["reach"], b"", False
+                self.is_odd = answer is None
+                self.reach, self.text, self.is_asked = (answer or {}).get("reach", self.reach), b"", False
+            if not came or self.is_odd:
+                self.close()
         except BlockingIOError:
             pass
-        except (OSError, ValueError):
+        except OSError:
             self.close()
 
     def close(self):
@@ -667,7 +668,7 @@ class Publication:
         A correct node's own stream never reaches beyond what it has published; and where more of the others than may
         lie have more of it, one of these is correct. The owner is asked last, so that it has had time to publish that.
         """
-        first = min(time.monotonic() + self.FIRST, self.deadline)
+        first = min(time.monotonic() + min(self.FIRST, self.patience), self.deadline)
         self.hear()
         while sum(one.reach is not None for one in self.watched) < self.quorum - 1 and time.monotonic() < first:
             self.hear()
@@ -769,7 +770,9 @@ class Publication:
         if now > self.deadline:
             raise Unreachable("the deadline is over")
         if now > self.moved + self.patience:
-            raise Unreachable(f"for {self.patience:g} seconds too few nodes say that they have more than {self.front}")
+            odd = "".join(f"; a node answers what no node says: port {one.port}" for one in self.watched if one.is_odd)
+            raise Unreachable(f"for {self.patience:g} seconds too few nodes say that they have more than {self.front}"
+                              f"{odd}")
 
     def behind(self):
         """The ports of the nodes that haven't all, and how far they are."""

@@ -17,6 +17,7 @@ MEMBERS = {  # of each command, with how many values they have
     "revoke": {"role": 1 << 16, "operation": 1 << 16, "object": 1 << 32},
     "clear": {"role": 1 << 16},
 }
+ANSWER = 10.0  # seconds that an answer may take
 ADDING = ("assign", "grant")  # whose order doesn't matter among themselves
 
 
@@ -156,7 +157,7 @@ def issue(parts, named, may_lie, given):
         in_order = not all(command["op"] in ADDING for command in commands)
         told = progress(owner, len(commands)) if sys.stderr.isatty() else None
         try:
-            with tundelca.Client(node.port) as client:
+            with tundelca.Client(node.port, min(ANSWER, given.patience)) as client:
                 done = client.publish(commands, owner, others, may_lie, given.patience, left, in_order, told)
         finally:
             if told is not None:
