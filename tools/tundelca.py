@@ -181,13 +181,18 @@ def one_of(*forms):
     return lambda value, request: any(fits(value, form, request) for form in forms)
 
 
+def or_none(form):
+    """A form: None, or what this function says."""
+    return lambda value, request: value is None or form(value, request)
+
+
 def by(name, forms):
-    """A form: an object that is of the form for what it has under the name, a text or a truth value."""
+    """A form: an object of the members of the form for what it has under the name, a text or a truth value."""
 
     def is_so(value, request):
         kind = value.get(name) if type(value) is dict else None
-        form = forms.get(kind, {}) if type(kind) in (str, bool) else {}
-        return 0 < len(form) == len(value) and has_all(value, form, request)
+        form = forms.get(kind) if type(kind) in (str, bool) else None
+        return form is not None and len(value) == 1 + len(form) and has_all(value, form, request)
 
     return is_so
 
@@ -246,8 +251,8 @@ def are_active(value, request):
 FLAG = one_of(True, False)
 PEER = at_least({"connected": FLAG, "heard": FLAG, **dict.fromkeys(("again", "lost", "unopened", "waiting"), COUNT)})
 JOURNAL = at_least({"sound": FLAG, **dict.fromkeys(("last", "mean", "syncs", "worst"), COUNT)})
-STATUS = at_least({"at": EVENTS + 1, "journal": one_of(None, JOURNAL), "limit": EVENTS + 1,
-                   "peers": list_of(one_of(None, PEER), NODES), "published": PLACES + 1,
+STATUS = at_least({"at": EVENTS + 1, "journal": or_none(JOURNAL), "limit": EVENTS + 1,
+                   "peers": list_of(or_none(PEER), NODES), "published": PLACES + 1,
                    "reaches": list_of(PLACES + 1, NODES), "sessions": SESSIONS + 1, "unopened": COUNT})
 
 
@@ -257,12 +262,10 @@ def is_status(value, request):
         len(value["peers"]) == len(value["reaches"]) and value["at"] <= value["limit"] > 0
 
 
-COMMANDS = {  # what is published
-    "assign": {"op": "assign", "role": ROLE, "user": USER},
-    "deassign": {"op": "deassign", "role": ROLE, "user": USER},
-    "grant": {"object": OBJECT, "op": "grant", "operation": OPERATION, "role": ROLE},
-    "revoke": {"object": OBJECT, "op": "revoke", "operation": OPERATION, "role": ROLE},
-    "clear": {"op": "clear", "role": ROLE},
+COMMANDS = {  # what is published, each by its `op`
+    "assign": {"role": ROLE, "user": USER}, "deassign": {"role": ROLE, "user": USER},
+    "grant": {"object": OBJECT, "operation": OPERATION, "role": ROLE},
+    "revoke": {"object": OBJECT, "operation": OPERATION, "role": ROLE}, "clear": {"role": ROLE},
 }
 LISTINGS = {  # each with the member that is its list, and with what that is
     "assigned_users": ("users", numbers(USER)), "assigned_roles": ("roles", numbers(ROLE)),
@@ -275,10 +278,9 @@ FORMS = {  # of the answer to each line
     **dict.fromkeys(COMMANDS, {"issued": PLACES, "reach": PLACES + 1}),
     **{op: {"at": EVENTS + 1, name: items} for op, (name, items) in LISTINGS.items()},
     "open": {"session": SESSION}, **dict.fromkeys(("activate", "drop", "close"), {"done": True}),
-    "check": by("allow", {True: {"allow": True, "at": EVENTS + 1, "role": ROLE},
-                          False: {"allow": False, "at": EVENTS + 1, "rule": matches(RULE)}}),
+    "check": by("allow", {True: {"at": EVENTS + 1, "role": ROLE}, False: {"at": EVENTS + 1, "rule": matches(RULE)}}),
     "reach": {"reach": PLACES + 1}, "again": {"again": 4}, "stop": {"stopped": True}, "status": is_status,
-    "command": {"command": one_of(None, by("op", COMMANDS))},
+    "command": {"command": or_none(by("op", COMMANDS))},
     "sessions": {"at": EVENTS + 1, "sessions": is_page},
 }
 REFUSAL = one_of({"error": matches(CODE)}, {"error": matches(CODE), "name": matches(MEMBER)})
