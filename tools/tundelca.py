@@ -307,7 +307,7 @@ def read_answer(request, line, items=ITEMS):
 
 
 class Turn:
-    """A thread's questions on a client, up to their last answer. It waits for `begins` where others go first."""
+    """A thread's questions on a client, up to their last answer. Where it waits, `begins` is locked until then."""
 
     __slots__ = "thread", "begins"
 
@@ -319,7 +319,8 @@ class Turns:
     """Whose turn it is. One begins as the one before ends, in the order in which their threads came."""
 
     def __init__(self):
-        self.guard, self.now, self.waiting = threading.Lock(), None, collections.deque()
+        # A thread may come here again amid this, where an ask_all that nobody holds any more is thrown away just then.
+        self.guard, self.now, self.waiting = threading.RLock(), None, collections.deque()
 
     def begin(self, turn, patience):
         """Whether the turn begins within so many seconds. A RuntimeError where this thread has the present one."""
@@ -327,23 +328,31 @@ class Turns:
             if self.now is None:
                 self.now = turn
                 return True
-            if self.now.thread == turn.thread:
-                raise RuntimeError("this thread asks on a client amid an ask_all of its own, which has answers to come")
-            turn.begins = threading.Event()
+            is_own = self.now.thread == turn.thread
+        if is_own:
+            raise RuntimeError("this thread asks on a client amid an ask_all of its own, which isn't at its end")
+        turn.begins = threading.Lock()
+        turn.begins.acquire()
+        with self.guard:
             self.waiting.append(turn)
-        turn.begins.wait(patience)
+            self.pass_on()
+        turn.begins.acquire(timeout=patience)
         return self.now is turn
 
     def end(self, turn):
         """Ends the turn, whether or not it has begun."""
         with self.guard:
-            if self.now is not turn:
-                with contextlib.suppress(ValueError):
-                    self.waiting.remove(turn)
-                return
-            self.now = self.waiting.popleft() if self.waiting else None
-            if self.now is not None:
-                self.now.begins.set()
+            if self.now is turn:
+                self.now = None
+                self.pass_on()
+            elif turn in self.waiting:
+                self.waiting.remove(turn)
+
+    def pass_on(self):
+        """Has the turn that waits longest begin, if there is none."""
+        if self.now is None and self.waiting:
+            self.now = self.waiting.popleft()
+            self.now.begins.release()
 
 
 class Incoming(io.RawIOBase):
