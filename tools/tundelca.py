@@ -125,7 +125,8 @@ class BegunTwice(Unfinished):
 
     def __init__(self, port, owner, done, seen):
         self.done = done
-        Exception.__init__(self, f"node {owner} at port {port} {seen}: {TWICE}")
+        Exception.__init__(self, f"node {owner} at port {port} {seen}: {TWICE} ({done.commands:,} of these commands went "
+                                 "out)")
 
 
 @dataclass(frozen=True)
