@@ -116,8 +116,8 @@ def beyond_published(published, here, elsewhere):
     """
     if published >= max(here, elsewhere):
         return None
-    return f"has published {published:,} of its commands, and {max(here, elsewhere):,} of them are " + (
-        "there" if here > published else "at other nodes")
+    more = f"{here:,} of them are there" if here > published else f"{elsewhere:,} of them are at other nodes"
+    return f"has published {published:,} of its commands, and {more}"
 
 
 class BegunTwice(Unfinished):
@@ -125,8 +125,8 @@ class BegunTwice(Unfinished):
 
     def __init__(self, port, owner, done, seen):
         self.done = done
-        Exception.__init__(self, f"node {owner} at port {port} {seen}: {TWICE} ({done.commands:,} of these commands went "
-                                 "out)")
+        said = f"node {owner} at port {port} {seen}: {TWICE} ({done.commands:,} of these commands went out)"
+        Exception.__init__(self, said)
 
 
 @dataclass(frozen=True)
