@@ -16,7 +16,7 @@ import tools_tried
 import tundelca
 from tools_tried import AWAY, BEHIND, PATIENCE, READY, fetch, judge, playing, serving, tool, wait_until
 
-ASKED, SHORT = 0.5, 0.2  # seconds of patience, and of patience beside a node that is silent
+ASKED, SHORT = 1.0, 0.2  # seconds of patience, and of patience beside a node that is silent
 MORE = 2.0  # seconds that a word may take beside it
 SMALL, LARGE = 64, 256  # MB
 TOO_MUCH = 1 << 64
@@ -292,7 +292,7 @@ def memory_is_bounded():
                 (keep, b'{"at":1,"permissions":[' + b"[" * 12_000_000 + b"\n", AWAY),
                 (keep, b'{"at":1,"permissions":[' + b"9" * 20_000_000 + b"]}\n", AWAY)]:
             liar.lies = {"role_permissions": listing}
-            taken[1] = max(taken[1], weighed(words, due, LARGE, 10 * ASKED))
+            taken[1] = max(taken[1], weighed(words, due, LARGE, 5 * ASKED))
     return f"at most {taken[0]} MB, for listings {taken[1]}"
 
 
@@ -303,7 +303,7 @@ def told_pairs(pairs):
 
 def board_goes_on():
     """The board beside each lie about how a node stands: it shows that node as away, and why."""
-    with playing() as (cluster, ports), serving("board", "--port", 0, "--every", "0.02", "--patience", "0.3",
+    with playing() as (cluster, ports), serving("board", "--port", 0, "--every", "0.02", "--patience", ASKED,
                                                 *ports) as address:
         liar, count, longest = cluster.nodes[3], 0, 0.0
         lies = list(odd_standings(liar.on_status(None)))
