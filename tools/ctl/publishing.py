@@ -67,11 +67,12 @@ def ask(given):
     """Prints the answer to one line."""
     with tundelca.Client(given.node.port, given.patience) as client:
         [answer] = client.ask_all([{"op": given.op, **dict(given.members)}])
-    print(json.dumps(answer))
     twice = "issued" in answer and tundelca.beyond_published(answer["issued"] + 1, answer["reach"], 0)
+    status, answer = REFUSED if "error" in answer else DONE, json.dumps(answer)
+    print(answer)
     if twice:
         raise Fault(NO, f"the node at port {given.node.port} {twice}: {tundelca.TWICE}")
-    return REFUSED if "error" in answer else DONE
+    return status
 
 
 def command_of(row):
