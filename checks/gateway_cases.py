@@ -250,13 +250,17 @@ def allowing(ports):
     return cluster
 
 
+JOURNAL = {"last": 1, "mean": 1, "sound": True, "syncs": 1, "worst": 1}
+
+
 def peer(heard=True, connected=True):
     """What a node tells of a peer."""
-    return {"heard": heard, "connected": connected}
+    return {"again": 0, "connected": connected, "heard": heard, "lost": 0, "unopened": 0, "waiting": 0}
 
 
 def before_a_node_that_fails():
-    """It denies where the node is full, hears too few, has lost its disk, speaks nonsense or is silent."""
+    """It denies where the node is full, hears too few, has lost its disk, was begun twice, speaks nonsense or is
+    silent. Odd lines in its file of sessions are passed over."""
     with tempfile.TemporaryDirectory(prefix="tundelca-") as folder, contextlib.ExitStack() as stack:
         node, asked = stack.enter_context(allowing(tundelca.free_ports(NODES))).nodes[0], []
         well = node.on_status
@@ -270,9 +274,13 @@ def before_a_node_that_fails():
             ({"peers": [None, peer(), peer(heard=False), peer(heard=False)]}, "the node hears too few"),
             ({"peers": [None, peer(), peer(heard=False), peer(connected=False)]}, "the node hears too few"),
             ({"peers": [None, peer(), peer(), peer(heard=False, connected=False)]}, None),
-            ({"journal": {"sound": False}}, "the node's disk has failed"),
+            ({"journal": {**JOURNAL, "sound": False}}, "the node's disk has failed"),
             ({"peers": None}, "the node doesn't answer"),
-            ({"journal": {"sound": True}, "more": 1}, None),
+            ({"published": 2, "reaches": [3, 0, 0, 0]}, "the node was begun twice"),
+            ({"published": 3, "reaches": [3, 9, 0, 0]}, None),
+            ({"journal": {**JOURNAL, "sound": 1}}, "the node doesn't answer"),
+            ({"limit": 0}, "the node doesn't answer"),
+            ({"journal": {**JOURNAL, "more": 1}, "more": 1}, None),
         ]
         for changed, why in rows:
             node.changed = changed
@@ -285,6 +293,14 @@ def before_a_node_that_fails():
         node.mute = False
         time.sleep(1.1)
         judge_all(gateway.port, [("/check", WRITE, ALLOWED)])
+        gateway.kill()
+        with open(gateway.path + ".sessions", "a", encoding="ascii") as file:
+            file.write("".join(line + "\n" for line in [
+                "", "7", "null", "{}", "[]", "[null]", '["7"]', "[1.5]", "[-1]", "[true]", "[[7]]", "[1,2,3]",
+                '[1,"x"]', "[1,null]", "[18446744073709551616]", "[1,4294967296]", "[" * 100_000, "[9999", "\x00"]))
+        gateway.start()
+        judge_all(gateway.port, [("/check", WRITE, no("logged out")), ("/login", BOTH, DONE),
+                                 ("/check", WRITE, ALLOWED)])
         for name, value in [("owners", {"king": 0}), ("accepted", {"castle": [0]})]:
             wrong = Gateway(folder, node.port, stack, {**TABLE, name: value})
             wrong.path = wrong.words[-1] = wrong.path + "." + name

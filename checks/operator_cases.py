@@ -3,6 +3,7 @@ import contextlib
 import json
 import os
 import re
+import shutil
 import signal
 import socket
 import subprocess
@@ -269,3 +270,69 @@ def refused(program, path, text, fault):
     told = check(program, path, text)
     judge((told.returncode, told.stderr) == (3, f"tundelca: {fault}\n"),
           f"due {fault}, came {told.returncode} {told.stderr!r} to {text.get('hosts')!r}")
+
+
+GRANTED = [{"op": "assign", "user": user, "role": ROLE} for user in range(11)]
+REVOKED = [{"op": "deassign", "user": user, "role": ROLE} for user in range(11)]
+
+
+def journals_begun_twice(program):
+    """An owner whose journal is begun anew, or of which an old copy is put back: nothing is published through it, and
+    tools are red."""
+    with Nodes(program, NODES, MAY_LIE, has_journals=True) as nodes, tempfile.TemporaryDirectory() as kept:
+        publish(nodes, GRANTED[:5])
+        nodes.kill(0)
+        put_back(nodes.journals[0], os.path.join(kept, "old"))
+        nodes.start(0)
+        publish(nodes, GRANTED[5:])
+        told = []
+        for how in ("begun anew, alone", "begun anew", "an old copy"):
+            nodes.kill(0)
+            for end in ("", "-wal"):
+                with contextlib.suppress(FileNotFoundError):
+                    os.remove(nodes.journals[0] + end)
+            if how == "an old copy":
+                put_back(os.path.join(kept, "old"), nodes.journals[0])
+            else:
+                tundelca.begin(program, nodes.paths[0], nodes.journals[0])
+            nodes.start(0)
+            told.append(is_refused(nodes, how, [] if how == "begun anew, alone" else nodes.clients[1:]))
+        with nodes.client(0) as owner:
+            wait_until(lambda: owner.reach(0) >= len(GRANTED), "the others' old votes come")
+        for words in (["status", *nodes.paths], ["health", nodes.clients[0]], ["metrics", nodes.clients[0]]):
+            ran = subprocess.run([sys.executable, os.path.join(TOP, "tools", "tundelca_ctl.py"), *map(str, words)],
+                                 capture_output=True, text=True, timeout=PATIENCE)
+            judge(ran.returncode == 1 and re.search(r"begun[_ ]twice", ran.stdout), f"{words}: {ran.stdout}")
+        with nodes.client(1) as other:
+            judge(other.listing("assigned_users", role=ROLE) == list(range(11)), "something was revoked")
+    return f"{len(told)} ways, each told: {told[-1][:60]}"
+
+
+def put_back(there, here):
+    """Copies a journal with what lies beside it."""
+    for end in ("", "-wal"):
+        if os.path.exists(there + end):
+            shutil.copyfile(there + end, here + end)
+            os.chmod(here + end, 0o600)
+
+
+def publish(nodes, commands):
+    """Publishes at node 0, and waits until all have it."""
+    with nodes.client(0) as owner:
+        end = owner.publish(commands, 0, nodes.clients[1:], MAY_LIE).end
+    for me in range(NODES):
+        with nodes.client(me) as node:
+            node.wait_for_reach(0, end, PATIENCE)
+
+
+def is_refused(nodes, how, others):
+    """What is told where revocations are published at the owner, whose stream others have had before."""
+    with nodes.client(0) as owner:
+        try:
+            done = owner.publish(REVOKED, 0, others, MAY_LIE if others else 0, patience=PATIENCE)
+        except tundelca.Unfinished as fault:
+            is_twice = isinstance(fault, tundelca.BegunTwice) or isinstance(fault.__cause__, tundelca.Refused)
+            judge(is_twice, f"{how}: {fault}")
+            return str(fault)
+    with nodes.client(1) as other:
+        raise AssertionError(f"{how}: {done}, and the users are {other.listing('assigned_users', role=ROLE)}")

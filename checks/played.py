@@ -34,13 +34,14 @@ class Node:
     """A played node. `lacks` commands of each owner it hasn't; `changed` are members of its status that it says so.
 
     Where `mute`, it takes lines and answers none; `garbage` is said in place of each answer; `drips` is how many
-    seconds go by before each byte of an answer.
+    seconds go by before each byte of an answer. `lies` are for an operation what is said in place of its answer: bytes,
+    or a function that makes some of them again and again, of the line that is asked.
     """
 
     def __init__(self, cluster, me, port):
         self.cluster, self.me, self.port = cluster, me, port
         self.lacks, self.changed, self.sessions, self.newest = {}, {}, {}, 0
-        self.mute, self.garbage, self.drips, self.connections = False, None, None, []
+        self.mute, self.garbage, self.drips, self.connections, self.lies = False, None, None, [], {}
         node = self
 
         class Handler(socketserver.StreamRequestHandler):
@@ -49,7 +50,8 @@ class Node:
                 for line in self.rfile:
                     answer = node.answer(line) or b""
                     if node.drips is None:
-                        self.wfile.write(answer)
+                        for part in [answer] if type(answer) is bytes else answer:
+                            self.wfile.write(part)
                         continue
                     for byte in answer:
                         time.sleep(node.drips)
@@ -77,6 +79,9 @@ class Node:
             return None
         if self.garbage is not None:
             return self.garbage
+        lie = self.lies.get(json.loads(line)["op"])
+        if lie is not None:
+            return lie(json.loads(line)) if callable(lie) else lie
         with self.cluster.lock:
             return json.dumps(self.said(json.loads(line)), separators=(",", ":")).encode() + b"\n"
 

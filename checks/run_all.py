@@ -333,6 +333,7 @@ def main():
         ("sessions that were left", lambda: operator_cases.sessions_left(keeper)),
         ("streams, read out", lambda: operator_cases.streams(keeper)),
         ("hosts", lambda: operator_cases.hosts(keeper, daemon)),
+        ("journals begun twice", lambda: operator_cases.journals_begun_twice(keeper)),
     ]
     examples += [
         ("files that are there", loss_cases.files_stay),

@@ -19,8 +19,9 @@ others, so a check is made in a session in which only roles of accepted owners a
     GET  /health                                                {"well": true} or {"well": false, "why": ..}
 
 It denies where the token is unknown (401), where a name is (400), where an owner isn't accepted or the node refuses
-(403), and where the node doesn't answer, is full, hears too few of its peers or has lost its disk (503). A session
-stands in the file TABLE.sessions before its caller hears of it, and is closed when the gateway starts again.
+(403), and where the node doesn't answer, is full, hears too few of its peers, has lost its disk or was begun twice, so
+that it counts among the liars (503). A session stands in the file TABLE.sessions before its caller hears of it, and is
+closed when the gateway starts again.
 """
 import contextlib
 import fcntl
@@ -104,7 +105,10 @@ class Node:
                 self.ask("reach", owner=0)
                 return None
             status = self.ask("status")
+            me = status["peers"].index(None)
             heard = sum(peer is not None and peer["heard"] and peer["connected"] for peer in status["peers"])
+            if status["published"] < status["reaches"][me]:
+                return "the node was begun twice"
             if status["at"] >= status["limit"]:
                 return "the node is full"
             if heard < 2 * self.may_lie:
@@ -112,8 +116,16 @@ class Node:
             if status["journal"] is not None and not status["journal"]["sound"]:
                 return "the node's disk has failed"
             return None
-        except (Denied, tundelca.NodeFault, KeyError, TypeError):
+        except (Denied, tundelca.NodeFault):
             return SILENT[1]
+
+
+def numbers_in(line):
+    """A session, or a session and its user. A ValueError for all else, which no gateway wrote."""
+    if not isinstance(line, list) or len(line) not in (1, 2) or not all(
+            tundelca.fits(number, end, None) for number, end in zip(line, (tundelca.SESSION, tundelca.USER))):
+        raise ValueError
+    return line
 
 
 class Opened:
@@ -127,8 +139,8 @@ class Opened:
         except BlockingIOError:
             raise ValueError(f"another gateway has {path}") from None
         for line in self.file:
-            with contextlib.suppress(ValueError):  # it was cut off, and no caller heard of it
-                self.take(*json.loads(line))
+            with contextlib.suppress(ValueError, RecursionError):  # it was cut off, and no caller heard of it
+                self.take(*numbers_in(json.loads(line)))
 
     def take(self, session, *user):
         self.users.pop(session, None)

@@ -11,6 +11,9 @@
 One file, and nothing beside Python 3.9 and its standard library. As a program it is `tundelca_ctl.py` beside it. A node
 hears lines of JSON at its client port, one answer for each, and whoever reaches that port may say anything in any
 user's name: keep it behind a service of yours that knows its users (examples/gateway.py).
+
+A node may lie. Each answer is read up to a bound (`LONGEST`) and held against a form (`FORMS`), by `read_answer` alone;
+what doesn't fit is an `Unfit`, and ends the connection. A line that nodes learn to answer gets its row in both.
 """
 import collections
 import contextlib
@@ -18,6 +21,7 @@ import errno
 import io
 import itertools
 import json
+import operator
 import os
 import random
 import re
@@ -25,6 +29,7 @@ import secrets
 import select
 import socket
 import subprocess
+import threading
 import time
 from dataclasses import dataclass
 from typing import Optional
@@ -33,6 +38,11 @@ LOOPBACK = "127.0.0.1"
 PUBLISHED = ("assign", "deassign", "grant", "revoke", "clear")
 NODES = 128  # at most
 PLACES = 1_048_576  # of a stream
+EVENTS = 4_194_304  # of a node's history, at most
+SESSIONS, PAGE, ACTIVE = 4_096, 100, 64  # open at a node, told at once, active roles of one: at most
+ITEMS = 1_048_576  # of all listings of a node together: it has no room for more commands
+MEANWHILE = 1_024  # sessions that open while the open ones are told
+TOGETHER = 1_000  # answers that come within one patience
 WINDOW = 64  # a node takes messages for so many places beyond its reach
 AHEAD = WINDOW // 2  # what is published in bulk keeps to so many places beyond what most nodes have
 
@@ -48,6 +58,14 @@ def words_of(error):
 
 class Unreachable(NodeFault):
     """Nobody listens, the connection was closed, or no answer came in time. Whether the line was obeyed isn't known."""
+
+
+class Unfit(Unreachable):
+    """A node answered what no node says: another program is there, or one that lies."""
+
+    def __init__(self, port, request, line):
+        shown = line if len(line) <= SHOWN else line[:SHOWN] + ".."
+        super().__init__(f"a node answers what no node says: port {port}, to {json.dumps(request)}: {shown!a}")
 
 
 class Refused(NodeFault):
@@ -87,6 +105,30 @@ class Unfinished(NodeFault):
         super().__init__(f"{done.commands} of {total} commands of node {owner} are published: {fault} ({done})")
 
 
+TWICE = ("its journal was begun twice, an old copy of it was put back, or somebody else has its keys; what it "
+         "publishes is lost: publish nothing there, stop it, and begin the cluster anew")
+
+
+def beyond_published(published, here, elsewhere):
+    """In words that more of a node's commands are there than it has published, as of no correct node; else None.
+
+    `here` is how far its stream is at the node itself, `elsewhere` at some other correct node.
+    """
+    if published >= max(here, elsewhere):
+        return None
+    more = f"{here:,} of them are there" if here > published else f"{elsewhere:,} of them are at other nodes"
+    return f"has published {published:,} of its commands, and {more}"
+
+
+class BegunTwice(Unfinished):
+    """The owner has spoken before and doesn't know it: others have voted at the places that it gives its commands."""
+
+    def __init__(self, port, owner, done, seen):
+        self.done = done
+        said = f"node {owner} at port {port} {seen}: {TWICE} ({done.commands:,} of these commands went out)"
+        Exception.__init__(self, said)
+
+
 @dataclass(frozen=True)
 class Decision:
     """Whether an access is allowed: in this role, or denied by this rule (N1 to N5).
@@ -100,11 +142,218 @@ class Decision:
     rule: Optional[str] = None
 
 
-class Answer(dict):
-    """An answer. What has not the member that is due is none."""
+# What nodes answer. In a form a whole number stands for those from 0 on that are below it, a dict for an object of
+# exactly its members, a function for what it says, and all else for itself.
 
-    def __missing__(self, name):
-        raise Unreachable(f"a node answers without {name}: {json.dumps(self)[:80]}")
+USER, ROLE, OPERATION, OBJECT, SESSION, COUNT = 1 << 32, 1 << 16, 1 << 16, 1 << 32, 1 << 64, 1 << 64
+SHOWN = 80  # letters of a line that is no answer
+SHORT = 1 << 16  # letters of a line that is cheap to read, whatever it has
+READER = json.JSONDecoder()
+ZEROS, TOO_LONG = str.maketrans("123456789", "0" * 9), "0" * 21  # more digits than any number of nodes has
+CODE, MEMBER, RULE = map(re.compile, (r"[A-Z]\d{1,2} [A-Za-z]{1,40}", "[a-z]{1,40}", "N[1-5]"))
+
+
+def fits(value, form, request):
+    """Whether a value in the answer to the request is of the form."""
+    kind = type(form)
+    if kind is int:
+        return type(value) is int and 0 <= value < form
+    if kind is dict:
+        return type(value) is dict and len(value) == len(form) and has_all(value, form, request)
+    return form(value, request) if callable(form) else type(value) is kind and value == form
+
+
+def has_all(value, form, request):
+    """Whether an object has the form's members, each of its form. In one loop, as clients hear many answers."""
+    for name, due in form.items():
+        if name not in value:
+            return False
+        item = value[name]
+        if type(due) is int:
+            if type(item) is not int or not 0 <= item < due:
+                return False
+        elif not fits(item, due, request):
+            return False
+    return True
+
+
+def one_of(*forms):
+    """A form: what is of one of these."""
+    return lambda value, request: any(fits(value, form, request) for form in forms)
+
+
+def or_none(form):
+    """A form: None, or what this function says."""
+    return lambda value, request: value is None or form(value, request)
+
+
+def by(name, forms):
+    """A form: an object of the members of the form for what it has under the name, a text or a truth value."""
+
+    def is_so(value, request):
+        kind = value.get(name) if type(value) is dict else None
+        form = forms.get(kind) if type(kind) in (str, bool) else None
+        return form is not None and len(value) == 1 + len(form) and has_all(value, form, request)
+
+    return is_so
+
+
+def matches(pattern):
+    """A form: a text that is of the pattern."""
+    return lambda value, _: type(value) is str and pattern.fullmatch(value) is not None
+
+
+def at_least(form):
+    """A form: an object with these members, and others that a later node may have."""
+    return lambda value, request: type(value) is dict and has_all(value, form, request)
+
+
+def list_of(form, most):
+    """A form: so many items of the form at most."""
+    return lambda value, request: type(value) is list and len(value) <= most and all(
+        fits(item, form, request) for item in value)
+
+
+def is_ascending(items):
+    """Whether each item is below the next."""
+    return all(map(operator.lt, items, itertools.islice(items, 1, None)))
+
+
+def numbers(end):
+    """A form: an ascending list of numbers below the end. Lists may be long, so no item is looked at by itself."""
+    return lambda value, _: type(value) is list and len(value) <= ITEMS and set(map(type, value)) <= {int} and \
+        is_ascending(value) and (not value or 0 <= value[0] and value[-1] < end)
+
+
+def pairs(first, second, most=ITEMS):
+    """A form: an ascending list of pairs of a number below the one and a number below the other."""
+
+    def are_pairs(value, _):
+        return type(value) is list and len(value) <= most and set(map(type, value)) <= {list} and \
+            set(map(len, value)) <= {2} and set(map(type, itertools.chain.from_iterable(value))) <= {int} and \
+            is_ascending(value) and (not value or 0 <= value[0][0] and value[-1][0] < first) and \
+            0 <= min(map(operator.itemgetter(1), value), default=0) and \
+            max(map(operator.itemgetter(1), value), default=0) < second
+
+    return are_pairs
+
+
+def is_page(value, request):
+    """Sessions with their users: the first of the ids from the one on that was asked for."""
+    return pairs(SESSION, USER, PAGE)(value, request) and is_ascending([session for session, _ in value]) and (
+        not value or value[0][0] >= max(1, request.get("from", 0)))
+
+
+def are_active(value, request):
+    """The roles of a session, in the order of their activation."""
+    return list_of(ROLE, ACTIVE)(value, request) and len(set(value)) == len(value)
+
+
+FLAG = one_of(True, False)
+PEER = at_least({"connected": FLAG, "heard": FLAG, **dict.fromkeys(("again", "lost", "unopened", "waiting"), COUNT)})
+JOURNAL = at_least({"sound": FLAG, **dict.fromkeys(("last", "mean", "syncs", "worst"), COUNT)})
+STATUS = at_least({"at": EVENTS + 1, "journal": or_none(JOURNAL), "limit": EVENTS + 1,
+                   "peers": list_of(or_none(PEER), NODES), "published": PLACES + 1,
+                   "reaches": list_of(PLACES + 1, NODES), "sessions": SESSIONS + 1, "unopened": COUNT})
+
+
+def is_status(value, request):
+    """How a node stands: its parts fit together, and one of its peers is itself."""
+    return STATUS(value, request) and value["peers"].count(None) == 1 and \
+        len(value["peers"]) == len(value["reaches"]) and value["at"] <= value["limit"] > 0
+
+
+COMMANDS = {  # what is published, each by its `op`
+    "assign": {"role": ROLE, "user": USER}, "deassign": {"role": ROLE, "user": USER},
+    "grant": {"object": OBJECT, "operation": OPERATION, "role": ROLE},
+    "revoke": {"object": OBJECT, "operation": OPERATION, "role": ROLE}, "clear": {"role": ROLE},
+}
+LISTINGS = {  # each with the member that is its list, and with what that is
+    "assigned_users": ("users", numbers(USER)), "assigned_roles": ("roles", numbers(ROLE)),
+    "role_permissions": ("permissions", pairs(OPERATION, OBJECT)),
+    "user_permissions": ("permissions", pairs(OPERATION, OBJECT)),
+    "role_operations": ("operations", numbers(OPERATION)), "user_operations": ("operations", numbers(OPERATION)),
+    "session_roles": ("roles", are_active), "session_permissions": ("permissions", pairs(OPERATION, OBJECT)),
+}
+FORMS = {  # of the answer to each line
+    **dict.fromkeys(COMMANDS, {"issued": PLACES, "reach": PLACES + 1}),
+    **{op: {"at": EVENTS + 1, name: items} for op, (name, items) in LISTINGS.items()},
+    "open": {"session": SESSION}, **dict.fromkeys(("activate", "drop", "close"), {"done": True}),
+    "check": by("allow", {True: {"at": EVENTS + 1, "role": ROLE}, False: {"at": EVENTS + 1, "rule": matches(RULE)}}),
+    "reach": {"reach": PLACES + 1}, "again": {"again": 4}, "stop": {"stopped": True}, "status": is_status,
+    "command": {"command": or_none(by("op", COMMANDS))},
+    "sessions": {"at": EVENTS + 1, "sessions": is_page},
+}
+REFUSAL = one_of({"error": matches(CODE)}, {"error": matches(CODE), "name": matches(MEMBER)})
+LONGEST = {"status": 1 << 16, "sessions": 1 << 14, **dict.fromkeys(LISTINGS, 24 << 20)}  # bytes of an answer's line,
+LONGEST_ELSE = 1 << 10  # without its end; and of each other answer's
+
+
+def read_answer(request, line, items=ITEMS):
+    """The answer in a line; None where no node says that to this request. A refusal has a member `error`.
+
+    A line that is long is looked through first, so that it takes no more memory than a listing of so many items.
+    """
+    if len(line) > SHORT and (line.count(",") > 2 * items or line.count("[") > items + 1 or line.count('"') > 4
+                              or TOO_LONG in line.translate(ZEROS)):
+        return None
+    try:
+        answer, end = READER.raw_decode(line)
+    except (ValueError, RecursionError):
+        return None
+    if end < len(line):
+        return None
+    form = REFUSAL if type(answer) is dict and "error" in answer else FORMS.get(request.get("op"), REFUSAL)
+    return answer if fits(answer, form, request) else None
+
+
+class Turn:
+    """A thread's questions on a client, up to their last answer. Where it waits, `begins` is locked until then."""
+
+    __slots__ = "thread", "begins"
+
+    def __init__(self):
+        self.thread, self.begins = threading.get_ident(), None
+
+
+class Turns:
+    """Whose turn it is. One begins as the one before ends, in the order in which their threads came."""
+
+    def __init__(self):
+        # A thread may come here again amid this, where an ask_all that nobody holds any more is thrown away just then.
+        self.guard, self.now, self.waiting = threading.RLock(), None, collections.deque()
+
+    def begin(self, turn, patience):
+        """Whether the turn begins within so many seconds. A RuntimeError where this thread has the present one."""
+        with self.guard:
+            if self.now is None:
+                self.now = turn
+                return True
+            is_own = self.now.thread == turn.thread
+        if is_own:
+            raise RuntimeError("this thread asks on a client amid an ask_all of its own, which isn't at its end")
+        turn.begins = threading.Lock()
+        turn.begins.acquire()
+        with self.guard:
+            self.waiting.append(turn)
+            self.pass_on()
+        turn.begins.acquire(timeout=patience)
+        return self.now is turn
+
+    def end(self, turn):
+        """Ends the turn, whether or not it has begun."""
+        with self.guard:
+            if self.now is turn:
+                self.now = None
+                self.pass_on()
+            elif turn in self.waiting:
+                self.waiting.remove(turn)
+
+    def pass_on(self):
+        """Has the turn that waits longest begin, if there is none."""
+        if self.now is None and self.waiting:
+            self.now = self.waiting.popleft()
+            self.now.begins.release()
 
 
 class Incoming(io.RawIOBase):
@@ -127,14 +376,15 @@ class Incoming(io.RawIOBase):
 class Client:
     """A connection to a node's client port: one line, one answer, in order. `patience` is in seconds, an answer.
 
-    After an `Unreachable` nothing more is asked on it, so that no late answer is taken for another's. Threads take
-    turns, or have a client each.
+    It is one thread's at a time, from a question to the end of its answer, so threads may share it: they take turns in
+    the order in which they came. While an `ask_all` isn't at its end, other threads wait for `patience` at most, and
+    then nothing went out; the thread that began it gets a RuntimeError for each other question. What ends a question
+    before its whole answer ends the connection, an interrupt too, so that no late answer is taken for another's.
     """
 
-    LONGEST = 1 << 28  # letters of an answer; the longest that a node has are some 20 million
-
     def __init__(self, port, patience=10.0):
-        self.port, self.patience = port, patience
+        self.port, self.patience, self.turns = port, patience, Turns()
+        self.items = ITEMS  # of the next listing, at most
         try:
             self.socket = socket.create_connection((LOOPBACK, port), timeout=patience)
         except (OSError, OverflowError) as error:
@@ -150,40 +400,71 @@ class Client:
         self.close()
 
     def close(self):
-        """Ends the connection. Sessions stay open."""
+        """Ends the connection, also for a thread that waits for an answer. Sessions stay open."""
+        with contextlib.suppress(OSError):
+            self.socket.shutdown(socket.SHUT_RDWR)
         self.lines.close()
         self.socket.close()
 
     def ask(self, op, **members):
         """The answer to a request, as a dict. Raises `Refused` or `Unreachable`."""
-        request = {"op": op, **members}
-        self.send([request])
-        answer = self.answer(request)
+        return self.asked({"op": op, **members})
+
+    def asked(self, request, until=None):
+        """The answer to a request that is a dict, which has to be there by the moment, as for `ask_all`."""
+        turn, is_due = Turn(), True
+        try:
+            self.begin(turn)
+            self.send([request])
+            answer = self.answer(request, until)
+            is_due = False
+        finally:
+            try:
+                self.leave(turn, is_due)
+            except BaseException:  # an interrupt just here: once more
+                self.leave(turn, True)
+                raise
         if "error" in answer:
             raise Refused(request, answer)
         return answer
 
-    def ask_all(self, requests, ahead=200):
+    def ask_all(self, requests, ahead=200, until=None):
         """The answers to many requests, in their order, as dicts; a refusal is one with a member `error`.
 
-        Up to so many lines go out ahead of the answers, so nobody waits for a way there and back each time. Where it
-        is left before its end, the connection ends.
+        Up to so many lines go out ahead of the answers, so nobody waits for a way there and back each time. All are
+        there by the moment `until`, of time.monotonic(). Where it is left before its end, the connection ends.
         """
-        asked, waiting = iter(requests), collections.deque()
+        asked, waiting, turn = iter(requests), collections.deque(), Turn()
         try:
+            self.begin(turn)
             while True:
                 if some := list(itertools.islice(asked, ahead - len(waiting))):
-                    self.send(some)
                     waiting.extend(some)
+                    self.send(some)
                 if not waiting:
                     return
                 for _ in range((len(waiting) + 1) // 2):
-                    answer = self.answer(waiting[0])
+                    answer = self.answer(waiting[0], until)
                     waiting.popleft()
                     yield answer
         finally:
-            if waiting:
-                self.close()
+            try:
+                self.leave(turn, bool(waiting))
+            except BaseException:
+                self.leave(turn, True)
+                raise
+
+    def begin(self, turn):
+        """Waits until the turn begins, for `patience` at most."""
+        if not self.turns.begin(turn, self.patience):
+            raise Unreachable(f"other threads ask the node at port {self.port} on this client, for longer than "
+                              f"{self.patience:g} s: nothing went out")
+
+    def leave(self, turn, is_due):
+        """Ends the turn, and before it the connection if an answer is due."""
+        if is_due and self.turns.now is turn:
+            self.close()
+        self.turns.end(turn)
 
     def send(self, requests):
         """Sends requests as lines."""
@@ -193,44 +474,50 @@ class Client:
         except OSError as error:
             self.fail(f"didn't take {json.dumps(requests[0])}: {words_of(error)}")
 
-    def answer(self, request):
+    def answer(self, request, until=None):
         """The next line, which is the answer to this request, as a dict."""
-        line = self.line(request)
-        try:
-            answer = json.loads(line)
-            if isinstance(answer, dict):
-                return Answer(answer)
-        except (ValueError, RecursionError):
-            pass
-        return self.fail(f"answers {json.dumps(request)} by what is none: {line[:60]!r}")
+        line = self.line(request, until)
+        answer = read_answer(request, line, self.items)
+        return self.unfit(request, line) if answer is None else answer
 
-    def line(self, request):
-        """The next line, which has to be there whole within `patience`."""
-        self.incoming.end, self.incoming.reads = time.monotonic() + self.patience, 0
+    def line(self, request, until):
+        """The next line, which has to be there whole within `patience`, and by the moment."""
+        now, most = time.monotonic(), LONGEST.get(request.get("op"), LONGEST_ELSE)
+        self.incoming.end, self.incoming.reads = now + self.patience, 0
+        if until is not None and until < self.incoming.end:
+            self.incoming.end, self.incoming.reads = until, 1
         try:
-            line = self.lines.readline(self.LONGEST)
+            line = self.lines.readline(most + 1)
         except (OSError, ValueError) as error:
             self.fail(f"didn't answer {json.dumps(request)}: {words_of(error)}")
         if self.incoming.reads > 1:
             self.socket.settimeout(self.patience)
         self.incoming.end = None
-        if not line.endswith("\n"):
-            self.fail(f"closed the connection at {json.dumps(request)}" if len(line) < self.LONGEST else
-                      f"answers {json.dumps(request)} without end")
-        return line
+        if line.endswith("\n"):
+            return line[:-1]
+        if len(line) <= most:
+            self.fail(f"closed the connection at {json.dumps(request)}")
+        self.unfit(request, line)
 
     def fail(self, what):
         """Ends the connection, and raises `Unreachable`."""
         self.close()
         raise Unreachable(f"the node at port {self.port} {what}")
 
+    def unfit(self, request, line):
+        """Ends the connection, and raises `Unfit`."""
+        self.close()
+        raise Unfit(self.port, request, line)
+
     def publish(self, commands, owner, others=(), may_lie=0, patience=30.0, deadline=None, in_order=True, told=None):
         """Publishes the commands, such as {"op": "clear", "role": 2}, each once and in their order. A `Published`.
 
         This is the node of `owner`, `others` are client ports of other nodes, and of all these at most `may_lie` lie or
         stand still: those that are behind the others are left out. No command goes out at a place more than 32 beyond
-        what the remaining nodes have delivered, and at the end they have delivered all. Raises `Unfinished` where a
-        command is refused, where nothing moves for `patience` seconds, and `deadline` seconds after the begin.
+        what the remaining nodes have delivered, and at the end they have delivered all, and each stands in the owner's
+        stream at the place that it was given. Raises `Unfinished` where a command is refused, where nothing moves for
+        `patience` seconds, and `deadline` seconds after the begin; and `BegunTwice` where the owner has been further
+        than it has published, before anything goes out, or where another command stands at such a place.
 
         Where their order doesn't matter, as of assignments and grants alone, `in_order` = False has many go out at
         once. `told` is called with how many are published, now and then.
@@ -241,12 +528,14 @@ class Client:
                 raise ValueError(f"nothing is published by {json.dumps(command)}")
         with contextlib.closing(Publication(self, owner, others, may_lie, patience, deadline)) as publication:
             try:
-                publication.hear()
+                publication.begin()
                 publication.issue(commands, AHEAD if not in_order else 1, told)
                 publication.arrive()
+                publication.read_back()
             except (Refused, Unreachable) as fault:
-                with contextlib.suppress(Unreachable):
-                    publication.linger()
+                if isinstance(fault, Refused):
+                    with contextlib.suppress(NodeFault):
+                        publication.linger()
                 raise Unfinished(owner, publication.done(), len(commands), fault) from fault
             return publication.done()
 
@@ -265,40 +554,52 @@ class Client:
 
     def listing(self, op, **members):
         """The items of a review, such as `assigned_users` of a role; permissions are pairs [operation, object]."""
-        answer = self.ask(op, **members)
-        return answer[next((kind for kind in ("roles", "permissions", "operations") if kind in answer), "users")]
+        return self.ask(op, **members)[LISTINGS[op][0]]
 
     def reach(self, owner):
         """How many commands of the owner the node has delivered without a gap."""
         return self.ask("reach", owner=owner)["reach"]
 
-    def reaches(self):
-        """How many commands of each owner the node has delivered without a gap."""
-        answers = self.ask_all(({"op": "reach", "owner": owner} for owner in range(NODES)), ahead=NODES)
+    def reaches(self, until=None):
+        """How many commands of each owner the node has delivered, by the moment, or else told within `patience`."""
+        until = time.monotonic() + self.patience if until is None else until
+        answers = self.ask_all(({"op": "reach", "owner": owner} for owner in range(NODES)), NODES, until)
         return [answer["reach"] for answer in answers if "error" not in answer]
 
     def length(self, role=0):
         """How many events the node has recorded. Its limit is 4,194,304."""
         return self.ask("assigned_users", role=role)["at"]
 
-    def stream(self, owner, start=0):
-        """The commands of the owner from a place on, as far as the node has them, as they stand in `publish`.
+    def stream(self, owner, start=0, end=PLACES):
+        """The commands of the owner from a place to another, as far as the node has them, as they stand in `publish`.
 
-        Only `tundelca` answers this and `sessions`.
+        Each thousand of them is told within `patience`. Only `tundelca` answers this and `sessions`.
         """
-        places = range(start, self.reach(owner))
-        for answer in self.ask_all({"op": "command", "owner": owner, "place": place} for place in places):
+        end = min(end, self.reach(owner))
+        for first in range(start, end, TOGETHER):
+            yield from self.commands(owner, range(first, min(first + TOGETHER, end)), time.monotonic() + self.patience)
+
+    def commands(self, owner, places, until):
+        """The commands of the owner at these places, by the moment; None where the node has none."""
+        questions = [{"op": "command", "owner": owner, "place": place} for place in places]
+        answers = list(self.ask_all(questions, until=until))
+        for question, answer in zip(questions, answers):
             if "error" in answer:
-                raise Refused({"op": "command", "owner": owner}, answer)
-            yield answer["command"]
+                raise Refused(question, answer)
+        return [answer["command"] for answer in answers]
 
     def sessions(self, start=0):
-        """The open sessions from an id on, ascending, each as a pair of its id and its user."""
-        while some := self.ask("sessions", **{"from": start})["sessions"]:
-            if some[0][0] < start:
-                self.fail("lists sessions again")
-            yield from map(tuple, some)
-            start = some[-1][0] + 1
+        """The open sessions from an id on, ascending, each as a pair of its id and its user; told within `patience`."""
+        until, found = time.monotonic() + self.patience, []
+        while True:
+            request = {"op": "sessions", "from": start}
+            page = self.asked(request, until)["sessions"]
+            found += map(tuple, page)
+            if len(page) < PAGE or page[-1][0] + 1 == SESSION:
+                return found
+            if len(found) > SESSIONS + MEANWHILE:
+                self.unfit(request, f"with those before {len(found):,} sessions")
+            start = page[-1][0] + 1
 
     def wait_for_reach(self, owner, reach, patience=None):
         """Waits until the node has delivered so many commands of the owner."""
@@ -316,8 +617,9 @@ class Watched:
 
     def __init__(self, port, owner):
         self.port, self.reach = port, None
-        self.question = json.dumps({"op": "reach", "owner": owner}).encode("ascii") + b"\n"
+        self.question = {"op": "reach", "owner": owner}
         self.socket, self.text, self.is_asked, self.next_try = None, b"", False, 0.0
+        self.is_odd = False  # the last that it said is what no node says
 
     def ask(self):
         """Asks, if the last question is answered. A connection that broke is made anew after a second."""
@@ -328,7 +630,7 @@ class Watched:
                 self.socket.setblocking(False)
                 self.socket.connect_ex((LOOPBACK, self.port))
             if self.socket is not None and not self.is_asked:
-                self.socket.send(self.question)
+                self.socket.send(json.dumps(self.question).encode("ascii") + b"\n")
                 self.is_asked = True
         except BlockingIOError:
             pass  # not connected yet
@@ -340,16 +642,15 @@ class Watched:
         try:
             came = self.socket.recv(self.LONGEST)
             self.text += came
-            if not came or len(self.text) > self.LONGEST:
-                raise ValueError
-            if self.text.endswith(b"\n"):
-                reach = json.loads(self.text)["reach"]
-                if reach not in range(PLACES + 1):
-                    raise ValueError
-                self.reach, self.text, self.is_asked = reach, b"", False
+            if self.text.endswith(b"\n") or len(self.text) > self.LONGEST:
+                answer = read_answer(self.question, self.text[:-1].decode("ascii", "replace"))
+                self.is_odd = answer is None
+                self.reach, self.text, self.is_asked = (answer or {}).get("reach", self.reach), b"", False
+            if not came or self.is_odd:
+                self.close()
         except BlockingIOError:
             pass
-        except (OSError, ValueError, KeyError, TypeError):
+        except OSError:
             self.close()
 
     def close(self):
@@ -361,15 +662,58 @@ class Watched:
 class Publication:
     """Commands on their way from an owner to the nodes. What it keeps to is said at `Client.publish`."""
 
+    FIRST = 2.0  # seconds for the others' first answers, before it begins without them
     LAST = 2.0  # seconds for what is on its way at the end, before those that are behind are named
 
     def __init__(self, node, owner, others, may_lie, patience, deadline):
-        self.node, self.owner, self.patience = node, owner, patience
+        self.node, self.owner, self.patience, self.may_lie = node, owner, patience, may_lie
+        self.given, self.can_tell = [], True  # each command with its place; the node tells what stands there
         self.watched = [Watched(port, owner) for port in others]
         self.quorum = max(1, 1 + len(self.watched) - may_lie)
         self.commands = self.end = self.reach = self.front = 0
         self.moved = time.monotonic()
         self.deadline = float("inf") if deadline is None else self.moved + deadline
+
+    def begin(self):
+        """Hears how far all are. Raises `BegunTwice` where the owner has published less than it or the others have.
+
+        A correct node's own stream never reaches beyond what it has published; and where more of the others than may
+        lie have more of it, one of these is correct. The owner is asked last, so that it has had time to publish that.
+        """
+        first = min(time.monotonic() + min(self.FIRST, self.patience), self.deadline)
+        self.hear()
+        while sum(one.reach is not None for one in self.watched) < self.quorum - 1 and time.monotonic() < first:
+            self.hear()
+        elsewhere = self.elsewhere()
+        try:
+            status = self.node.ask("status")
+        except Refused:
+            self.can_tell = False
+            return
+        me = status["peers"].index(None)
+        if me != self.owner:
+            raise Unreachable(f"the node at port {self.node.port} says that it is node {me}, and not {self.owner}")
+        if seen := beyond_published(status["published"], status["reaches"][me], elsewhere):
+            self.twice(seen)
+
+    def elsewhere(self):
+        """How far the owner's stream is at more of the others than may lie, and so at a correct one."""
+        heard = sorted((one.reach or 0 for one in self.watched), reverse=True)
+        return heard[self.may_lie] if self.may_lie < len(heard) else 0
+
+    def twice(self, seen):
+        """Raises `BegunTwice`."""
+        raise BegunTwice(self.node.port, self.owner, self.done(), seen)
+
+    def read_back(self):
+        """Sees that each command stands at its place in the owner's stream. A node of role_daemon can't be asked."""
+        for first in range(0, len(self.given) if self.can_tell else 0, TOGETHER):
+            some = self.given[first:first + TOGETHER]
+            until = min(time.monotonic() + self.patience, self.deadline)
+            there = self.node.commands(self.owner, [place for place, _ in some], until)
+            for (place, command), stands in zip(some, there):
+                if stands is None or any(command.get(name) != value for name, value in stands.items()):
+                    self.twice(f"has {json.dumps(stands)} at place {place:,}, where it published {json.dumps(command)}")
 
     def issue(self, commands, most, told):
         """Has the commands published as soon as they may be, at most so many at once. `told` hears how many are."""
@@ -384,14 +728,21 @@ class Publication:
 
     def give(self, left, most):
         """Has up to so many published that are left. Those for which it is busy are left as they were."""
-        some, busy, refused = [left.popleft() for _ in range(min(most, len(left)))], [], None
-        for command, answer in zip(some, self.node.ask_all(some)):
-            if "error" not in answer:
-                self.commands, self.end, self.moved = self.commands + 1, answer["issued"] + 1, time.monotonic()
-            elif answer["error"] == "F3 Busy":
-                busy.append(command)
-            else:
-                refused = refused or Refused(command, answer)
+        some, busy, refused, taken = [left.popleft() for _ in range(min(most, len(left)))], [], None, None
+        before = max(self.reach, self.elsewhere())
+        with contextlib.closing(self.node.ask_all(some)) as answers:
+            for command, answer in zip(some, answers):
+                if "error" not in answer:
+                    place, reach = answer["issued"], answer["reach"]
+                    self.commands, self.end, self.moved = self.commands + 1, max(self.end, place + 1), time.monotonic()
+                    self.given.append((place, command))
+                    taken = taken or beyond_published(place, before, 0) or beyond_published(place + 1, reach, 0)
+                elif answer["error"] == "F3 Busy":
+                    busy.append(command)
+                else:
+                    refused = refused or Refused(command, answer)
+        if taken is not None:
+            self.twice(taken)
         if refused is not None:
             raise refused
         if busy:  # others publish here too
@@ -431,7 +782,9 @@ class Publication:
         if now > self.deadline:
             raise Unreachable("the deadline is over")
         if now > self.moved + self.patience:
-            raise Unreachable(f"for {self.patience:g} seconds too few nodes say that they have more than {self.front}")
+            odd = "".join(f"; a node answers what no node says: port {one.port}" for one in self.watched if one.is_odd)
+            raise Unreachable(f"for {self.patience:g} seconds too few nodes say that they have more than {self.front}"
+                              f"{odd}")
 
     def behind(self):
         """The ports of the nodes that haven't all, and how far they are."""

@@ -15,7 +15,7 @@ if __name__ == "__main__":
     sys.dont_write_bytecode = True
 
 import tundelca  # noqa: E402
-from ctl import AWAY, INTERRUPTED, REFUSED, STATUSES, WORDS, Fault  # noqa: E402
+from ctl import AWAY, INTERRUPTED, NO, REFUSED, STATUSES, WORDS, Fault  # noqa: E402
 from ctl.words import NAME, Steps, Words  # noqa: E402
 
 GROUPS = {  # the commands, each with the module that does it
@@ -64,6 +64,8 @@ def main(given):
         return 0
     except KeyboardInterrupt:
         return INTERRUPTED
+    except tundelca.BegunTwice as fault:
+        return told(fault, NO)
     except tundelca.Unfinished as fault:
         return told(fault, REFUSED if isinstance(fault.__cause__, tundelca.Refused) else AWAY)
     except tundelca.Refused as fault:

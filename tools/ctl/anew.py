@@ -66,8 +66,7 @@ assignments take some seconds.""")
 def holdings(port, roles, patience):
     """For each role its users and its permissions, as the node at this port has them."""
     with tundelca.Client(port, patience) as client:
-        return {str(role): {"users": client.listing("assigned_users", role=role),
-                            "permissions": client.listing("role_permissions", role=role)} for role in roles}
+        return {str(role): held for role, held in nodes.holdings(client, roles).items()}
 
 
 def keep(given):

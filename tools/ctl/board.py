@@ -10,7 +10,7 @@ from collections import deque
 from urllib.parse import parse_qs
 
 from ctl import DONE, nodes
-from ctl.findings import Sight
+from ctl.findings import Looks
 from ctl.nodes import Nodes
 
 SAMPLES = 300  # that are kept
@@ -43,12 +43,12 @@ class Samples:
     """What was seen of the nodes, the last so many times."""
 
     def __init__(self, may_lie):
-        self.may_lie = may_lie
+        self.may_lie, self.looks = may_lie, Looks()
         self.lock, self.kept, self.count, self.last = threading.Lock(), deque(maxlen=SAMPLES), 0, None
 
     def take(self, seen):
         """Takes what was seen now."""
-        sight = Sight(seen, self.may_lie)
+        sight = self.looks.sight(seen, self.may_lie, time.monotonic())
         rows = [row_of(one, sight) for one in seen]
         found = [{"kind": finding.kind, "text": finding.text} for finding in sight.findings()]
         levels = [[row.get(name) for name in ("delivered", "behind", "again", "mean")] for row in rows]
@@ -104,12 +104,12 @@ def run(given):
     pages = Pages(given.port, {**routes, "/state.json": samples.text})
     over = threading.Event()
     with Nodes(given.nodes, given.patience) as watched:
-        samples.take(watched.look())
+        samples.take(watched.look(samples.may_lie))
         threading.Thread(target=pages.serve_forever, daemon=True).start()
         print(f"http://127.0.0.1:{pages.server_address[1]}/", flush=True)
         try:
             while not over.wait(given.every):
-                samples.take(watched.look())
+                samples.take(watched.look(samples.may_lie))
         finally:
             pages.shutdown()
             pages.server_close()

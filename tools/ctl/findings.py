@@ -1,15 +1,18 @@
 """What is not well with nodes, in words, by what they say of themselves."""
 from dataclasses import dataclass
 
+import tundelca
 from ctl.nodes import behind, furthest
 from ctl.terminal import counted, microseconds, percent
 
-READY, BEHIND, AWAY, NOTE = "ready", "behind", "away", "note"
+READY, BEHIND, TWICE, AWAY = "ready", "behind", "begun twice", "away"  # states of a node, the worst last
+ALARM, NOTE = "alarm", "note"  # what to be woken by, and what to know, of a node that may be ready
 MOST_SESSIONS, MANY_SESSIONS = 4_096, 3_500  # of a node
 SLOW_SYNC = 50_000  # microseconds
 WINDOW = 64  # commands of an owner on their way
 SOON = 0.9  # of a limit
 FEW = 32  # commands that a node may be behind, and is called level: they are on their way
+LONG = 10.0  # seconds after which a reach that doesn't grow isn't on its way
 
 
 @dataclass(frozen=True)
@@ -23,12 +26,14 @@ class Finding:
 class Sight:
     """Nodes as they were seen, and what is to be thought of them.
 
-    `may_lie` is how many of them may; None where nobody said it. `most` is how far each owner's stream is.
+    `may_lie` is how many of them may; None where nobody said it. `most` is how far each owner's stream is, `changes`
+    what looks before this one show (`Looks`).
     """
 
     def __init__(self, seen, may_lie):
         self.seen, self.may_lie = seen, may_lie
         self.most = furthest(seen, may_lie or 0)
+        self.changes = []
 
     def lacks(self, one):
         """How many commands a node that answers is behind."""
@@ -38,12 +43,47 @@ class Sight:
         """Whether the node is `ready`, `behind` or `away`, and what is not well with it."""
         found = findings_of(one, self.most, self.may_lie, most_behind)
         kinds = {finding.kind for finding in found}
-        return AWAY if AWAY in kinds else BEHIND if BEHIND in kinds else READY, found
+        return next((state for state in (AWAY, TWICE, BEHIND) if state in kinds), READY), found
 
     def findings(self):
         """What is not well with the nodes, and between them."""
         found = [finding for one in self.seen for finding in self.state(one)[1]]
-        return found + list(between([one.standing for one in self.seen if one.standing is not None]))
+        return found + list(between([one.standing for one in self.seen if one.standing is not None])) + self.changes
+
+
+class Looks:
+    """Looks at nodes, one after another, by which is told what one look can't show."""
+
+    def __init__(self):
+        self.lost, self.still = {}, {}
+
+    def sight(self, seen, may_lie, now):
+        """What is seen now, at this time in seconds, with what has changed."""
+        sight = Sight(seen, may_lie)
+        for one in seen:
+            if one.standing is not None:
+                sight.changes += [*self.losses(one), *self.delays(one, sight.most, now)]
+        return sight
+
+    def losses(self, one):
+        """Of which connected peers more frames are lost than at the last look."""
+        for name, peer in enumerate(one.standing.peers or []):
+            if peer is not None:
+                before = self.lost.get((one.node.port, name), peer.lost)
+                if peer.connected and peer.lost > before:
+                    yield Finding(ALARM, f"{one} lost {counted(peer.lost - before, 'frame')} for node {name} since the "
+                                         f"last look: that machine, or the network, is slow")
+                self.lost[one.node.port, name] = peer.lost
+
+    def delays(self, one, most, now):
+        """Of which owners the node lacks commands, and gets none."""
+        for owner, reach in enumerate(one.standing.reaches):
+            before, since = self.still.get((one.node.port, owner), (reach, now))
+            since = since if reach == before and reach < most[owner] else now
+            self.still[one.node.port, owner] = reach, since
+            if now - since >= LONG:
+                yield Finding(ALARM, f"{one} has been at {reach:,} of {most[owner]:,} commands of node {owner} for "
+                                     f"{now - since:.0f} seconds: is it full, or does it lie?")
 
 
 def needed_peers(standing, may_lie):
@@ -57,6 +97,8 @@ def findings_of(one, most, may_lie, most_behind):
     if one.standing is None:
         return [Finding(AWAY, one.why)]
     it, found = one.standing, []
+    if one.begun_twice():
+        found.append(Finding(TWICE, f"{one} {one.begun_twice()}: {tundelca.TWICE}"))
     lacks = behind(it, most)
     if lacks > most_behind:
         owner = max(range(len(it.reaches)), key=lambda owner: most[owner] - it.reaches[owner])
@@ -65,12 +107,17 @@ def findings_of(one, most, may_lie, most_behind):
     if it.at >= it.limit:
         found.append(Finding(BEHIND, f"{one} has a full history and takes nothing new: begin the cluster anew"))
     elif it.used() >= SOON:
-        found.append(Finding(NOTE, f"{one} has used {percent(it.used())} of its life span: begin anew in time"))
+        found.append(Finding(ALARM, f"{one} has used {percent(it.used())} of its life span: begin anew in time"))
     if it.journal is not None and not it.journal.sound:
         found.append(Finding(BEHIND, f"{one} can't write its journal: see to its disk, and start it again"))
-    if it.peers is not None and any(it.reaches) and it.hears() < needed_peers(it, may_lie):
-        found.append(Finding(BEHIND, f"{one} hears {it.hears()} of its {len(it.others())} peers, too few: what is "
-                                     f"published doesn't come to it"))
+    if it.peers is not None and any(it.reaches):
+        needed, others = needed_peers(it, may_lie), len(it.others())
+        if it.hears() < needed:
+            found.append(Finding(BEHIND, f"{one} hears {it.hears()} of its {others} peers, too few: what is published "
+                                         f"doesn't come to it"))
+        elif it.joined() < needed:
+            found.append(Finding(ALARM, f"{one} hears and reaches {it.joined()} of its {others} peers, too few: what "
+                                        f"is published doesn't come to it, or not from it"))
     return found + notes_of(one)
 
 
@@ -78,13 +125,13 @@ def notes_of(one):
     """What to know of a node that answers."""
     it, found = one.standing, []
     if it.sessions is not None and it.sessions >= MANY_SESSIONS:
-        found.append(Finding(NOTE, f"{one} has {it.sessions:,} of {MOST_SESSIONS:,} open sessions: `sessions` lists "
+        found.append(Finding(ALARM, f"{one} has {it.sessions:,} of {MOST_SESSIONS:,} open sessions: `sessions` lists "
                                    f"them and closes those of a user"))
     if it.journal is not None and it.journal.mean >= SLOW_SYNC:
-        found.append(Finding(NOTE, f"{one} waits for its disk: a sync takes {microseconds(it.journal.mean)}"))
+        found.append(Finding(ALARM, f"{one} waits for its disk: a sync takes {microseconds(it.journal.mean)}"))
     if it.me is not None and it.me < len(it.reaches) and it.published - it.reaches[it.me] >= WINDOW:
         on_way = it.published - it.reaches[it.me]
-        found.append(Finding(NOTE, f"{one} is busy: {on_way:,} of its commands are on their way"))
+        found.append(Finding(ALARM, f"{one} is busy: {on_way:,} of its commands are on their way"))
     for name, peer in enumerate(it.peers or []):
         if peer is not None and peer.unopened:
             found.append(Finding(NOTE, f"{counted(peer.unopened, 'frame')} of node {name} didn't open at {one}: "

@@ -3,8 +3,8 @@ import sys
 import threading
 import time
 
-from ctl import AWAY, DONE, nodes
-from ctl.nodes import Nodes, behind, furthest
+from ctl import AWAY, DONE, NO, nodes
+from ctl.nodes import Nodes, Seen, behind, furthest
 
 KIND = "text/plain; version=0.0.4; charset=utf-8"
 
@@ -16,20 +16,26 @@ def add(steps):
   tundelca-ctl metrics 7400 > node.prom      says it once
 
 Nodes are asked at each scrape, for so long as --patience says. One that is away has tundelca_up 0, and
-nothing else.""")
+nothing else. The status is 2 where one is away, and 1 where one is begun twice: more of its own commands are there
+than it has published, and what is published at it is lost.""")
     one.add_argument("nodes", nargs="+", type=nodes.node, metavar="NODE", help="a client port, or a cluster file")
     one.add_argument("--port", type=int, metavar="P", help="serve it at this port of 127.0.0.1; 0 takes a free one")
+    one.add_argument("--may-lie", type=int, metavar="F", help="how many may, by which others' word counts of a node "
+                                                              "that was begun twice; by a cluster file if one is named")
     one.patience(2.0)
     one.set_defaults(run=run)
 
 
 def run(given):
+    may_lie = nodes.may_lie_of(given.nodes, given.may_lie)
     with Nodes(given.nodes, given.patience) as watched:
         if given.port is None:
             begun = time.monotonic()
-            seen = watched.look()
+            seen = watched.look(may_lie)
             sys.stdout.write(text(seen, time.monotonic() - begun))
-            return DONE if all(one.standing is not None for one in seen) else AWAY
+            if any(one.standing is None for one in seen):
+                return AWAY
+            return NO if any(map(Seen.begun_twice, seen)) else DONE
         from ctl.web import Pages  # which takes a while to read
 
         lock = threading.Lock()
@@ -37,7 +43,7 @@ def run(given):
         def scrape(_):
             begun = time.monotonic()
             with lock:
-                seen = watched.look()
+                seen = watched.look(may_lie)
             return KIND, text(seen, time.monotonic() - begun).encode("ascii")
 
         pages = Pages(given.port, {"/metrics": scrape})
@@ -96,6 +102,9 @@ def text(seen, took):
     lines += family("node_info", "gauge", "The name of the node at a client port.", names)
     lines += family("behind_commands", "gauge", "Commands that the node lacks and another of these has.",
                     [({"port": port}, behind(it, most)) for port, it in answer])
+    lines += family("begun_twice", "gauge", "1 where more of the node's own commands are there than it has published.",
+                    [({"port": one.node.port}, int(one.begun_twice() is not None)) for one in seen
+                     if one.standing is not None and one.standing.published is not None])
     for name, kind, help, samples in NODE_METRICS:
         lines += family(name, kind, help, [({"port": port, **labels}, number)
                                            for port, it in answer for labels, number in samples(it)])

@@ -1,15 +1,14 @@
 """The nodes that a tool is told of, and what each says of itself."""
 import argparse
 import json
+import time
 from concurrent.futures import ThreadPoolExecutor
-from dataclasses import dataclass
+from dataclasses import dataclass, fields, replace
 from typing import Optional
 
 import tundelca
 
-MOST_NODES = 128
-EVENTS = 4_194_304  # that a node of role_daemon records at most: it doesn't say so itself
-AT_A_TIME = 32  # nodes that are asked
+MOST_NODES = tundelca.NODES  # which are asked side by side
 
 
 @dataclass(frozen=True)
@@ -77,6 +76,10 @@ class Standing:
         """Of how many peers it has a connection on which frames open."""
         return sum(peer.heard for peer in self.others())
 
+    def joined(self):
+        """Of how many peers that, and its own connection to them stands too."""
+        return sum(peer.heard and peer.connected for peer in self.others())
+
     def again(self):
         return sum(peer.again for peer in self.others())
 
@@ -93,11 +96,16 @@ class Standing:
 
 @dataclass(frozen=True)
 class Seen:
-    """A node and its standing; None where it is away, and then why."""
+    """A node and its standing; None where it is away, and then why.
+
+    `elsewhere` is how far its own stream is at more other nodes than may lie, where these were further than it had
+    published then: it was asked once more, since nodes are asked side by side.
+    """
 
     node: Named
     standing: Optional[Standing]
     why: Optional[str] = None
+    elsewhere: int = 0
 
     def me(self):
         """The node's name, by what it says or by its file; None where neither tells it."""
@@ -105,46 +113,35 @@ class Seen:
             return self.standing.me
         return None if self.node.text is None else self.node.text["me"]
 
+    def begun_twice(self):
+        """In words that more of its commands are there than it has published, as of no correct node; else None."""
+        it = self.standing
+        if it is None or it.me is None:
+            return None
+        return tundelca.beyond_published(it.published, it.reaches[it.me], self.elsewhere)
+
     def __str__(self):
         return f"the node at port {self.node.port}" if self.me() is None else f"node {self.me()}"
 
 
-def whole(value, kind=int):
-    """The value, if it is of the kind: a whole number of 64 bits, or a truth value."""
-    if type(value) is not kind or not 0 <= value < 1 << 64:
-        raise ValueError
-    return value
-
-
-def peer_of(row):
-    return Peer(whole(row["connected"], bool), whole(row["heard"], bool),
-                *(whole(row[name]) for name in ("waiting", "again", "lost", "unopened")))
-
-
 def standing_of(answer):
-    """The standing in an answer to `status`. A ValueError, KeyError or TypeError where it is none."""
-    peers = [None if row is None else peer_of(row) for row in answer["peers"]]
-    if max(len(peers), len(answer["reaches"])) > MOST_NODES:
-        raise ValueError
-    journal, me = answer["journal"], [name for name, row in enumerate(peers) if row is None]
-    if journal is not None:
-        journal = Journal(whole(journal["sound"], bool),
-                          *(whole(journal[name]) for name in ("syncs", "last", "mean", "worst")))
-    return Standing(whole(answer["at"]), whole(answer["limit"]), [whole(reach) for reach in answer["reaches"]],
-                    me[0] if len(me) == 1 else None, whole(answer["published"]), whole(answer["sessions"]), journal,
-                    peers, whole(answer["unopened"]))
+    """The standing in an answer to `status`."""
+    peers = [row and Peer(*(row[field.name] for field in fields(Peer))) for row in answer["peers"]]
+    journal = answer["journal"] and Journal(*(answer["journal"][field.name] for field in fields(Journal)))
+    return Standing(answer["at"], answer["limit"], answer["reaches"], peers.index(None), answer["published"],
+                    answer["sessions"], journal, peers, answer["unopened"])
 
 
-def standing(client):
-    """What the node says of itself; of one without `status`, what it has delivered, and its history's length."""
+def standing(client, until=None):
+    """What the node says of itself, by this moment; of one without `status`, what it has delivered, and its history's
+    length."""
     try:
-        answer = client.ask("status")
+        return standing_of(client.asked({"op": "status"}, until))
     except tundelca.Refused as refusal:
         if refusal.code != "J4":
             raise
-        reaches = client.reaches()
-        return Standing(client.length(), EVENTS, [whole(reach) for reach in reaches])
-    return standing_of(answer)
+        at = client.asked({"op": "assigned_users", "role": 0}, until)["at"]
+        return Standing(at, tundelca.EVENTS, client.reaches(until))
 
 
 class Nodes:
@@ -152,7 +149,7 @@ class Nodes:
 
     def __init__(self, named, patience):
         self.named, self.patience, self.clients = list({one.port: one for one in named}.values()), patience, {}
-        self.pool = ThreadPoolExecutor(min(AT_A_TIME, max(1, len(self.named))))
+        self.pool = ThreadPoolExecutor(max(1, min(MOST_NODES, len(self.named))))
 
     def __enter__(self):
         return self
@@ -162,34 +159,64 @@ class Nodes:
         for client in self.clients.values():
             client.close()
 
-    def look(self):
-        """All nodes as they are seen now, in their order."""
-        return list(self.pool.map(self.see, self.named))
+    def look(self, may_lie=None):
+        """All nodes as they are seen now, in their order. Where it is known how many may lie, an owner that has
+        published less than is elsewhere is asked once more."""
+        seen = list(self.pool.map(self.see, self.named))
+        far = {} if may_lie is None else {at: elsewhere(seen, at, may_lie) for at in range(len(seen))}
+        late = [at for at, reach in far.items() if reach]
+        for at, again in zip(late, self.pool.map(self.see, [self.named[at] for at in late])):
+            seen[at] = replace(again, elsewhere=far[at])
+        return seen
 
     def see(self, node):
-        """The node as it is seen now. A kept connection that has ended is made anew."""
-        kept = self.clients.pop(node.port, None)
+        """The node as it is seen now, within `patience`. A kept connection that has ended is made anew."""
+        kept, until = self.clients.pop(node.port, None), time.monotonic() + self.patience
         if kept is not None:
-            seen = self.asked(node, kept)
-            if seen.standing is not None:
+            seen = self.asked(node, kept, until)
+            if seen.standing is not None or time.monotonic() > until:
                 return seen
         try:
-            return self.asked(node, tundelca.Client(node.port, self.patience))
+            left = max(0.001, until - time.monotonic())
+            return self.asked(node, tundelca.Client(node.port, left), until)
         except tundelca.Unreachable as fault:
             return Seen(node, None, str(fault))
 
-    def asked(self, node, client):
+    def asked(self, node, client, until):
         """The node by what it says on this connection, which is kept if that is well."""
+        client.patience = self.patience
         try:
-            seen = Seen(node, standing(client))
+            seen = Seen(node, standing(client, until))
             self.clients[node.port] = client
             return seen
         except tundelca.NodeFault as fault:
-            why = str(fault)
-        except (ValueError, KeyError, TypeError):
-            why = f"what answers at port {node.port} is no node: its status is none"
-        client.close()
-        return Seen(node, None, why)
+            client.close()
+            return Seen(node, None, str(fault))
+
+
+def holdings(client, roles):
+    """For each of the roles its users and its permissions, all within `patience`. No node has room for more items."""
+    until, held = time.monotonic() + client.patience, {}
+    for role in roles:
+        held[role] = {}
+        for op in ("assigned_users", "role_permissions"):
+            request, name = {"op": op, "role": role}, tundelca.LISTINGS[op][0]
+            held[role][name] = client.asked(request, until)[name]
+            client.items -= len(held[role][name])
+            if client.items < 0:
+                client.unfit(request, f"more than {tundelca.ITEMS:,} items, with those before")
+    return held
+
+
+def elsewhere(seen, at, may_lie):
+    """How far an owner's own stream is at more of the others than may lie; 0 unless that is beyond what it has
+    published."""
+    it = seen[at].standing
+    if it is None or it.me is None:
+        return 0
+    said = sorted((one.standing.reaches[it.me] for one in seen if one.me() != it.me and one.standing is not None
+                   and it.me < len(one.standing.reaches)), reverse=True)
+    return said[may_lie] if may_lie < len(said) and said[may_lie] > it.published else 0
 
 
 def furthest(seen, may_lie=0):

@@ -6,7 +6,7 @@ import sys
 import time
 
 import tundelca
-from ctl import DONE, REFUSED, WORDS, Fault, nodes
+from ctl import DONE, NO, REFUSED, WORDS, Fault, nodes
 from ctl.nodes import Nodes
 from ctl.terminal import counted
 
@@ -17,6 +17,7 @@ MEMBERS = {  # of each command, with how many values they have
     "revoke": {"role": 1 << 16, "operation": 1 << 16, "object": 1 << 32},
     "clear": {"role": 1 << 16},
 }
+ANSWER = 10.0  # seconds that an answer may take
 ADDING = ("assign", "grant")  # whose order doesn't matter among themselves
 
 
@@ -65,10 +66,13 @@ def pair(word):
 def ask(given):
     """Prints the answer to one line."""
     with tundelca.Client(given.node.port, given.patience) as client:
-        client.send([{"op": given.op, **dict(given.members)}])
-        answer = client.answer({"op": given.op})
-    print(json.dumps(answer))
-    return REFUSED if "error" in answer else DONE
+        [answer] = client.ask_all([{"op": given.op, **dict(given.members)}])
+    twice = "issued" in answer and tundelca.beyond_published(answer["issued"] + 1, answer["reach"], 0)
+    status, answer = REFUSED if "error" in answer else DONE, json.dumps(answer)
+    print(answer)
+    if twice:
+        raise Fault(NO, f"the node at port {given.node.port} {twice}: {tundelca.TWICE}")
+    return status
 
 
 def command_of(row):
@@ -154,7 +158,7 @@ def issue(parts, named, may_lie, given):
         in_order = not all(command["op"] in ADDING for command in commands)
         told = progress(owner, len(commands)) if sys.stderr.isatty() else None
         try:
-            with tundelca.Client(node.port) as client:
+            with tundelca.Client(node.port, min(ANSWER, given.patience)) as client:
                 done = client.publish(commands, owner, others, may_lie, given.patience, left, in_order, told)
         finally:
             if told is not None:

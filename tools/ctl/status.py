@@ -4,15 +4,17 @@ import json
 import sys
 import time
 
-from ctl import AWAY, DONE, NO, findings, nodes
-from ctl.findings import FEW, READY, Sight
+from ctl import AWAY, DONE, NO, WORDS, Fault, findings, nodes
+from ctl.findings import FEW, READY, Looks, Sight
 from ctl.nodes import Nodes
 from ctl.terminal import BOLD, DIM, GREEN, PLAIN, RED, YELLOW, Table, Terminal, counted, microseconds, percent
 
-STATUSES = {READY: DONE, findings.BEHIND: NO, findings.AWAY: AWAY}
-STYLES = {READY: GREEN, findings.BEHIND: YELLOW, findings.AWAY: RED}
+STATUSES = {READY: DONE, findings.NOTE: DONE, findings.ALARM: NO, findings.BEHIND: NO, findings.TWICE: NO,
+            findings.AWAY: AWAY}
+STYLES = {READY: GREEN, findings.ALARM: YELLOW, findings.BEHIND: YELLOW, findings.TWICE: RED, findings.AWAY: RED}
 MOST_OWNERS = 20  # rows, unless all are asked for
 MOST_SHOWN = 12  # nodes beside one another
+EVERY = 1.0  # seconds from look to look
 
 
 def add(steps):
@@ -20,22 +22,26 @@ def add(steps):
     one = steps.add_parser("status", "how nodes stand: a table, and what is not well", example="""
   tundelca-ctl status 7400 7401 7402 7403
   tundelca-ctl status --watch node*.json
+  tundelca-ctl status --watch --every 5 7400
 
-The status is 1 where a node is behind, as `health` means it, and 2 where one is away.""")
+The status is 2 where a node is away, and 1 where something is by which to be woken: a node is begun twice or
+behind, as `health` means it, cut off, busy, slow to sync, or near its end. What takes two looks to see, as lost
+frames do, --watch tells.""")
     one.add_argument("nodes", nargs="+", type=nodes.node, metavar="NODE", help="a client port, or a cluster file")
-    one.add_argument("--watch", nargs="?", const=1.0, type=nodes.seconds, metavar="SECONDS",
-                     help="look again and again, each second or so many, until it is interrupted")
+    one.add_argument("--watch", action="store_true", help="look again and again, until it is interrupted")
+    one.add_argument("--every", type=nodes.seconds, metavar="S", help="with --watch: how often (1 s)")
     one.add_argument("--all", action="store_true", help=f"all owners, not only {MOST_OWNERS}")
     one.add_argument("--json", action="store_true", help="what each node says, as a line of JSON")
     may_lie(one)
     one.patience(2.0)
     one.set_defaults(run=status)
-    one = steps.add_parser("health", "one line: exit status 0 ready, 1 behind, 2 away", example="""
+    one = steps.add_parser("health", "one line: exit status 0 ready, 1 behind or begun twice, 2 away", example="""
   tundelca-ctl health 7400
   tundelca-ctl health node0.json --of 7401 7402 7403 --lag 100
 
 A node is behind where it lacks more commands than one of the others has said to have, hears too few peers,
-has a full history, or can't write its journal.""")
+has a full history, or can't write its journal. It is begun twice where more of its own commands are there than it
+has published: what is published at it is lost.""")
     one.add_argument("node", type=nodes.node, metavar="NODE", help="a client port, or a cluster file")
     one.add_argument("--of", nargs="+", type=nodes.node, default=[], metavar="NODE", help="others to compare it with")
     one.add_argument("--lag", type=int, default=FEW, metavar="N", help="how many commands it may lack (%(default)s)")
@@ -52,7 +58,8 @@ def may_lie(one):
 def health(given):
     """Whether a node is ready, in one line."""
     with Nodes([given.node, *given.of], given.patience) as watched:
-        sight = Sight(watched.look(), nodes.may_lie_of([given.node, *given.of], given.may_lie))
+        may_lie = nodes.may_lie_of([given.node, *given.of], given.may_lie)
+        sight = Sight(watched.look(may_lie), may_lie)
     one = sight.seen[0]
     state, found = sight.state(one, given.lag)
     told = [finding.text for finding in found if state in (READY, finding.kind)]
@@ -70,31 +77,34 @@ def described(one):
 
 def status(given):
     """The table of nodes, once or again and again."""
-    terminal, before = Terminal(sys.stdout), None
-    is_drawn = given.watch is not None and terminal.is_person and not given.json
+    if given.every is not None and not given.watch:
+        raise Fault(WORDS, "--every S goes with --watch")
+    terminal, before, looks = Terminal(sys.stdout), None, Looks()
+    may_lie = nodes.may_lie_of(given.nodes, given.may_lie)
+    is_drawn = given.watch and terminal.is_person and not given.json
     if is_drawn:
         terminal.redraw("")
     with Nodes(given.nodes, given.patience) as watched:
         while True:
-            now, seen = time.monotonic(), watched.look()
-            sight = Sight(seen, nodes.may_lie_of(given.nodes, given.may_lie))
+            now, seen = time.monotonic(), watched.look(may_lie)
+            sight = looks.sight(seen, may_lie, now)
             text = "\n".join([json.dumps(row(one)) for one in seen] if given.json else
                              page(terminal, sight, before and sum(sight.most) - before[1], before and now - before[0],
                                   given.all))
             if is_drawn:
                 terminal.redraw(text)
             else:
-                print(text, end="\n" if given.watch is None or given.json else "\n\n", flush=True)
-            if given.watch is None:
-                return STATUSES[max((sight.state(one)[0] for one in seen), key=STATUSES.get)]
+                print(text, end="\n" if not given.watch or given.json else "\n\n", flush=True)
+            if not given.watch:
+                return max((STATUSES[finding.kind] for finding in sight.findings()), default=DONE)
             before = (now, sum(sight.most))
-            time.sleep(max(0.0, given.watch - (time.monotonic() - now)))
+            time.sleep(max(0.0, (given.every or EVERY) - (time.monotonic() - now)))
 
 
 def row(one):
     """What is known of a node, for a program."""
     known = {} if one.standing is None else dataclasses.asdict(one.standing)
-    return {"port": one.node.port, "away": one.why, **known}
+    return {"port": one.node.port, "away": one.why, "begun_twice": one.begun_twice(), **known}
 
 
 def page(terminal, sight, grown, seconds, is_all):
@@ -117,7 +127,8 @@ def head(terminal, sight, found, grown, seconds):
     """One line that says how all is."""
     answer = sum(one.standing is not None for one in sight.seen)
     what = f"{answer} of {counted(len(sight.seen), 'node')} {'answers' if answer == 1 else 'answer'}"
-    style = GREEN if not found else RED if answer < len(sight.seen) else YELLOW
+    is_red = any(STYLES.get(finding.kind) == RED for finding in found)
+    style = GREEN if not found else RED if is_red else YELLOW
     parts = [counted(sum(sight.most), "command")]
     if grown is not None:
         parts.append(f"{max(0, grown) / max(0.001, seconds):,.0f} a second")

@@ -84,12 +84,11 @@ class Broken(tundelca.Unreachable):
 def write(client, owner, place):
     """Writes what the node has from the place on. The place behind it."""
     try:
-        with contextlib.closing(client.stream(owner, place)) as commands:
-            for command in commands:
-                if command is None:
-                    break
-                print(json.dumps({"owner": owner, "place": place, **command}, separators=(",", ":")))
-                place += 1
+        for command in client.stream(owner, place):
+            if command is None:
+                break
+            print(json.dumps({"owner": owner, "place": place, **command}, separators=(",", ":")))
+            place += 1
     except tundelca.Unreachable as fault:
         raise Broken(place, fault) from None
     return place
@@ -108,24 +107,13 @@ def diff(given):
     return DONE if all(same) else NO
 
 
-def questions(owner, length):
-    """The lines that ask for the first commands of the owner."""
-    return ({"op": "command", "owner": owner, "place": place} for place in range(length))
-
-
 def is_same(given, owner, reaches):
     """Whether both have the same commands of the owner, as far as both are. Says how it is."""
     length = min(reaches)
     with contextlib.ExitStack() as stack:
-        answers = []
-        for node in given.nodes:
-            client = stack.enter_context(tundelca.Client(node.port, given.patience))
-            answers.append(stack.enter_context(contextlib.closing(client.ask_all(questions(owner, length)))))
-        for place, both in enumerate(zip(*answers)):
-            for answer in both:
-                if "error" in answer:
-                    raise tundelca.Refused({"op": "command", "owner": owner, "place": place}, answer)
-            commands = [json.dumps(answer["command"]) for answer in both]
+        clients = [stack.enter_context(tundelca.Client(node.port, given.patience)) for node in given.nodes]
+        for place, both in enumerate(zip(*(client.stream(owner, 0, length) for client in clients))):
+            commands = [json.dumps(command, sort_keys=True) for command in both]
             if commands[0] != commands[1]:
                 told = ", ".join(f"{command} at {node}" for command, node in zip(commands, given.nodes))
                 print(f"owner {owner}: differs at place {place}: {told}", flush=True)

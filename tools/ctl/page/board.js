@@ -3,7 +3,7 @@
 
 const MOST_SAMPLES = 300, FEW_SAMPLES = 60, EVERY = 1000, LATE = 5, MOST_LINES = 8, MOST_ROWS = 40;
 const SVG = "http://www.w3.org/2000/svg";
-const WELL = { ready: "good", behind: "warn", away: "bad", note: "warn" };
+const WELL = { ready: "good", behind: "warn", "begun twice": "bad", away: "bad", alarm: "warn", note: "warn" };
 let samples = [], count = 0, now = null, heard = 0;
 
 // An element with a class and what is in it: elements, or texts.
@@ -189,11 +189,11 @@ function linkTable() {
 
 function whole() {
   const ready = now.nodes.filter((node) => node.state === "ready").length;
-  const isAway = now.nodes.some((node) => node.state === "away");
+  const isBad = now.nodes.some((node) => WELL[node.state] === "bad");
   const text = ready < now.nodes.length ? `${ready} of ${now.nodes.length} nodes are ready` :
     now.findings.length ? "ready, with something to see to" : "all is well";
   byId("whole").textContent = text;
-  byId("whole").className = `pill ${isAway ? "bad" : now.findings.length ? "warn" : "good"}`;
+  byId("whole").className = `pill ${isBad ? "bad" : now.findings.length ? "warn" : "good"}`;
   byId("findings").replaceChildren(...now.findings.slice(0, MOST_ROWS).map((finding) =>
     element("li", WELL[finding.kind], finding.text)));
 }
