@@ -15,7 +15,7 @@ from pathlib import Path
 TOP = Path(__file__).resolve().parent.parent
 MOST_WORDS, MOST_OF_CRATE = 22_500, 350
 PAGES = [TOP / "README.md", *sorted((TOP / "docs").glob("*.md"))]
-ROOMS = ("bench/", "checks/", "crates/", "docs/", "examples/", "packaging/", "tools/")
+ROOMS = ("bench/", "checks/", "crates/", "docs/", "examples/", "packaging/", "rows/", "tools/")
 ITEM = re.compile(r"^(?:pub )?(?:(impl|trait|fn|mod|use)\b)(.*)")
 
 
