@@ -33,7 +33,7 @@ def files():
     """All files of rows, in order."""
     found = []
     for folder, _, names in os.walk(FOLDER):
-        found += [os.path.join(folder, name) for name in names if not name.endswith((".md", ".rs"))]
+        found += [os.path.join(folder, name) for name in names if not name.endswith((".md", ".py", ".rs"))]
     return sorted(found)
 
 

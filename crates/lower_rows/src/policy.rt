@@ -1,31 +1,41 @@
 //! Rows of a policy.
 
-use crate::roles::{name_of, sizes_of, table_of};
+use crate::many;
+use crate::roles::table_of;
 use rbac_state::Policy;
 use row_words::{RowFault, Words, list_text, permissions_text, text_of, yes_or_no};
 use std::alloc::Global;
 
 /// `policy N F ROLE:OWNER ..`
 pub fn begin(alloc: Global, words: &mut Words<'_>) -> Result<Policy, RowFault> {
-    let sizes = sizes_of(words)?;
+    let sizes = words.sizes()?;
     Ok(Policy::new(alloc, table_of(alloc, words, sizes)?))
 }
 
 pub fn answer(alloc: Global, policy: &mut Policy, line: &str) -> Result<String, RowFault> {
     let mut words = Words::new(line);
-    match words.word() {
+    let name = words.word();
+    match name {
         "as" => apply(alloc, policy, &mut words),
         "room" => room(alloc, policy),
         "assigned" => assigned(alloc, policy, &mut words),
         "granted" => granted(alloc, policy, &mut words),
         "first" => first(alloc, policy, &mut words),
-        name => list(alloc, policy, name, &mut words),
+        "text"
+        | "text-pretty"
+        | "text-signed"
+        | "draw"
+        | "pairs"
+        | "unpair"
+        | "scatter"
+        | "scatter-grants" => { many::answer(alloc, policy, name, &mut words) }
+        _ => list(alloc, policy, name, &mut words),
     }
 }
 
 /// `as NODE COMMAND`: room is made, and the node's command applied.
 fn apply(alloc: Global, policy: &mut Policy, words: &mut Words<'_>) -> Result<String, RowFault> {
-    let node = name_of(words, &policy.roles().sizes())?;
+    let node = words.node(&policy.roles().sizes())?;
     let command = words.command()?;
     policy.make_room()?;
     policy.apply(node, command);

@@ -1,22 +1,10 @@
-//! Sizes, role tables and names of nodes, as a row spells them.
+//! A role table, as a row spells it.
 
-use quorum_sizes::{NodeName, Sizes};
+use quorum_sizes::Sizes;
 use role_commands::numbers::{byte_number, narrow_number};
 use role_commands::{RoleTable, TableFault};
 use row_words::{RowFault, Words};
 use std::alloc::Global;
-
-/// The sizes that the next two words spell, as `N F`.
-pub fn sizes_of(words: &mut Words<'_>) -> Result<Sizes, RowFault> {
-    let n = words.byte()?;
-    let f = words.byte()?;
-    Sizes::new(n, f).map_err(|_| RowFault::BadRow)
-}
-
-/// The node that the next word spells.
-pub fn name_of(words: &mut Words<'_>, sizes: &Sizes) -> Result<NodeName, RowFault> {
-    sizes.name(words.byte()?).ok_or(RowFault::BadRow)
-}
 
 /// A table of the roles that all words spell that are left, each as `ROLE:OWNER`.
 pub fn table_of(alloc: Global, words: &mut Words<'_>, sizes: Sizes) -> Result<RoleTable, RowFault> {

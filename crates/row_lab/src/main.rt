@@ -3,6 +3,7 @@
 #![tactic(auto)]
 
 use journal_rows::Journal;
+use link_rows::Link;
 use lower_rows::Lower;
 use row_words::{RowFault, Words, text_of};
 use serving_rows::Serving;
@@ -14,6 +15,7 @@ use std::process::ExitCode;
 #[derive(Drop)]
 enum Layer {
     Blank,
+    Link(Link),
     Lower(Lower),
     Serving(Serving),
     Journal(Journal),
@@ -22,6 +24,9 @@ enum Layer {
 /// The value of the layer that the row begins, if it begins one.
 fn begin(alloc: Global, line: &str) -> Result<Option<Layer>, RowFault> {
     let layer = Words::new(line).word();
+    if link_rows::has(layer) {
+        return Ok(Some(Layer::Link(link_rows::begin(alloc, line)?)));
+    }
     if lower_rows::has(layer) {
         return Ok(Some(Layer::Lower(lower_rows::begin(alloc, line)?)));
     }
@@ -37,7 +42,7 @@ fn begin(alloc: Global, line: &str) -> Result<Option<Layer>, RowFault> {
 impl Layer {
     fn seen(&self) -> [u64; 3] {
         match self {
-            Layer::Blank => [0; 3],
+            Layer::Blank | Layer::Link(_) => [0; 3],
             Layer::Lower(lower) => lower.seen(),
             Layer::Serving(serving) => serving.seen(),
             Layer::Journal(journal) => journal.seen(),
@@ -47,6 +52,7 @@ impl Layer {
     fn call(&mut self, alloc: Global, line: &str) -> Result<String, RowFault> {
         match self {
             Layer::Blank => Err(RowFault::BadRow),
+            Layer::Link(link) => link.answer(alloc, line),
             Layer::Lower(lower) => lower.answer(alloc, line),
             Layer::Serving(serving) => serving.answer(alloc, line),
             Layer::Journal(journal) => journal.answer(alloc, line),

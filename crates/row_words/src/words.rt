@@ -1,6 +1,10 @@
 //! The words of a line, one by one.
 
+ghost use Rattle.std.specs.Prelude.{◌<◌, IfOk};
+
 use crate::fault::RowFault;
+use link_frames::Kind;
+use quorum_sizes::{NodeName, Sizes};
 use role_commands::numbers::{byte_number, long_number, narrow_number, split_word, wide_number};
 use role_commands::{Command, Items, parse_command};
 use std::alloc::Global;
@@ -62,6 +66,33 @@ impl<'a> Words<'a> {
     /// A number of 64 bits.
     pub fn long(&mut self) -> Result<u64, RowFault> {
         long_number(self.word()).ok_or(RowFault::BadRow)
+    }
+
+    /// The sizes that the next two words spell, as `N F`.
+    pub fn sizes(&mut self) -> Result<Sizes, RowFault> {
+        let n = self.byte()?;
+        let f = self.byte()?;
+        Sizes::new(n, f).map_err(|_| RowFault::BadRow)
+    }
+
+    /// A node of these sizes.
+    pub fn node(&mut self, sizes: &Sizes) -> Result<NodeName, RowFault>
+        ensures { IfOk result (λ name. name < sizes.now.nodes) }
+    {
+        match sizes.name(self.byte()?) {
+            Some(name) => Ok(name),
+            None => Err(RowFault::BadRow),
+        }
+    }
+
+    /// A kind of message.
+    pub fn kind(&mut self) -> Result<Kind, RowFault> {
+        match self.word() {
+            "send" => Ok(Kind::Send),
+            "echo" => Ok(Kind::Echo),
+            "ready" => Ok(Kind::Ready),
+            _ => Err(RowFault::BadRow),
+        }
     }
 
     /// The command that all that is left spells.
