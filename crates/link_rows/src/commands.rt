@@ -3,14 +3,14 @@
 use role_commands::numbers::{byte_number, long_number, narrow_number, wide_number};
 use role_commands::{Command, Items, decode, encode, parse_command, print_command};
 use row_words::{OrNone, RowFault, Words, hex_text, list_text, text_of};
-use std::alloc::{AllocError, Global};
+use std::alloc::Global;
 
 pub fn answer(alloc: Global, line: &str) -> Result<String, RowFault> {
     let mut words = Words::new(line);
     match words.word() {
         "parse" => parsed(alloc, words.rest()),
         "parse-bytes" => parse_bytes(alloc, &mut words),
-        "encode" => Ok(hex_text(alloc, &encode(&words.command()?))?),
+        "encode" => hex_text(alloc, &encode(&words.command()?)),
         "decode" => decoded(alloc, &mut words),
         "items" => items(alloc, &mut words),
         kind => number(alloc, kind, words.rest()),
@@ -19,13 +19,13 @@ pub fn answer(alloc: Global, line: &str) -> Result<String, RowFault> {
 
 /// `parse WORDS`: the command that the words spell, as it is written.
 fn parsed(alloc: Global, text: &str) -> Result<String, RowFault> {
-    Ok(printed(alloc, parse_command(text))?)
+    printed(alloc, parse_command(text))
 }
 
 /// A command as it is written, or `none`.
-fn printed(alloc: Global, command: Option<Command>) -> Result<String, AllocError> {
+fn printed(alloc: Global, command: Option<Command>) -> Result<String, RowFault> {
     match command {
-        Some(command) => print_command(alloc, &command),
+        Some(command) => Ok(print_command(alloc, &command)?),
         None => text_of(alloc, &"none"),
     }
 }
@@ -43,7 +43,7 @@ fn parse_bytes(alloc: Global, words: &mut Words<'_>) -> Result<String, RowFault>
 fn decoded(alloc: Global, words: &mut Words<'_>) -> Result<String, RowFault> {
     let bytes = words.bytes(alloc)?;
     match bytes.as_slice().first_chunk::<9>() {
-        Some(chunk) => Ok(printed(alloc, decode(chunk))?),
+        Some(chunk) => printed(alloc, decode(chunk)),
         None => Err(RowFault::BadRow),
     }
 }
@@ -57,16 +57,16 @@ fn items(alloc: Global, words: &mut Words<'_>) -> Result<String, RowFault> {
         }
         numbers.push(words.wide()?)?;
     }
-    Ok(list_text(alloc, Items::new(numbers).as_slice())?)
+    list_text(alloc, Items::new(numbers).as_slice())
 }
 
 /// `byte WORD`, `narrow WORD`, `wide WORD`, `long WORD`: the number of 8, 16, 32 or 64 bits.
 fn number(alloc: Global, kind: &str, word: &str) -> Result<String, RowFault> {
     match kind {
-        "byte" => Ok(text_of(alloc, &OrNone(byte_number(word)))?),
-        "narrow" => Ok(text_of(alloc, &OrNone(narrow_number(word)))?),
-        "wide" => Ok(text_of(alloc, &OrNone(wide_number(word)))?),
-        "long" => Ok(text_of(alloc, &OrNone(long_number(word)))?),
+        "byte" => text_of(alloc, &OrNone(byte_number(word))),
+        "narrow" => text_of(alloc, &OrNone(narrow_number(word))),
+        "wide" => text_of(alloc, &OrNone(wide_number(word))),
+        "long" => text_of(alloc, &OrNone(long_number(word))),
         _ => Err(RowFault::BadRow),
     }
 }

@@ -7,6 +7,9 @@ use quorum_sizes::{NodeName, Sizes};
 use row_words::{RowFault, Spelled, Words, hex_text, kind_word, text_of};
 use std::alloc::Global;
 
+/// So many bytes have a tag here.
+const MOST_BYTES: usize = 65_536;
+
 /// The keys of a node.
 #[derive(Drop)]
 struct Ring {
@@ -38,7 +41,7 @@ pub fn answer(alloc: Global, frames: &mut Frames, line: &str) -> Result<String, 
         "keys" => keys(alloc, frames, &mut words),
         "frame" => {
             frames.frame = words.bytes(alloc)?.as_slice().to_vec(alloc)?;
-            Ok(text_of(alloc, &"ok")?)
+            text_of(alloc, &"ok")
         }
         "cut" => cut(alloc, frames),
         name => match &frames.ring {
@@ -68,8 +71,15 @@ fn with_keys(
 fn hmac(alloc: Global, words: &mut Words<'_>) -> Result<String, RowFault> {
     let key = words.bytes(alloc)?;
     let text = words.bytes(alloc)?;
-    let tag = hmac_sha256(key.as_slice(), text.as_slice());
-    Ok(hex_text(alloc, &tag)?)
+    let tag = tag_of(key.as_slice(), text.as_slice())?;
+    hex_text(alloc, &tag)
+}
+
+fn tag_of(key: &[u8], text: &[u8]) -> Result<[u8; 32], RowFault> {
+    if key.len().max(text.len()) > MOST_BYTES {
+        return Err(RowFault::BadRow);
+    }
+    Ok(hmac_sha256(key, text))
 }
 
 /// `keys N F ME KEY ..`: the keys that node ME shares with each node, in their order.
@@ -80,10 +90,10 @@ fn keys(alloc: Global, frames: &mut Frames, words: &mut Words<'_>) -> Result<Str
     match PairKeys::new(alloc, &sizes, me, &shared) {
         Ok(keys) => {
             frames.ring = Some(Ring { sizes, me, keys });
-            Ok(text_of(alloc, &"ok")?)
+            text_of(alloc, &"ok")
         }
         Err(KeyFault::Memory) => Err(RowFault::Memory),
-        Err(fault) => Ok(text_of(alloc, &fault)?),
+        Err(fault) => text_of(alloc, &fault),
     }
 }
 
@@ -119,8 +129,8 @@ fn sealed(alloc: Global, ring: &Ring, words: &mut Words<'_>) -> Result<String, R
         command: words.command()?,
     };
     match Packet::new(ring.me, to, message) {
-        Some(packet) => Ok(hex_text(alloc, &seal(&ring.keys, cluster, &packet))?),
-        None => Ok(text_of(alloc, &"none")?),
+        Some(packet) => hex_text(alloc, &seal(&ring.keys, cluster, &packet)),
+        None => text_of(alloc, &"none"),
     }
 }
 
@@ -128,7 +138,7 @@ fn sealed(alloc: Global, ring: &Ring, words: &mut Words<'_>) -> Result<String, R
 fn opened(alloc: Global, ring: &Ring, cluster: u32, bytes: &[u8]) -> Result<String, RowFault> {
     match open_frame(&ring.keys, &ring.sizes, cluster, bytes) {
         Ok(packet) => packet_text(alloc, &packet),
-        Err(fault) => Ok(text_of(alloc, &fault)?),
+        Err(fault) => text_of(alloc, &fault),
     }
 }
 

@@ -5,7 +5,7 @@ use link_frames::{
     Ahead, AheadFault, Held, Next, ReadFault, Watched, read_frame, read_patiently, write_whole,
 };
 use row_words::{RowFault, Words, hex_text, text_of};
-use std::alloc::{AllocError, Global};
+use std::alloc::Global;
 use std::io;
 use std::io::{Read, Write};
 
@@ -37,7 +37,7 @@ pub fn answer(alloc: Global, lines: &mut Lines, line: &str) -> Result<String, Ro
     match name {
         "bytes" | "reader" | "odd-reader" | "writer" | "odd-writer" => {
             make(alloc, lines, name, &mut words)?;
-            Ok(text_of(alloc, &"ok")?)
+            text_of(alloc, &"ok")
         }
         "read" | "read-patiently" | "read-frame" | "counts" => {
             read(alloc, lines, name, &mut words)
@@ -103,7 +103,7 @@ fn read_raw(
     let count = usize::from(words.byte()?);
     let buffer = buffer.get_mut(..count).ok_or(RowFault::BadRow)?;
     match reader.read(buffer) {
-        Ok(read) => Ok(hex_text(alloc, buffer.get(..read).ok_or(RowFault::BadRow)?)?),
+        Ok(read) => hex_text(alloc, buffer.get(..read).ok_or(RowFault::BadRow)?),
         Err(error) => error_text(alloc, &error, buffer),
     }
 }
@@ -124,21 +124,21 @@ fn patiently(
     let count = usize::from(words.byte()?);
     let buffer = buffer.get_mut(..count).ok_or(RowFault::BadRow)?;
     match read_patiently(reader, buffer) {
-        Ok(read) => Ok(text_of(alloc, &read)?),
-        Err(fault) => Ok(text_of(alloc, &fault)?),
+        Ok(read) => text_of(alloc, &read),
+        Err(fault) => text_of(alloc, &fault),
     }
 }
 
 /// `read-frame`: the frame, `none` at the end, or the fault.
 fn frame_read(alloc: Global, reader: &mut Watched<Twice<Source>>) -> Result<String, RowFault> {
     match read_frame(reader) {
-        Ok(Some(frame)) => Ok(hex_text(alloc, &frame)?),
-        Ok(None) => Ok(text_of(alloc, &"none")?),
+        Ok(Some(frame)) => hex_text(alloc, &frame),
+        Ok(None) => text_of(alloc, &"none"),
         Err(ReadFault::Truncated(count)) => {
             let fault = ReadFault::Truncated(count);
             Ok(format!(in alloc; "{fault} {count}")?)
         }
-        Err(fault) => Ok(text_of(alloc, &fault)?),
+        Err(fault) => text_of(alloc, &fault),
     }
 }
 
@@ -158,16 +158,16 @@ fn look_ahead(
         "peek" => peek(alloc, lines, usize::from(words.byte()?)),
         "held-peek" => held_peek(alloc, lines, usize::from(words.byte()?)),
         "begins" => begins(alloc, lines, usize::from(words.byte()?)),
-        "front" => Ok(hex_text(alloc, lines.ahead.front())?),
+        "front" => hex_text(alloc, lines.ahead.front()),
         "take" => take(alloc, lines, usize::from(words.byte()?)),
         _ => pass(alloc, lines),
     }
 }
 
-fn next_text(alloc: Global, next: Next) -> Result<String, AllocError> {
+fn next_text(alloc: Global, next: Next) -> Result<String, RowFault> {
     match next {
-        Next::Line(count) => format!(in alloc; "line {count}"),
-        Next::Last(count) => format!(in alloc; "last {count}"),
+        Next::Line(count) => Ok(format!(in alloc; "line {count}")?),
+        Next::Last(count) => Ok(format!(in alloc; "last {count}")?),
         Next::TooLong => text_of(alloc, &"too long"),
         Next::End => text_of(alloc, &"end"),
     }
@@ -175,9 +175,9 @@ fn next_text(alloc: Global, next: Next) -> Result<String, AllocError> {
 
 fn peeked(alloc: Global, came: Result<Next, AheadFault>) -> Result<String, RowFault> {
     match came {
-        Ok(next) => Ok(next_text(alloc, next)?),
+        Ok(next) => next_text(alloc, next),
         Err(AheadFault::Memory) => Err(RowFault::Memory),
-        Err(fault) => Ok(text_of(alloc, &fault)?),
+        Err(fault) => text_of(alloc, &fault),
     }
 }
 
@@ -195,8 +195,8 @@ fn held_peek(alloc: Global, lines: &mut Lines, limit: usize) -> Result<String, R
 /// `begins LIMIT`: the same, of the bytes alone that were read ahead.
 fn begins(alloc: Global, lines: &Lines, limit: usize) -> Result<String, RowFault> {
     match lines.ahead.begins(limit) {
-        Some(next) => Ok(next_text(alloc, next)?),
-        None => Ok(text_of(alloc, &"none")?),
+        Some(next) => next_text(alloc, next),
+        None => text_of(alloc, &"none"),
     }
 }
 
@@ -206,16 +206,16 @@ fn take(alloc: Global, lines: &mut Lines, count: usize) -> Result<String, RowFau
         return Err(RowFault::BadRow);
     }
     lines.ahead.take(count);
-    Ok(text_of(alloc, &"ok")?)
+    text_of(alloc, &"ok")
 }
 
 /// `pass`: uses up the next line, however long. Whether it had an end.
 fn pass(alloc: Global, lines: &mut Lines) -> Result<String, RowFault> {
     match lines.ahead.pass_line(&mut lines.reader) {
-        Ok(true) => Ok(text_of(alloc, &"ended")?),
-        Ok(false) => Ok(text_of(alloc, &"end")?),
+        Ok(true) => text_of(alloc, &"ended"),
+        Ok(false) => text_of(alloc, &"end"),
         Err(AheadFault::Memory) => Err(RowFault::Memory),
-        Err(fault) => Ok(text_of(alloc, &fault)?),
+        Err(fault) => text_of(alloc, &fault),
     }
 }
 
@@ -228,15 +228,21 @@ fn write(
     match name {
         "hold" => {
             lines.held.push_line(words.rest())?;
-            Ok(text_of(alloc, &"ok")?)
+            text_of(alloc, &"ok")
         }
         "hold-lines" => hold_lines(alloc, &mut lines.held, words.rest()),
-        "write-due" => write_due(alloc, lines, usize::from(words.byte()?)),
+        "write-due" => write_due(
+            alloc,
+            &mut lines.held,
+            &lines.ahead,
+            &mut lines.writer,
+            usize::from(words.byte()?),
+        ),
         "write" => write_raw(alloc, &mut lines.writer, words),
         "write-whole" => whole(alloc, &mut lines.writer, words),
         "flush" => flush(alloc, &mut lines.writer),
-        "written" => Ok(hex_text(alloc, lines.writer.inner().inner().bytes())?),
-        "made" => Ok(text_of(alloc, &lines.writer.made())?),
+        "written" => hex_text(alloc, lines.writer.inner().inner().bytes()),
+        "made" => text_of(alloc, &lines.writer.made()),
         _ => Err(RowFault::BadRow),
     }
 }
@@ -246,15 +252,20 @@ fn hold_lines(alloc: Global, held: &mut Held, text: &str) -> Result<String, RowF
     let mut lines = Held::new(alloc);
     lines.push_line(text)?;
     held.push_lines(&lines)?;
-    Ok(text_of(alloc, &"ok")?)
+    text_of(alloc, &"ok")
 }
 
 /// `write-due LIMIT`: writes what is held if it is due.
-fn write_due(alloc: Global, lines: &mut Lines, limit: usize) -> Result<String, RowFault> {
-    let mut writer = Watched::new(&mut lines.writer);
-    match lines.held.write_when_due(&lines.ahead, limit, &mut writer) {
-        Ok(()) => Ok(text_of(alloc, &"ok")?),
-        Err(fault) => Ok(text_of(alloc, &fault)?),
+fn write_due(
+    alloc: Global,
+    held: &mut Held,
+    ahead: &Ahead,
+    writer: &mut Twice<Sink>,
+    limit: usize,
+) -> Result<String, RowFault> {
+    match held.write_when_due(ahead, limit, &mut Watched::new(writer)) {
+        Ok(()) => text_of(alloc, &"ok"),
+        Err(fault) => text_of(alloc, &fault),
     }
 }
 
@@ -267,7 +278,7 @@ fn write_raw(
     let bytes = words.bytes(alloc)?;
     let mut writer = Watched::new(writer);
     match writer.write(bytes.as_slice()) {
-        Ok(count) => Ok(text_of(alloc, &count)?),
+        Ok(count) => text_of(alloc, &count),
         Err(error) => error_text(alloc, &error, bytes.as_slice()),
     }
 }
@@ -280,8 +291,8 @@ fn whole(
 ) -> Result<String, RowFault> {
     let bytes = words.bytes(alloc)?;
     match write_whole(&mut Watched::new(writer), bytes.as_slice()) {
-        Ok(()) => Ok(text_of(alloc, &"ok")?),
-        Err(fault) => Ok(text_of(alloc, &fault)?),
+        Ok(()) => text_of(alloc, &"ok"),
+        Err(fault) => text_of(alloc, &fault),
     }
 }
 

@@ -27,10 +27,10 @@ pub fn answer(alloc: Global, quorums: &mut Quorums, line: &str) -> Result<String
         "insert" => insert(alloc, quorums, &mut words),
         "copy" => {
             quorums.b = quorums.a;
-            Ok(text_of(alloc, &"ok")?)
+            text_of(alloc, &"ok")
         }
         "contains" => contains(alloc, quorums, &mut words),
-        "len" => Ok(text_of(alloc, &set_of(quorums, &mut words)?.len())?),
+        "len" => text_of(alloc, &set_of(quorums, &mut words)?.len()),
         "among" => among(alloc, quorums, &mut words),
         "meet" => meet(alloc, quorums, &mut words),
         _ => Err(RowFault::BadRow),
@@ -42,7 +42,7 @@ fn sizes(alloc: Global, words: &mut Words<'_>) -> Result<String, RowFault> {
     let n = words.byte()?;
     match Sizes::new(n, words.byte()?) {
         Ok(sizes) => sizes_text(alloc, &sizes),
-        Err(fault) => Ok(text_of(alloc, &fault)?),
+        Err(fault) => text_of(alloc, &fault),
     }
 }
 
@@ -56,7 +56,7 @@ fn sizes_text(alloc: Global, sizes: &Sizes) -> Result<String, RowFault> {
 fn name(alloc: Global, words: &mut Words<'_>) -> Result<String, RowFault> {
     let sizes = words.sizes()?;
     let name = sizes.name(words.byte()?);
-    Ok(text_of(alloc, &OrNone(name.map(|name| name.index())))?)
+    text_of(alloc, &OrNone(name.map(|name| name.index())))
 }
 
 /// The name of a node of the largest cluster.
@@ -68,7 +68,7 @@ fn any_name(words: &mut Words<'_>) -> Result<NodeName, RowFault> {
 /// `has N F I`: whether the node is of these sizes.
 fn has(alloc: Global, words: &mut Words<'_>) -> Result<String, RowFault> {
     let sizes = words.sizes()?;
-    Ok(yes_or_no(alloc, sizes.has(any_name(words)?))?)
+    yes_or_no(alloc, sizes.has(any_name(words)?))
 }
 
 fn set_of(quorums: &Quorums, words: &mut Words<'_>) -> Result<NodeSet, RowFault> {
@@ -88,25 +88,25 @@ fn insert(alloc: Global, quorums: &mut Quorums, words: &mut Words<'_>) -> Result
     } else {
         quorums.b.insert(name)
     };
-    Ok(yes_or_no(alloc, is_new)?)
+    yes_or_no(alloc, is_new)
 }
 
 /// `contains a I`
 fn contains(alloc: Global, quorums: &Quorums, words: &mut Words<'_>) -> Result<String, RowFault> {
     let set = set_of(quorums, words)?;
-    Ok(yes_or_no(alloc, set.contains(any_name(words)?))?)
+    yes_or_no(alloc, set.contains(any_name(words)?))
 }
 
 /// `among N F a`: how many nodes of the set are of these sizes.
 fn among(alloc: Global, quorums: &Quorums, words: &mut Words<'_>) -> Result<String, RowFault> {
     let sizes = words.sizes()?;
     let set = set_of(quorums, words)?;
-    Ok(text_of(alloc, &set.count_among(&sizes))?)
+    text_of(alloc, &set.count_among(&sizes))
 }
 
 /// `meet N F`: how many nodes both sets have.
 fn meet(alloc: Global, quorums: &Quorums, words: &mut Words<'_>) -> Result<String, RowFault> {
     let sizes = words.sizes()?;
     let common = quorums_meet(&sizes, &quorums.a, &quorums.b);
-    Ok(text_of(alloc, &common.len())?)
+    text_of(alloc, &common.len())
 }

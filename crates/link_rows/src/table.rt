@@ -17,7 +17,7 @@ pub fn answer(alloc: Global, table: &mut RoleTable, line: &str) -> Result<String
         "fill" => fill(alloc, table, &mut words),
         "copy" => {
             *table = table.copy(alloc)?;
-            Ok(text_of(alloc, &"ok")?)
+            text_of(alloc, &"ok")
         }
         "owner" => owner(alloc, table, &mut words),
         "owned" => owned(alloc, table, &mut words),
@@ -31,9 +31,9 @@ fn add(alloc: Global, table: &mut RoleTable, words: &mut Words<'_>) -> Result<St
     let role = words.narrow()?;
     let owner = words.byte()?;
     match table.add(role, owner) {
-        Ok(()) => Ok(text_of(alloc, &"ok")?),
+        Ok(()) => text_of(alloc, &"ok"),
         Err(TableFault::Memory) => Err(RowFault::Memory),
-        Err(fault) => Ok(text_of(alloc, &fault)?),
+        Err(fault) => text_of(alloc, &fault),
     }
 }
 
@@ -42,23 +42,23 @@ fn fill(alloc: Global, table: &mut RoleTable, words: &mut Words<'_>) -> Result<S
     let first = words.narrow()?;
     for role in first..words.narrow()? {
         if table.add(role, 0).is_err() {
-            return Ok(text_of(alloc, &role)?);
+            return text_of(alloc, &role);
         }
     }
-    Ok(text_of(alloc, &"ok")?)
+    text_of(alloc, &"ok")
 }
 
 /// `owner ROLE`
 fn owner(alloc: Global, table: &RoleTable, words: &mut Words<'_>) -> Result<String, RowFault> {
     let owner = table.owner(words.narrow()?);
-    Ok(text_of(alloc, &OrNone(owner.map(|name| name.index())))?)
+    text_of(alloc, &OrNone(owner.map(|name| name.index())))
 }
 
 /// `owned ROLE NODE`
 fn owned(alloc: Global, table: &RoleTable, words: &mut Words<'_>) -> Result<String, RowFault> {
     let role = words.narrow()?;
     let node = words.node(&table.sizes())?;
-    Ok(yes_or_no(alloc, table.is_owned_by(role, node))?)
+    yes_or_no(alloc, table.is_owned_by(role, node))
 }
 
 fn sizes(alloc: Global, sizes: &Sizes) -> Result<String, RowFault> {

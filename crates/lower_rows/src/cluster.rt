@@ -71,10 +71,10 @@ fn made(
     match came {
         Ok(world) => {
             cluster.world = Some(world);
-            Ok(text_of(alloc, &"ok")?)
+            text_of(alloc, &"ok")
         }
         Err(WorldFault::Memory) => Err(RowFault::Memory),
-        Err(fault) => Ok(text_of(alloc, &fault)?),
+        Err(fault) => text_of(alloc, &fault),
     }
 }
 
@@ -117,15 +117,15 @@ fn of_world(
     match name {
         "issue" | "give" | "lie" | "bytes" | "open" | "activate" | "drop" | "close" => {
             let step = step_of(alloc, &world.sizes(), name, words)?;
-            stepped(alloc, world.step(step))
+            step_text(alloc, world.step(step))
         }
         "pass" => {
             let name = words.word();
             let step = step_of(alloc, &world.sizes(), name, words)?;
             world.pass(&step)?;
-            Ok(text_of(alloc, &"ok")?)
+            text_of(alloc, &"ok")
         }
-        "settle" => Ok(text_of(alloc, &world.settle()?)?),
+        "settle" => text_of(alloc, &world.settle()?),
         "give-some" => give_some(alloc, world, words),
         "arrive" => arrive(alloc, world, words),
         "again" => again(alloc, world, words),
@@ -179,11 +179,11 @@ impl Display for Stepped {
     }
 }
 
-fn stepped(alloc: Global, came: Result<StepReply, WorldFault>) -> Result<String, RowFault> {
+fn step_text(alloc: Global, came: Result<StepReply, WorldFault>) -> Result<String, RowFault> {
     match came {
-        Ok(reply) => Ok(text_of(alloc, &Stepped(reply))?),
+        Ok(reply) => text_of(alloc, &Stepped(reply)),
         Err(WorldFault::Memory) => Err(RowFault::Memory),
-        Err(fault) => Ok(text_of(alloc, &fault)?),
+        Err(fault) => text_of(alloc, &fault),
     }
 }
 
@@ -193,7 +193,7 @@ fn give_some(alloc: Global, world: &mut World, words: &mut Words<'_>) -> Result<
     if first >= world.sent_len() || most == 0 {
         return Err(RowFault::BadRow);
     }
-    Ok(text_of(alloc, &world.give_some(first, most)?)?)
+    text_of(alloc, &world.give_some(first, most)?)
 }
 
 /// `arrive KIND FROM TO FIRST END`: of each of these places of node 0's stream, at which it assigns the user of that
@@ -206,7 +206,7 @@ fn arrive(alloc: Global, world: &mut World, words: &mut Words<'_>) -> Result<Str
     for place in first..words.wide()? {
         arrive_at(world, kind, from, to, place)?;
     }
-    Ok(text_of(alloc, &"ok")?)
+    text_of(alloc, &"ok")
 }
 
 fn arrive_at(
@@ -244,7 +244,7 @@ fn again(alloc: Global, world: &mut World, words: &mut Words<'_>) -> Result<Stri
             arrive_at(world, kind, from, to, place)?;
         }
     }
-    Ok(text_of(alloc, &"ok")?)
+    text_of(alloc, &"ok")
 }
 
 /// The place behind the last vote of node 0's stream that a node took of a peer.
@@ -266,13 +266,13 @@ fn look(
     words: &mut Words<'_>,
 ) -> Result<String, RowFault> {
     match name {
-        "rest" => Ok(yes_or_no(alloc, world.at_rest())?),
-        "sent-len" => Ok(text_of(alloc, &world.sent_len())?),
-        "sent" => Ok(yes_or_no(alloc, world.sent(words.wide()?).is_some())?),
-        "run-len" => Ok(text_of(alloc, &world.run_len())?),
+        "rest" => yes_or_no(alloc, world.at_rest()),
+        "sent-len" => text_of(alloc, &world.sent_len()),
+        "sent" => yes_or_no(alloc, world.sent(words.wide()?).is_some()),
+        "run-len" => text_of(alloc, &world.run_len()),
         "correct" => {
             let node = words.node(&world.sizes())?;
-            Ok(yes_or_no(alloc, world.node(node).is_some())?)
+            yes_or_no(alloc, world.node(node).is_some())
         }
         "agree" => agree(alloc, world, words),
         "check" => check(alloc, world, words),
@@ -285,7 +285,7 @@ fn agree(alloc: Global, world: &World, words: &mut Words<'_>) -> Result<String, 
     let sizes = world.sizes();
     let (one, other) = (words.node(&sizes)?, words.node(&sizes)?);
     let length = world.agree(one, other, words.node(&sizes)?);
-    Ok(text_of(alloc, &OrNone(length))?)
+    text_of(alloc, &OrNone(length))
 }
 
 /// `check I S USER OPERATION OBJECT`
@@ -294,7 +294,7 @@ fn check(alloc: Global, world: &mut World, words: &mut Words<'_>) -> Result<Stri
     let (session, user) = (words.long()?, words.wide()?);
     let (operation, object) = (words.narrow()?, words.wide()?);
     let verdict = world.check(node, session, user, operation, object);
-    Ok(text_of(alloc, &OrNone(verdict.map(Decided)))?)
+    text_of(alloc, &OrNone(verdict.map(Decided)))
 }
 
 /// A question, and behind its word the node that is asked.
@@ -308,7 +308,7 @@ fn ask(
     match world.ask(node, question_of(name, words)?) {
         Ok(answer) => answer_text(alloc, &answer),
         Err(WorldFault::Memory) => Err(RowFault::Memory),
-        Err(fault) => Ok(text_of(alloc, &fault)?),
+        Err(fault) => text_of(alloc, &fault),
     }
 }
 

@@ -30,10 +30,10 @@ pub fn answer(alloc: Global, rows: &mut Instances, line: &str) -> Result<String,
     match words.word() {
         "take" => take(alloc, rows, &mut words),
         "voted" => voted(alloc, rows, &mut words),
-        "kept" => Ok(text_of(alloc, &rows.instance.kept())?),
+        "kept" => text_of(alloc, &rows.instance.kept()),
         "record" => {
             rows.record = rows.instance.record();
-            Ok(yes_or_no(alloc, rows.record.is_some())?)
+            yes_or_no(alloc, rows.record.is_some())
         }
         name => match &mut rows.record {
             Some(record) => of_record(alloc, record, &rows.sizes, name, &mut words),
@@ -57,18 +57,18 @@ fn take(alloc: Global, rows: &mut Instances, words: &mut Words<'_>) -> Result<St
     let taken = rows
         .instance
         .take(&rows.sizes, kind, from, words.command()?)?;
-    Ok(text_of(alloc, &caused(taken))?)
+    text_of(alloc, &caused(taken))
 }
 
 /// `voted KIND FROM`
 fn voted(alloc: Global, rows: &Instances, words: &mut Words<'_>) -> Result<String, RowFault> {
     let kind = words.kind()?;
     let from = words.node(&rows.sizes)?;
-    Ok(yes_or_no(alloc, rows.instance.voted(kind, from))?)
+    yes_or_no(alloc, rows.instance.voted(kind, from))
 }
 
 fn command_text(alloc: Global, command: Option<Command>) -> Result<String, RowFault> {
-    Ok(text_of(alloc, &OrNone(command.map(Spelled)))?)
+    text_of(alloc, &OrNone(command.map(Spelled)))
 }
 
 /// `echoed`, `readied`, `delivered`: a command, or `none`.
@@ -97,11 +97,11 @@ fn of_record(
             let kind = words.kind()?;
             let from = words.node(sizes)?;
             let taken = late(record, kind, from, words.command()?);
-            Ok(text_of(alloc, &taken)?)
+            text_of(alloc, &taken)
         }
         "late-voted" => {
             let kind = words.kind()?;
-            Ok(yes_or_no(alloc, record.voted(kind, words.node(sizes)?))?)
+            yes_or_no(alloc, record.voted(kind, words.node(sizes)?))
         }
         _ => Err(RowFault::BadRow),
     }

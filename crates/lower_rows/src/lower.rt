@@ -64,8 +64,7 @@ impl Lower {
         match line.strip_prefix("digest ") {
             Some(line) => {
                 let text = self.call(alloc, line)?;
-                let digest = hmac_sha256(b"rows", text.as_bytes());
-                Ok(hex_text(alloc, &digest)?)
+                digest(alloc, text.as_bytes())
             }
             None => self.call(alloc, line),
         }
@@ -93,4 +92,14 @@ impl Lower {
             Lower::Cluster(cluster) => cluster::seen(cluster),
         }
     }
+}
+
+/// So many bytes have a digest here.
+const MOST_BYTES: usize = 1_048_576;
+
+fn digest(alloc: Global, text: &[u8]) -> Result<String, RowFault> {
+    if text.len() > MOST_BYTES {
+        return Err(RowFault::BadRow);
+    }
+    hex_text(alloc, &hmac_sha256(b"rows", text))
 }

@@ -36,7 +36,7 @@ pub fn answer(alloc: Global, node: &mut Node, line: &str) -> Result<String, RowF
         "issue" => apply(alloc, node, Event::Issue(words.command()?)),
         "records-issue" => {
             let event = Event::Issue(words.command()?);
-            Ok(yes_or_no(alloc, node.records(&event))?)
+            yes_or_no(alloc, node.records(&event))
         }
         "take" => take(alloc, node, &mut words),
         "check" => check(alloc, node, &mut words),
@@ -46,9 +46,9 @@ pub fn answer(alloc: Global, node: &mut Node, line: &str) -> Result<String, RowF
 
 fn apply(alloc: Global, node: &mut Node, event: Event) -> Result<String, RowFault> {
     match node.apply(event) {
-        Ok(reply) => Ok(text_of(alloc, &Replied(reply))?),
+        Ok(reply) => text_of(alloc, &Replied(reply)),
         Err(NodeFault::Memory) => Err(RowFault::Memory),
-        Err(fault) => Ok(text_of(alloc, &fault)?),
+        Err(fault) => text_of(alloc, &fault),
     }
 }
 
@@ -63,7 +63,7 @@ fn check(alloc: Global, node: &mut Node, words: &mut Words<'_>) -> Result<String
     let (session, user) = (words.long()?, words.wide()?);
     let (operation, object) = (words.narrow()?, words.wide()?);
     let verdict = node.check(session, user, operation, object);
-    Ok(text_of(alloc, &Decided(verdict))?)
+    text_of(alloc, &Decided(verdict))
 }
 
 fn act_or_look(
@@ -77,10 +77,10 @@ fn act_or_look(
             apply(alloc, node, Event::Client(act_of(name, words)?))
         }
         "reach" | "command" | "again" | "last-vote" => of_stream(alloc, node, name, words),
-        "events" => Ok(text_of(alloc, &node.events())?),
-        "recorded" => Ok(text_of(alloc, &node.history().len())?),
-        "published" => Ok(text_of(alloc, &node.published())?),
-        "open-count" => Ok(text_of(alloc, &node.open_count())?),
+        "events" => text_of(alloc, &node.events()),
+        "recorded" => text_of(alloc, &node.history().len()),
+        "published" => text_of(alloc, &node.published()),
+        "open-count" => text_of(alloc, &node.open_count()),
         "open-from" => open_from(alloc, node, words),
         _ => ask(alloc, node, name, words),
     }
@@ -95,7 +95,7 @@ fn ask(
     match node.ask(question_of(name, words)?) {
         Ok(answer) => answer_text(alloc, &answer),
         Err(AskFault::Memory) => Err(RowFault::Memory),
-        Err(fault) => Ok(text_of(alloc, &fault)?),
+        Err(fault) => text_of(alloc, &fault),
     }
 }
 
@@ -125,14 +125,14 @@ fn of_stream(
 ) -> Result<String, RowFault> {
     let owner = name_of(node, words)?;
     match name {
-        "reach" => Ok(text_of(alloc, &node.reach(owner))?),
+        "reach" => text_of(alloc, &node.reach(owner)),
         "command" => {
             let command = node.command(owner, words.wide()?);
-            Ok(text_of(alloc, &OrNone(command.map(Spelled)))?)
+            text_of(alloc, &OrNone(command.map(Spelled)))
         }
         "last-vote" => {
             let peer = name_of(node, words)?;
-            Ok(text_of(alloc, &OrNone(node.last_vote(owner, peer)))?)
+            text_of(alloc, &OrNone(node.last_vote(owner, peer)))
         }
         _ => {
             let again = node.again(owner, words.wide()?);

@@ -76,10 +76,10 @@ pub fn question_of(name: &str, words: &mut Words<'_>) -> Result<Question, RowFau
 /// A verdict, or `list` with the items.
 pub fn answer_text(alloc: Global, answer: &Answer) -> Result<String, RowFault> {
     match answer {
-        Answer::Verdict(verdict) => Ok(text_of(alloc, &Decided(*verdict))?),
-        Answer::Users(users) => Ok(list_text(alloc, users.as_slice())?),
-        Answer::Roles(roles) => Ok(list_text(alloc, roles.as_slice())?),
-        Answer::Permissions(items) => Ok(permissions_text(alloc, items.as_slice())?),
-        Answer::Operations(items) => Ok(list_text(alloc, items.as_slice())?),
+        Answer::Verdict(verdict) => text_of(alloc, &Decided(*verdict)),
+        Answer::Users(users) => list_text(alloc, users.as_slice()),
+        Answer::Roles(roles) => list_text(alloc, roles.as_slice()),
+        Answer::Permissions(items) => permissions_text(alloc, items.as_slice()),
+        Answer::Operations(items) => list_text(alloc, items.as_slice()),
     }
 }

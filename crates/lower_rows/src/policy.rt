@@ -39,19 +39,19 @@ fn apply(alloc: Global, policy: &mut Policy, words: &mut Words<'_>) -> Result<St
     let command = words.command()?;
     policy.make_room()?;
     policy.apply(node, command);
-    Ok(text_of(alloc, &"ok")?)
+    text_of(alloc, &"ok")
 }
 
 /// `room`: how many commands can be applied before room is made.
 fn room(alloc: Global, policy: &Policy) -> Result<String, RowFault> {
-    Ok(text_of(alloc, &policy.room())?)
+    text_of(alloc, &policy.room())
 }
 
 /// `assigned USER ROLE`
 fn assigned(alloc: Global, policy: &Policy, words: &mut Words<'_>) -> Result<String, RowFault> {
     let user = words.wide()?;
     let role = words.narrow()?;
-    Ok(yes_or_no(alloc, policy.is_assigned(user, role))?)
+    yes_or_no(alloc, policy.is_assigned(user, role))
 }
 
 /// `granted ROLE OPERATION OBJECT`
@@ -59,7 +59,7 @@ fn granted(alloc: Global, policy: &Policy, words: &mut Words<'_>) -> Result<Stri
     let role = words.narrow()?;
     let operation = words.narrow()?;
     let object = words.wide()?;
-    Ok(yes_or_no(alloc, policy.is_granted(role, operation, object))?)
+    yes_or_no(alloc, policy.is_granted(role, operation, object))
 }
 
 /// `first USER OPERATION OBJECT ROLE ..`: the first of these roles that grants.
@@ -69,8 +69,8 @@ fn first(alloc: Global, policy: &Policy, words: &mut Words<'_>) -> Result<String
     let object = words.wide()?;
     let roles = roles_of(alloc, words)?;
     match policy.first_granting(user, &roles, operation, object) {
-        Some(role) => Ok(text_of(alloc, &role)?),
-        None => Ok(text_of(alloc, &"none")?),
+        Some(role) => text_of(alloc, &role),
+        None => text_of(alloc, &"none"),
     }
 }
 
@@ -107,19 +107,19 @@ fn list(
 /// `users ROLE`
 fn users(alloc: Global, policy: &Policy, words: &mut Words<'_>) -> Result<String, RowFault> {
     let users = policy.assigned_users(words.narrow()?)?;
-    Ok(list_text(alloc, &users)?)
+    list_text(alloc, &users)
 }
 
 /// `roles USER`
 fn roles(alloc: Global, policy: &Policy, words: &mut Words<'_>) -> Result<String, RowFault> {
     let roles = policy.assigned_roles(words.wide()?)?;
-    Ok(list_text(alloc, &roles)?)
+    list_text(alloc, &roles)
 }
 
 /// `permissions ROLE`
 fn permissions(alloc: Global, policy: &Policy, words: &mut Words<'_>) -> Result<String, RowFault> {
     let permissions = policy.role_permissions(words.narrow()?)?;
-    Ok(permissions_text(alloc, &permissions)?)
+    permissions_text(alloc, &permissions)
 }
 
 /// `user-permissions USER`
@@ -129,7 +129,7 @@ fn user_permissions(
     words: &mut Words<'_>,
 ) -> Result<String, RowFault> {
     let permissions = policy.user_permissions(words.wide()?)?;
-    Ok(permissions_text(alloc, &permissions)?)
+    permissions_text(alloc, &permissions)
 }
 
 /// `permissions-of ROLE ..`
@@ -140,14 +140,14 @@ fn permissions_of(
 ) -> Result<String, RowFault> {
     let roles = roles_of(alloc, words)?;
     let permissions = policy.permissions_of(&roles)?;
-    Ok(permissions_text(alloc, &permissions)?)
+    permissions_text(alloc, &permissions)
 }
 
 /// `operations ROLE OBJECT`
 fn operations(alloc: Global, policy: &Policy, words: &mut Words<'_>) -> Result<String, RowFault> {
     let role = words.narrow()?;
     let operations = policy.role_operations(role, words.wide()?)?;
-    Ok(list_text(alloc, &operations)?)
+    list_text(alloc, &operations)
 }
 
 /// `user-operations USER OBJECT`
@@ -158,7 +158,7 @@ fn user_operations(
 ) -> Result<String, RowFault> {
     let user = words.wide()?;
     let operations = policy.user_operations(user, words.wide()?)?;
-    Ok(list_text(alloc, &operations)?)
+    list_text(alloc, &operations)
 }
 
 /// Room may grow where memory is wanting; what is assigned and granted, as far as it is looked at, may not.

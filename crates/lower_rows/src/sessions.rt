@@ -62,22 +62,22 @@ fn apply(alloc: Global, bench: &mut Bench, command: Command) -> Result<String, R
     bench.sessions.forget();
     bench.policy.make_room()?;
     bench.policy.apply(bench.owner, command);
-    Ok(text_of(alloc, &"ok")?)
+    text_of(alloc, &"ok")
 }
 
 /// `ok`, or the fault.
 fn done(alloc: Global, came: Result<(), SessionFault>) -> Result<String, RowFault> {
     match came {
-        Ok(()) => Ok(text_of(alloc, &"ok")?),
+        Ok(()) => text_of(alloc, &"ok"),
         Err(SessionFault::Memory) => Err(RowFault::Memory),
-        Err(fault) => Ok(text_of(alloc, &fault)?),
+        Err(fault) => text_of(alloc, &fault),
     }
 }
 
 fn ended(alloc: Global, came: Result<(), EndFault>) -> Result<String, RowFault> {
     match came {
-        Ok(()) => Ok(text_of(alloc, &"ok")?),
-        Err(fault) => Ok(text_of(alloc, &fault)?),
+        Ok(()) => text_of(alloc, &"ok"),
+        Err(fault) => text_of(alloc, &fault),
     }
 }
 
@@ -91,7 +91,7 @@ fn opened(bench: &mut Bench, user: u32) -> Result<u64, SessionFault> {
 /// `open USER`
 fn open(alloc: Global, bench: &mut Bench, user: u32) -> Result<String, RowFault> {
     match opened(bench, user) {
-        Ok(id) => Ok(text_of(alloc, &Replied(Reply::Session(id)))?),
+        Ok(id) => text_of(alloc, &Replied(Reply::Session(id))),
         Err(fault) => done(alloc, Err(fault)),
     }
 }
@@ -100,10 +100,10 @@ fn open(alloc: Global, bench: &mut Bench, user: u32) -> Result<String, RowFault>
 fn open_many(alloc: Global, bench: &mut Bench, count: u32) -> Result<String, RowFault> {
     for user in 0..count {
         if opened(bench, user).is_err() {
-            return Ok(text_of(alloc, &user)?);
+            return text_of(alloc, &user);
         }
     }
-    Ok(text_of(alloc, &count)?)
+    text_of(alloc, &count)
 }
 
 /// `activate S USER ROLE`
@@ -132,7 +132,7 @@ fn check(alloc: Global, bench: &mut Bench, words: &mut Words<'_>) -> Result<Stri
     let verdict = bench
         .sessions
         .check(&bench.policy, session, user, operation, object);
-    Ok(text_of(alloc, &Decided(verdict))?)
+    text_of(alloc, &Decided(verdict))
 }
 
 fn look(
@@ -157,7 +157,7 @@ fn look(
         }
         "session-roles" => session_roles(alloc, bench, words.long()?),
         "session-permissions" => session_permissions(alloc, bench, words.long()?),
-        "open-count" => Ok(text_of(alloc, &bench.sessions.open_count())?),
+        "open-count" => text_of(alloc, &bench.sessions.open_count()),
         "open-from" => open_from(alloc, bench, words),
         _ => Err(RowFault::BadRow),
     }
@@ -175,7 +175,7 @@ fn may_activate(alloc: Global, bench: &Bench, words: &mut Words<'_>) -> Result<S
 /// `session-roles S`
 fn session_roles(alloc: Global, bench: &Bench, session: u64) -> Result<String, RowFault> {
     match bench.sessions.session_roles(&bench.policy, session) {
-        Ok(roles) => Ok(list_text(alloc, &roles)?),
+        Ok(roles) => list_text(alloc, &roles),
         Err(fault) => done(alloc, Err(fault)),
     }
 }
@@ -183,7 +183,7 @@ fn session_roles(alloc: Global, bench: &Bench, session: u64) -> Result<String, R
 /// `session-permissions S`
 fn session_permissions(alloc: Global, bench: &Bench, session: u64) -> Result<String, RowFault> {
     match bench.sessions.session_permissions(&bench.policy, session) {
-        Ok(permissions) => Ok(permissions_text(alloc, &permissions)?),
+        Ok(permissions) => permissions_text(alloc, &permissions),
         Err(fault) => done(alloc, Err(fault)),
     }
 }
@@ -192,7 +192,7 @@ fn session_permissions(alloc: Global, bench: &Bench, session: u64) -> Result<Str
 fn open_from(alloc: Global, bench: &Bench, words: &mut Words<'_>) -> Result<String, RowFault> {
     let from = words.long()?;
     let open = bench.sessions.open_from(from, usize::from(words.byte()?))?;
-    Ok(pairs_text(alloc, &open)?)
+    pairs_text(alloc, &open)
 }
 
 /// `list`, and each session as `S:USER` behind a space.

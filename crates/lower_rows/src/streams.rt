@@ -33,7 +33,7 @@ pub fn answer(alloc: Global, rows: &mut Owned, line: &str) -> Result<String, Row
         "look" => look(alloc, rows, &mut words),
         "reach" => {
             let owner = words.node(&rows.sizes)?;
-            Ok(text_of(alloc, &rows.streams.reach(owner))?)
+            text_of(alloc, &rows.streams.reach(owner))
         }
         "command" => command(alloc, rows, &mut words),
         "again" => again(alloc, rows, &mut words),
@@ -79,9 +79,9 @@ impl Display for Stepped {
 fn take(alloc: Global, rows: &mut Owned, words: &mut Words<'_>) -> Result<String, RowFault> {
     let packet = packet_of(words, &rows.sizes)?;
     match rows.streams.take(&packet) {
-        Ok(step) => Ok(text_of(alloc, &Stepped(step))?),
+        Ok(step) => text_of(alloc, &Stepped(step)),
         Err(StreamFault::Memory) => Err(RowFault::Memory),
-        Err(fault) => Ok(text_of(alloc, &fault)?),
+        Err(fault) => text_of(alloc, &fault),
     }
 }
 
@@ -95,9 +95,9 @@ fn look(alloc: Global, rows: &Owned, words: &mut Words<'_>) -> Result<String, Ro
                 broadcast: None,
                 delivered: None,
             };
-            Ok(text_of(alloc, &caused)?)
+            text_of(alloc, &caused)
         }
-        Err(fault) => Ok(text_of(alloc, &fault)?),
+        Err(fault) => text_of(alloc, &fault),
     }
 }
 
@@ -105,7 +105,7 @@ fn look(alloc: Global, rows: &Owned, words: &mut Words<'_>) -> Result<String, Ro
 fn command(alloc: Global, rows: &Owned, words: &mut Words<'_>) -> Result<String, RowFault> {
     let owner = words.node(&rows.sizes)?;
     let command = rows.streams.command(owner, words.wide()?);
-    Ok(text_of(alloc, &OrNone(command.map(Spelled)))?)
+    text_of(alloc, &OrNone(command.map(Spelled)))
 }
 
 /// `again OWNER PLACE`: `sent`, then ` echo C` and ` ready C`.
@@ -121,7 +121,7 @@ fn again(alloc: Global, rows: &Owned, words: &mut Words<'_>) -> Result<String, R
 fn last_vote(alloc: Global, rows: &Owned, words: &mut Words<'_>) -> Result<String, RowFault> {
     let owner = words.node(&rows.sizes)?;
     let voter = words.node(&rows.sizes)?;
-    Ok(text_of(alloc, &OrNone(rows.streams.last_vote(owner, voter)))?)
+    text_of(alloc, &OrNone(rows.streams.last_vote(owner, voter)))
 }
 
 /// What is seen of the first stream: its reach, and whether its first places have a command.

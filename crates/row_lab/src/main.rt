@@ -63,7 +63,7 @@ impl Layer {
         match begin(alloc, line)? {
             Some(layer) => {
                 *self = layer;
-                Ok(text_of(alloc, &"ok")?)
+                text_of(alloc, &"ok")
             }
             None => self.call(alloc, line),
         }

@@ -1,5 +1,6 @@
 //! Texts of answers. Where memory is wanting for one, it is made once more: the call has been made by then.
 
+use crate::fault::RowFault;
 use std::alloc::{AllocError, Global};
 use std::fmt::{Display, Write};
 
@@ -8,23 +9,23 @@ use std::fmt::{Display, Write};
 /// # Errors
 ///
 /// Only where memory is wanting twice, as of the others here.
-pub fn text_of<T: Display>(alloc: Global, value: &T) -> Result<String, AllocError> {
+pub fn text_of<T: Display>(alloc: Global, value: &T) -> Result<String, RowFault> {
     match format!(in alloc; "{value}") {
         Ok(text) => Ok(text),
-        Err(_) => format!(in alloc; "{value}"),
+        Err(_) => Ok(format!(in alloc; "{value}")?),
     }
 }
 
 /// `yes` or `no`.
-pub fn yes_or_no(alloc: Global, holds: bool) -> Result<String, AllocError> {
+pub fn yes_or_no(alloc: Global, holds: bool) -> Result<String, RowFault> {
     text_of(alloc, &if holds { "yes" } else { "no" })
 }
 
 /// `list`, and each item behind a space.
-pub fn list_text<T: Display>(alloc: Global, items: &[T]) -> Result<String, AllocError> {
+pub fn list_text<T: Display>(alloc: Global, items: &[T]) -> Result<String, RowFault> {
     match listed(alloc, items) {
         Ok(text) => Ok(text),
-        Err(_) => listed(alloc, items),
+        Err(_) => Ok(listed(alloc, items)?),
     }
 }
 
@@ -39,10 +40,10 @@ fn listed<T: Display>(alloc: Global, items: &[T]) -> Result<String, AllocError> 
 }
 
 /// `list`, and each permission as OPERATION:OBJECT behind a space.
-pub fn permissions_text(alloc: Global, items: &[(u16, u32)]) -> Result<String, AllocError> {
+pub fn permissions_text(alloc: Global, items: &[(u16, u32)]) -> Result<String, RowFault> {
     match listed_permissions(alloc, items) {
         Ok(text) => Ok(text),
-        Err(_) => listed_permissions(alloc, items),
+        Err(_) => Ok(listed_permissions(alloc, items)?),
     }
 }
 
@@ -57,10 +58,10 @@ fn listed_permissions(alloc: Global, items: &[(u16, u32)]) -> Result<String, All
 }
 
 /// Two hexadecimal digits a byte, or `-` for none.
-pub fn hex_text(alloc: Global, bytes: &[u8]) -> Result<String, AllocError> {
+pub fn hex_text(alloc: Global, bytes: &[u8]) -> Result<String, RowFault> {
     match hexed(alloc, bytes) {
         Ok(text) => Ok(text),
-        Err(_) => hexed(alloc, bytes),
+        Err(_) => Ok(hexed(alloc, bytes)?),
     }
 }
 
