@@ -1,15 +1,14 @@
-//! Rows of the layers up to a cluster: what a call of one of them answers.
+//! Rows of the layers from an instance to a node: what a call of one of them answers.
 #![tactic(auto)]
 
-mod cluster;
 mod instance;
 mod lower;
 mod many;
 mod node;
-mod packets;
+pub mod packets;
 mod policy;
-mod roles;
-mod said;
+pub mod roles;
+pub mod said;
 mod sessions;
 mod streams;
 

@@ -1,10 +1,9 @@
 //! The layers of these rows: which one a file is about, and its value.
 
-use crate::cluster::Cluster;
 use crate::instance::Instances;
 use crate::sessions::Bench;
 use crate::streams::Owned;
-use crate::{cluster, instance, node, policy, sessions, streams};
+use crate::{instance, node, policy, sessions, streams};
 use link_frames::hmac_sha256;
 use rbac_state::Policy;
 use role_node::Node;
@@ -24,15 +23,13 @@ pub enum Lower {
     Sessions(Bench),
     /// `node`
     Node(Node),
-    /// `cluster`
-    Cluster(Cluster),
 }
 
 /// Whether a row with this first word begins one of these layers.
 pub fn has(layer: &str) -> bool {
     matches!(
         layer,
-        "instance" | "streams" | "policy" | "sessions" | "node" | "cluster"
+        "instance" | "streams" | "policy" | "sessions" | "node"
     )
 }
 
@@ -49,7 +46,6 @@ pub fn begin(alloc: Global, line: &str) -> Result<Lower, RowFault> {
         "policy" => Ok(Lower::Policy(policy::begin(alloc, &mut words)?)),
         "sessions" => Ok(Lower::Sessions(sessions::begin(alloc, &mut words)?)),
         "node" => Ok(Lower::Node(node::begin(alloc, &mut words)?)),
-        "cluster" => Ok(Lower::Cluster(cluster::begin())),
         _ => Err(RowFault::BadRow),
     }
 }
@@ -77,7 +73,6 @@ impl Lower {
             Lower::Policy(policy) => policy::answer(alloc, policy, line),
             Lower::Sessions(bench) => sessions::answer(alloc, bench, line),
             Lower::Node(node) => node::answer(alloc, node, line),
-            Lower::Cluster(cluster) => cluster::answer(alloc, cluster, line),
         }
     }
 
@@ -89,7 +84,6 @@ impl Lower {
             Lower::Policy(policy) => policy::seen(policy),
             Lower::Sessions(bench) => sessions::seen(bench),
             Lower::Node(node) => node::seen(node),
-            Lower::Cluster(cluster) => cluster::seen(cluster),
         }
     }
 }

@@ -2,6 +2,7 @@
 //! what came. Where memory is wanting for a call, nothing may have changed, and the call is made once more.
 #![tactic(auto)]
 
+use cluster_rows::Cluster;
 use journal_rows::Journal;
 use link_rows::Link;
 use lower_rows::Lower;
@@ -17,6 +18,7 @@ enum Layer {
     Blank,
     Link(Link),
     Lower(Lower),
+    Cluster(Cluster),
     Serving(Serving),
     Journal(Journal),
 }
@@ -29,6 +31,9 @@ fn begin(alloc: Global, line: &str) -> Result<Option<Layer>, RowFault> {
     }
     if lower_rows::has(layer) {
         return Ok(Some(Layer::Lower(lower_rows::begin(alloc, line)?)));
+    }
+    if cluster_rows::has(layer) {
+        return Ok(Some(Layer::Cluster(cluster_rows::begin())));
     }
     if serving_rows::has(layer) {
         return Ok(Some(Layer::Serving(serving_rows::begin(alloc, line)?)));
@@ -44,6 +49,7 @@ impl Layer {
         match self {
             Layer::Blank | Layer::Link(_) => [0; 3],
             Layer::Lower(lower) => lower.seen(),
+            Layer::Cluster(cluster) => cluster.seen(),
             Layer::Serving(serving) => serving.seen(),
             Layer::Journal(journal) => journal.seen(),
         }
@@ -54,6 +60,7 @@ impl Layer {
             Layer::Blank => Err(RowFault::BadRow),
             Layer::Link(link) => link.answer(alloc, line),
             Layer::Lower(lower) => lower.answer(alloc, line),
+            Layer::Cluster(cluster) => cluster.answer(alloc, line),
             Layer::Serving(serving) => serving.answer(alloc, line),
             Layer::Journal(journal) => journal.answer(alloc, line),
         }

@@ -1,10 +1,10 @@
 //! Rows of a cluster, step by step.
 
-use crate::packets::{act_of, answer_text, packet_of, question_of};
-use crate::roles::table_of;
-use crate::said::{Decided, Replied};
 use byz_world::{Step, StepReply, World, WorldFault};
 use link_frames::{Kind, Message, Packet, Place};
+use lower_rows::packets::{act_of, answer_text, packet_of, question_of};
+use lower_rows::roles::table_of;
+use lower_rows::said::{Decided, Replied};
 use quorum_sizes::{NodeName, NodeSet, Sizes};
 use role_commands::Command;
 use role_node::Config;
@@ -22,19 +22,40 @@ pub struct Cluster {
     world: Option<World>,
 }
 
+/// Whether a row with this first word begins this layer.
+pub fn has(layer: &str) -> bool {
+    layer == "cluster"
+}
+
+/// The layer's value before any row.
 pub fn begin() -> Cluster {
     Cluster { world: None }
 }
 
-pub fn answer(alloc: Global, cluster: &mut Cluster, line: &str) -> Result<String, RowFault> {
-    let mut words = Words::new(line);
-    match words.word() {
-        "world" => new_world(alloc, cluster, &mut words),
-        "run" => run(alloc, cluster, &mut words),
-        name => match &mut cluster.world {
-            Some(world) => of_world(alloc, world, name, &mut words),
-            None => Err(RowFault::BadRow),
-        },
+impl Cluster {
+    /// Makes the call that the row spells, and says what came.
+    ///
+    /// # Errors
+    ///
+    /// `BadRow`, or `Memory`, where nothing may have changed.
+    pub fn answer(&mut self, alloc: Global, line: &str) -> Result<String, RowFault> {
+        let mut words = Words::new(line);
+        match words.word() {
+            "world" => new_world(alloc, self, &mut words),
+            "run" => run(alloc, self, &mut words),
+            name => match &mut self.world {
+                Some(world) => of_world(alloc, world, name, &mut words),
+                None => Err(RowFault::BadRow),
+            },
+        }
+    }
+
+    /// How much was sent and recorded: some numbers that tell whether anything has changed, without memory.
+    pub fn seen(&self) -> [u64; 3] {
+        match &self.world {
+            Some(world) => [u64::from(world.sent_len()), world.run_len(), 1],
+            None => [0; 3],
+        }
     }
 }
 
@@ -309,13 +330,5 @@ fn ask(
         Ok(answer) => answer_text(alloc, &answer),
         Err(WorldFault::Memory) => Err(RowFault::Memory),
         Err(fault) => text_of(alloc, &fault),
-    }
-}
-
-/// How much was sent and recorded.
-pub fn seen(cluster: &Cluster) -> [u64; 3] {
-    match &cluster.world {
-        Some(world) => [u64::from(world.sent_len()), world.run_len(), 1],
-        None => [0; 3],
     }
 }
