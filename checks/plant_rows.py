@@ -205,14 +205,16 @@ PLANTS = [
 
 
 class Copy:
-    """A copy of the repository at a commit, in which mistakes are planted."""
+    """A copy of the repository, in which mistakes are planted: a new one at a commit, or one that is there."""
 
-    def __init__(self, folder, commit):
-        self.folder = folder
-        subprocess.run(["git", "worktree", "add", "-q", "--detach", folder, commit], cwd=TOP, check=True)
+    def __init__(self, folder, commit, found=None):
+        self.folder, self.is_new = found or folder, found is None
+        if self.is_new:
+            subprocess.run(["git", "worktree", "add", "-q", "--detach", folder, commit], cwd=TOP, check=True)
 
     def remove(self):
-        subprocess.run(["git", "worktree", "remove", "--force", self.folder], cwd=TOP, check=True)
+        if self.is_new:
+            subprocess.run(["git", "worktree", "remove", "--force", self.folder], cwd=TOP, check=True)
 
     def plant(self, plants):
         for plant in plants:
@@ -282,12 +284,13 @@ def tell(plant, tests, seen):
 def main():
     parser = argparse.ArgumentParser(description=__doc__, formatter_class=argparse.RawDescriptionHelpFormatter)
     parser.add_argument("--tests", help="the commit whose tests are run too")
+    parser.add_argument("--rows-in", help="a copy of the repository to try the rows in, as one whose row_lab has fewer layers")
     parser.add_argument("--only", default="", help="batches with a mistake that has this word in its line here")
     words = parser.parse_args()
     batches = sorted({plant.batch for plant in PLANTS if words.only in f"{plant.batch} {plant.tests} {plant.name}"})
     missed = 0
     with tempfile.TemporaryDirectory() as folder:
-        copy = Copy(os.path.join(folder, "rows"), "HEAD")
+        copy = Copy(os.path.join(folder, "rows"), "HEAD", words.rows_in)
         old = Copy(os.path.join(folder, "tests"), words.tests) if words.tests else None
         try:
             for batch in batches:
