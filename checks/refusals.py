@@ -1,5 +1,5 @@
 #!/usr/bin/env python3
-"""Refuses calls one by one: memory to tests and programs, and to a serving node threads, sockets, reads and writes too.
+"""Refuses calls one by one: memory to tests, rows and programs, and to a serving node threads, sockets, reads and writes.
 
     checks/refusals.py [--only WORD] [--every N]
 
@@ -7,7 +7,8 @@ Runs what `rt ci` (or `rt test` and `rt run`) has built: of each test of TESTED,
 call of the kind, until a run ends without a refusal. The call is refused by checks/refuse.c, which is compiled here, by
 the kit's clang or another C compiler. Prints a line for each, and last `refusals: N passed, M failed`.
 
-What is asked of a run: a test passes. A program ends with status 5 and a front of the due text where memory was
+What is asked of a run: a test passes. Rows, of each file whose head names memory, have the answers that are due, or end
+where their program was reading them. A program ends with status 5 and a front of the due text where memory was
 refused, or with status 0 and all of it; it writes nothing to standard error. A serving node ends with status 4 or 5, or
 serves on, answers rightly or closes the connection concerned, and `stop` ends it.
 """
@@ -25,20 +26,13 @@ import time
 
 TOP = os.path.dirname(os.path.dirname(os.path.abspath(__file__)))
 sys.dont_write_bytecode = True
-sys.path.insert(0, os.path.join(TOP, "tools"))
+sys.path[:0] = [os.path.join(TOP, "checks"), os.path.join(TOP, "tools")]
+import rows  # noqa: E402
 import tundelca  # noqa: E402
 
 # These take a call once more where memory was wanting, and see that nothing had changed. For each crate: the program
 # that has its tests, their module there, and the tests.
 TESTED = {
-    "owner_streams": ("layer_tests", "owner_streams_tests", ["a_gap_is_waited_for", "late_messages_count"]),
-    "role_node": ("layer_tests", "role_node_tests", ["refusals", "a_full_history", "denials_in_order",
-                                                        "what_a_node_tells_of_itself"]),
-    "byz_world": (
-        "layer_tests",
-        "byz_world_tests",
-        ["four_correct_nodes", "full_pool", "votes_once", "frames"],
-    ),
     "node_lock": (
         "serving_tests",
         "node_lock_tests",
@@ -132,6 +126,25 @@ def sweep_tests(refuser, crate, every):
 
         refusals += refuser.sweep("memory", run, every)
     return told(refusals + len(names), refusals)
+
+
+def sweep_rows(refuser, path, every):
+    """Each answer of the file's rows is the one that is due, or the program ends where it was reading its rows."""
+    program, asked = built("row_lab", "row_lab"), rows.rows_of(path)
+    given, due = rows.given(asked), rows.due(asked)
+    ended = {0: 0, 1: 0}
+
+    def run(kind, at):
+        environment = refuser.environment(kind, at)
+        ran = subprocess.run([program], input=given, env=environment, capture_output=True, timeout=PATIENCE)
+        reading = ran.returncode == 1 and refuser.has_refused() and due.startswith(ran.stdout)
+        if not (reading or ran.returncode == 0 and ran.stdout == due and not ran.stderr):
+            said = f"wrote {ran.stdout[-80:]!r} and said {ran.stderr[-200:]!r}"
+            raise Fault(f"call {at}: status {ran.returncode}, {said}")
+        ended[ran.returncode] += 1
+
+    refusals = refuser.sweep("memory", run, every)
+    return f"{told(refusals + 1, refusals)}, {ended[1]} ended while reading"
 
 
 def sweep_program(refuser, crate, every):
@@ -307,6 +320,8 @@ def main():
         sweeps = []
         for crate in TESTED:
             sweeps.append((f"tests of {crate}", lambda crate=crate: sweep_tests(refuser, crate, words.every)))
+        for path in filter(rows.has_memory, rows.files()):
+            sweeps.append((rows.named(path), lambda path=path: sweep_rows(refuser, path, words.every)))
         for crate in ("role_lab", "role_daemon"):
             sweeps.append((crate, lambda crate=crate: sweep_program(refuser, crate, words.every)))
         for kind in SERVED:

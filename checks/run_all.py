@@ -36,6 +36,7 @@ OWNER, ROLE, NODES, MAY_LIE = 0, 2, 4, 1
 COMMANDS = 600  # more than wait for a node that is cut off
 PAIRS = 20_000  # that are kept and published anew
 BAD_SCRIPT = 3  # the status
+PROGRAMS = ["role_lab", "role_daemon", "tundelca"]
 MOST_THREADS = 20  # of a node of four, with its peers and a client
 
 
@@ -309,8 +310,8 @@ def first_cluster(program):
 
 
 def main():
-    given = sys.argv[1:] or [None] * len(built.PROGRAMS)
-    lab, daemon, keeper = (built.program(name, path) for name, path in zip(built.PROGRAMS, given))
+    given = sys.argv[1:] or [None] * len(PROGRAMS)
+    lab, daemon, keeper = (built.program(name, path) for name, path in zip(PROGRAMS, given))
     examples = [
         ("lab", lambda: scripts("lab", lab)),
         ("most_liars.py", lambda: most_liars(lab)),

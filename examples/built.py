@@ -3,7 +3,8 @@ import os
 import sys
 
 TOP = os.path.dirname(os.path.dirname(os.path.abspath(__file__)))
-PROGRAMS = {"role_lab": "", "role_daemon": " < stdin", "tundelca": " -- --version"}  # how each is run once
+# how each is run once
+PROGRAMS = {"role_lab": "", "role_daemon": " < stdin", "tundelca": " -- --version", "row_lab": " < stdin"}
 
 
 def path_of(name):
