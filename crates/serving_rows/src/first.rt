@@ -61,8 +61,8 @@ impl First {
         if !self.is_free {
             return Err(RowFault::BadRow);
         }
-        self.packets.put_own(packet);
         self.is_free = false;
+        self.packets.put_own(packet);
         Ok(())
     }
 }
