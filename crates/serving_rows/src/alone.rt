@@ -46,7 +46,7 @@ pub fn answer(alloc: Global, node: &mut Node, line: &str) -> Result<String, RowF
         "take" => take(alloc, node, &mut words),
         "open-each" => open_each(alloc, node, &mut words),
         "standing" => standing(alloc, node),
-        "sessions" => sessions(alloc, node, &mut words),
+        "open-sessions" => sessions(alloc, node, &mut words),
         "command" => command(alloc, node, &mut words),
         _ => Err(RowFault::BadRow),
     }
@@ -103,7 +103,7 @@ fn standing(alloc: Global, node: &Node) -> Result<String, RowFault> {
     )?)
 }
 
-/// `sessions FROM`: the open sessions from this id on.
+/// `open-sessions FROM`: the open sessions from this id on.
 fn sessions(alloc: Global, node: &Node, words: &mut Words<'_>) -> Result<String, RowFault> {
     let sessions = sessions_of(node, words.long()?)?;
     let mut text = String::from_str(alloc, "list")?;

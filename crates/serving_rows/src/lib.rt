@@ -6,7 +6,7 @@ mod answers;
 mod bytes;
 mod calls;
 mod closing;
-mod first;
+mod comes_first;
 mod lines;
 mod lists;
 mod lock;

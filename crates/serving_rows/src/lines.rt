@@ -16,7 +16,7 @@ pub struct Lines {
     reader: RequestReader,
 }
 
-/// `lines N F`
+/// `requests N F`
 pub fn begin(alloc: Global, words: &mut Words<'_>) -> Result<Lines, RowFault> {
     Ok(Lines {
         sizes: sizes_of(words)?,

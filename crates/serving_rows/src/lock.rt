@@ -17,7 +17,7 @@ pub struct Lock {
     rows: Vec<String>,
 }
 
-/// `lock`: the only node of its cluster, which records 10 events and owns role 2; its seats are 0 and 1.
+/// `locked`: the only node of its cluster, which records 10 events and owns role 2; its seats are 0 and 1.
 pub fn begin(alloc: Global) -> Lock {
     Lock {
         rows: Vec::new(alloc),

@@ -1,12 +1,12 @@
 //! The layers of these rows: which one a file is about, and its value.
 
-use crate::first::First;
+use crate::comes_first::First;
 use crate::lines::Lines;
 use crate::lock::Lock;
 use crate::parked::Parked;
 use crate::told::Told;
 use crate::windows::Windows;
-use crate::{alone, answers, first, lines, lock, parked, told, turns, windows};
+use crate::{alone, answers, comes_first, lines, lock, parked, told, turns, windows};
 use frame_queues::Turns;
 use role_node::Node;
 use row_words::{RowFault, Words};
@@ -15,7 +15,7 @@ use std::alloc::Global;
 /// A layer's value.
 #[derive(Drop)]
 pub enum Serving {
-    /// `lines`
+    /// `requests`
     Lines(Lines),
     /// `answers`
     Answers,
@@ -25,13 +25,13 @@ pub enum Serving {
     Alone(Node),
     /// `parked`
     Parked(Parked),
-    /// `first`
+    /// `comes-first`
     First(First),
     /// `turns`
     Turns(Turns),
     /// `windows`
     Windows(Windows),
-    /// `lock`
+    /// `locked`
     Lock(Lock),
 }
 
@@ -39,7 +39,15 @@ pub enum Serving {
 pub fn has(layer: &str) -> bool {
     matches!(
         layer,
-        "lines" | "answers" | "told" | "alone" | "parked" | "first" | "turns" | "windows" | "lock"
+        "requests"
+            | "answers"
+            | "told"
+            | "alone"
+            | "parked"
+            | "comes-first"
+            | "turns"
+            | "windows"
+            | "locked"
     )
 }
 
@@ -51,15 +59,15 @@ pub fn has(layer: &str) -> bool {
 pub fn begin(alloc: Global, line: &str) -> Result<Serving, RowFault> {
     let mut words = Words::new(line);
     match words.word() {
-        "lines" => Ok(Serving::Lines(lines::begin(alloc, &mut words)?)),
+        "requests" => Ok(Serving::Lines(lines::begin(alloc, &mut words)?)),
         "answers" => Ok(Serving::Answers),
         "told" => Ok(Serving::Told(told::begin(alloc, &mut words)?)),
         "alone" => Ok(Serving::Alone(alone::begin(alloc, &mut words)?)),
         "parked" => Ok(Serving::Parked(parked::begin(alloc, &mut words)?)),
-        "first" => Ok(Serving::First(first::begin(alloc, &mut words)?)),
+        "comes-first" => Ok(Serving::First(comes_first::begin(alloc, &mut words)?)),
         "turns" => Ok(Serving::Turns(turns::begin(alloc, &mut words)?)),
         "windows" => Ok(Serving::Windows(windows::begin(alloc, &mut words)?)),
-        "lock" => Ok(Serving::Lock(lock::begin(alloc))),
+        "locked" => Ok(Serving::Lock(lock::begin(alloc))),
         _ => Err(RowFault::BadRow),
     }
 }
@@ -77,7 +85,7 @@ impl Serving {
             Serving::Told(told) => told::answer(alloc, told, line),
             Serving::Alone(node) => alone::answer(alloc, node, line),
             Serving::Parked(parked) => parked::answer(alloc, parked, line),
-            Serving::First(first) => first::answer(alloc, first, line),
+            Serving::First(first) => comes_first::answer(alloc, first, line),
             Serving::Turns(turns) => turns::answer(alloc, turns, line),
             Serving::Windows(windows) => windows::answer(alloc, windows, line),
             Serving::Lock(lock) => lock::answer(alloc, lock, line),

@@ -43,7 +43,7 @@ pub fn answer(alloc: Global, told: &mut Told, line: &str) -> Result<String, RowF
         "status" => status(alloc, told),
         "command" => command(alloc, Some(words.command()?)),
         "no-command" => command(alloc, None),
-        "sessions" => sessions(alloc, told.at, &mut words),
+        "open-sessions" => sessions(alloc, told.at, &mut words),
         "bad" => bad(alloc, &mut words),
         _ => Err(RowFault::BadRow),
     }
@@ -130,7 +130,7 @@ fn command(alloc: Global, command: Option<Command>) -> Result<String, RowFault> 
     Ok(operator_text(alloc, &OperatorAnswer::Command(command))?)
 }
 
-/// `sessions SESSION:USER ..`
+/// `open-sessions SESSION:USER ..`
 fn sessions(alloc: Global, at: u32, words: &mut Words<'_>) -> Result<String, RowFault> {
     let sessions = Items::new(sessions_of(alloc, words)?);
     let answer = OperatorAnswer::Sessions { at, sessions };

@@ -20,7 +20,7 @@ pub struct First {
     ghost free: { IsTrue is_free → packets.own ≡ None },
 }
 
-/// `first N F`
+/// `comes-first N F`
 pub fn begin(alloc: Global, words: &mut Words<'_>) -> Result<First, RowFault> {
     let sizes = sizes_of(words)?;
     let packets = FirstPackets::new(alloc, sizes.n())?;
