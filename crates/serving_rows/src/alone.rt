@@ -2,13 +2,12 @@
 
 ghost use Rattle.std.specs.Prelude.{◌≡◌, [], IfOk};
 
-use crate::names::kind_of;
 use link_frames::{Message, Packet};
 use operator_lines::{command_at, sessions_of, standing_of};
 use quorum_sizes::{NodeName, Sizes};
-use role_commands::{RoleTable, TableFault, print_command};
+use role_commands::{RoleTable, TableFault};
 use role_node::{ClientEvent, Config, Event, Node, NodeFault};
-use row_words::{RowFault, Words, list_text, text_of};
+use row_words::{OrNone, RowFault, Spelled, Words, list_text, text_of};
 use std::alloc::Global;
 
 /// `alone LIMIT ROLE`: the only node of its cluster, which records so many events and owns this role.
@@ -75,7 +74,7 @@ fn take(alloc: Global, node: &mut Node, words: &mut Words<'_>) -> Result<String,
 /// The packet of a node to itself that all that is left spells, as `KIND PLACE COMMAND`.
 pub fn own_packet(me: NodeName, words: &mut Words<'_>) -> Result<Packet, RowFault> {
     let message = Message {
-        kind: kind_of(words)?,
+        kind: words.kind()?,
         owner: me,
         place: words.wide()?,
         command: words.command()?,
@@ -121,8 +120,6 @@ fn command(alloc: Global, node: &Node, words: &mut Words<'_>) -> Result<String, 
     if !node.config().roles().sizes().has(owner) {
         return Err(RowFault::BadRow);
     }
-    match command_at(node, owner, place) {
-        Some(command) => Ok(print_command(alloc, &command)?),
-        None => Ok(text_of(alloc, &"none")?),
-    }
+    let command = command_at(node, owner, place).map(Spelled);
+    Ok(text_of(alloc, &OrNone(command))?)
 }

@@ -2,8 +2,7 @@
 
 ghost use Rattle.std.specs.Prelude.{◌≡◌, None, IsTrue};
 
-use crate::names::{name_of, packet_of, sizes_of};
-use crate::packets::packet_text;
+use crate::packets::{packet_of, packet_text};
 use frame_queues::FirstPackets;
 use link_frames::Packet;
 use quorum_sizes::Sizes;
@@ -22,7 +21,7 @@ pub struct First {
 
 /// `comes-first N F`
 pub fn begin(alloc: Global, words: &mut Words<'_>) -> Result<First, RowFault> {
-    let sizes = sizes_of(words)?;
+    let sizes = words.sizes()?;
     let packets = FirstPackets::new(alloc, sizes.n())?;
     Ok(First {
         sizes,
@@ -69,7 +68,7 @@ impl First {
 
 /// `reached OWNER END`
 fn reached(alloc: Global, first: &mut First, words: &mut Words<'_>) -> Result<String, RowFault> {
-    let owner = name_of(words, &first.sizes)?;
+    let owner = words.node(&first.sizes)?;
     first.packets.reached(owner, words.wide()?);
     Ok(text_of(alloc, &"ok")?)
 }

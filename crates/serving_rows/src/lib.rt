@@ -10,7 +10,6 @@ mod comes_first;
 mod lines;
 mod lists;
 mod lock;
-mod names;
 mod packets;
 mod parked;
 mod request_texts;

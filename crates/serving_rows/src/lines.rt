@@ -1,7 +1,6 @@
 //! Rows of lines: what a client's or an operator's line is read as.
 
 use crate::bytes::bytes_of;
-use crate::names::sizes_of;
 use crate::request_texts::{operator_request_text, request_text};
 use client_lines::{LineFault, RequestReader, read_request};
 use operator_lines::{OperatorFault, read_operator};
@@ -19,7 +18,7 @@ pub struct Lines {
 /// `requests N F`
 pub fn begin(alloc: Global, words: &mut Words<'_>) -> Result<Lines, RowFault> {
     Ok(Lines {
-        sizes: sizes_of(words)?,
+        sizes: words.sizes()?,
         reader: RequestReader::new(alloc),
     })
 }

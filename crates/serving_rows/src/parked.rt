@@ -1,7 +1,6 @@
 //! Rows of packets that wait.
 
-use crate::names::{name_of, packet_of, sizes_of};
-use crate::packets::packet_text;
+use crate::packets::{packet_of, packet_text};
 use frame_queues::ParkedPackets;
 use link_frames::{Packet, Place};
 use quorum_sizes::{NodeName, Sizes};
@@ -17,7 +16,7 @@ pub struct Parked {
 
 /// `parked N F`
 pub fn begin(alloc: Global, words: &mut Words<'_>) -> Result<Parked, RowFault> {
-    let sizes = sizes_of(words)?;
+    let sizes = words.sizes()?;
     let packets = ParkedPackets::new(alloc, sizes.n())?;
     Ok(Parked { sizes, packets })
 }
@@ -74,7 +73,7 @@ fn moved(packet: &Packet, behind: u32) -> Result<Packet, RowFault> {
 
 /// `take OWNER END`: the owner's first packet, if its place is below.
 fn take(alloc: Global, parked: &mut Parked, words: &mut Words<'_>) -> Result<String, RowFault> {
-    let owner = name_of(words, &parked.sizes)?;
+    let owner = words.node(&parked.sizes)?;
     let packet = parked.packets.take(owner, words.wide()?);
     Ok(packet_text(alloc, packet)?)
 }
@@ -87,7 +86,7 @@ fn take_each(
     words: &mut Words<'_>,
 ) -> Result<String, RowFault> {
     let count = words.wide()?;
-    let owner = name_of(words, &parked.sizes)?;
+    let owner = words.node(&parked.sizes)?;
     let last = last_of(&mut parked.packets, owner, words.wide()?, count)?;
     Ok(packet_text(alloc, last)?)
 }

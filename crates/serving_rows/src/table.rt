@@ -4,7 +4,7 @@ use crate::calls::{call_of, receipt_text};
 use node_lock::{Call, Receipt, Seat, SharedNode, StepFault, View};
 use role_commands::print_command;
 use role_node::Node;
-use row_words::{RowFault, Words, text_of};
+use row_words::{OrNone, RowFault, Words, text_of};
 use std::alloc::Global;
 use std::sync::ledger::Ledger;
 
@@ -102,10 +102,7 @@ impl<L: Ledger> Table<L> {
         let shared = self.shared.as_mut().ok_or(RowFault::BadRow)?;
         let locked = shared.node.get_mut();
         let me = locked.me();
-        match locked.last_vote(me, me) {
-            Some(place) => Ok(text_of(alloc, &place)?),
-            None => Ok(text_of(alloc, &"none")?),
-        }
+        Ok(text_of(alloc, &OrNone(locked.last_vote(me, me)))?)
     }
 }
 

@@ -1,8 +1,10 @@
 //! Rows of turns.
 
 use frame_queues::{Turn, Turns};
-use row_words::{RowFault, Words, text_of};
-use std::alloc::{AllocError, Global};
+use row_words::{OrNone, RowFault, Words, text_of};
+use std::alloc::Global;
+use std::fmt;
+use std::fmt::Display;
 
 /// `turns K`: room for so many blocks.
 pub fn begin(alloc: Global, words: &mut Words<'_>) -> Result<Turns, RowFault> {
@@ -13,7 +15,7 @@ pub fn answer(alloc: Global, turns: &mut Turns, line: &str) -> Result<String, Ro
     let mut words = Words::new(line);
     match words.word() {
         "add" => add(alloc, turns, &mut words),
-        "next" => Ok(turn_text(alloc, turns.next())?),
+        "next" => next(alloc, turns),
         _ => Err(RowFault::BadRow),
     }
 }
@@ -25,17 +27,18 @@ fn add(alloc: Global, turns: &mut Turns, words: &mut Words<'_>) -> Result<String
     Ok(text_of(alloc, &"ok")?)
 }
 
-/// `next`: `BLOCK FROM-TO`, or `none`. Where memory is wanting it is made once more.
-fn turn_text(alloc: Global, turn: Option<Turn>) -> Result<String, AllocError> {
-    match spelled(alloc, turn) {
-        Ok(text) => Ok(text),
-        Err(_) => spelled(alloc, turn),
+/// `BLOCK FROM-TO`
+#[derive(Clone, Copy)]
+struct Shown(Turn);
+
+impl Display for Shown {
+    fn fmt<W: fmt::Write>(&self, f: &mut fmt::Formatter<W>) -> fmt::Result {
+        let Turn { block, from, to } = self.0;
+        write!(f, "{block} {from}-{to}")
     }
 }
 
-fn spelled(alloc: Global, turn: Option<Turn>) -> Result<String, AllocError> {
-    match turn {
-        Some(Turn { block, from, to }) => format!(in alloc; "{block} {from}-{to}"),
-        None => String::from_str(alloc, "none"),
-    }
+/// `next`: the next turn, or `none`.
+fn next(alloc: Global, turns: &mut Turns) -> Result<String, RowFault> {
+    Ok(text_of(alloc, &OrNone(turns.next().map(Shown)))?)
 }

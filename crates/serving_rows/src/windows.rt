@@ -4,7 +4,6 @@ ghost use Rattle.std.specs.Prelude.{◌<◌, ◌≤◌, ◌^◌, IfOk};
 ghost use Rattle.role_node.specs.Windows.{voted_to, window_to};
 ghost use Rattle.peer_windows.specs.Pauses.{most_time};
 
-use crate::names::{name_of, sizes_of};
 use link_frames::{PLACES, Place};
 use peer_windows::{Level, MOST_TIME, Pairs, PeerWindow, Repeat, Seen, vote_end};
 use quorum_sizes::{NodeName, Sizes};
@@ -21,8 +20,8 @@ pub struct Windows {
 
 /// `windows N F ME NOW`: times are milliseconds.
 pub fn begin(alloc: Global, words: &mut Words<'_>) -> Result<Windows, RowFault> {
-    let sizes = sizes_of(words)?;
-    let me = name_of(words, &sizes)?;
+    let sizes = words.sizes()?;
+    let me = words.node(&sizes)?;
     let now = time_of(words)?;
     Ok(Windows {
         sizes,
@@ -109,8 +108,8 @@ fn due(alloc: Global, windows: &Windows) -> Result<String, RowFault> {
 }
 
 fn pair_of(words: &mut Words<'_>, sizes: &Sizes) -> Result<(NodeName, NodeName), RowFault> {
-    let owner = name_of(words, sizes)?;
-    Ok((owner, name_of(words, sizes)?))
+    let owner = words.node(sizes)?;
+    Ok((owner, words.node(sizes)?))
 }
 
 /// How far the stream reaches here, and how far the peer has voted.
@@ -125,8 +124,8 @@ impl Windows {
     fn change(&mut self, name: &str, words: &mut Words<'_>) -> Result<(), RowFault> {
         let now = time_of(words)?;
         match name {
-            "grow" => self.pairs.grow(now, name_of(words, &self.sizes)?),
-            "connected" => self.pairs.connected(now, name_of(words, &self.sizes)?),
+            "grow" => self.pairs.grow(now, words.node(&self.sizes)?),
+            "connected" => self.pairs.connected(now, words.node(&self.sizes)?),
             "move-on" => self.move_on(now, words)?,
             "hear" => self.hear(now, words)?,
             "pass" => self.pass(now, words)?,
