@@ -59,9 +59,9 @@ pub fn seen(node: &Node) -> [u64; 3] {
 /// `issue COMMAND`, and what else the node records: `ok`, or the refusal.
 fn apply(alloc: Global, node: &mut Node, event: Event) -> Result<String, RowFault> {
     match node.apply(event) {
-        Ok(_) => Ok(text_of(alloc, &"ok")?),
+        Ok(_) => text_of(alloc, &"ok"),
         Err(NodeFault::Memory) => Err(RowFault::Memory),
-        Err(fault) => Ok(text_of(alloc, &fault)?),
+        Err(fault) => text_of(alloc, &fault),
     }
 }
 
@@ -88,7 +88,7 @@ fn open_each(alloc: Global, node: &mut Node, words: &mut Words<'_>) -> Result<St
     for user in first..words.wide()? {
         apply(alloc, node, Event::Client(ClientEvent::Open { user }))?;
     }
-    Ok(text_of(alloc, &"ok")?)
+    text_of(alloc, &"ok")
 }
 
 /// `standing`: how the node stands.
@@ -121,5 +121,5 @@ fn command(alloc: Global, node: &Node, words: &mut Words<'_>) -> Result<String, 
         return Err(RowFault::BadRow);
     }
     let command = command_at(node, owner, place).map(Spelled);
-    Ok(text_of(alloc, &OrNone(command))?)
+    text_of(alloc, &OrNone(command))
 }

@@ -6,6 +6,8 @@ use quorum_sizes::NodeName;
 use role_node::{Answer, ClientEvent, Event, NodeFault, Question, Reply, Verdict};
 use row_words::{RowFault, Words, list_text, permissions_text, text_of};
 use std::alloc::Global;
+use std::fmt;
+use std::fmt::Display;
 
 /// The call that all that is left spells: an event or a question.
 pub fn call_of(me: NodeName, words: &mut Words<'_>) -> Result<Call, RowFault> {
@@ -45,39 +47,48 @@ pub fn receipt_text(alloc: Global, receipt: &Receipt) -> Result<String, RowFault
 
 fn outcome_text(alloc: Global, outcome: &Outcome) -> Result<String, RowFault> {
     match outcome {
-        Outcome::Reply(reply) => reply_text(alloc, reply),
+        Outcome::Reply(reply) => text_of(alloc, &Replied(*reply)),
         Outcome::Answer(answer) => said_text(alloc, answer),
         Outcome::Refused(NodeFault::Memory) => Err(RowFault::Memory),
-        Outcome::Refused(fault) => Ok(text_of(alloc, fault)?),
-    }
-}
-
-fn reply_text(alloc: Global, reply: &Reply) -> Result<String, RowFault> {
-    match reply {
-        Reply::Idle => Ok(text_of(alloc, &"idle")?),
-        Reply::Issued(message) => {
-            let place = message.place;
-            Ok(format!(in alloc; "issued {place}")?)
-        }
-        Reply::Counted { from, to, .. } => Ok(format!(in alloc; "counted {from}-{to}")?),
-        Reply::Session(session) => Ok(format!(in alloc; "session {session}")?),
-        Reply::Done => Ok(text_of(alloc, &"done")?),
+        Outcome::Refused(fault) => text_of(alloc, fault),
     }
 }
 
 fn said_text(alloc: Global, answer: &Answer) -> Result<String, RowFault> {
     match answer {
-        Answer::Verdict(verdict) => verdict_text(alloc, *verdict),
-        Answer::Users(users) => Ok(list_text(alloc, users.as_slice())?),
-        Answer::Roles(roles) => Ok(list_text(alloc, roles.as_slice())?),
-        Answer::Permissions(permissions) => Ok(permissions_text(alloc, permissions.as_slice())?),
-        Answer::Operations(operations) => Ok(list_text(alloc, operations.as_slice())?),
+        Answer::Verdict(verdict) => text_of(alloc, &Decided(*verdict)),
+        Answer::Users(users) => list_text(alloc, users.as_slice()),
+        Answer::Roles(roles) => list_text(alloc, roles.as_slice()),
+        Answer::Permissions(permissions) => permissions_text(alloc, permissions.as_slice()),
+        Answer::Operations(operations) => list_text(alloc, operations.as_slice()),
     }
 }
 
-fn verdict_text(alloc: Global, verdict: Verdict) -> Result<String, RowFault> {
-    match verdict {
-        Verdict::Allow(role) => Ok(format!(in alloc; "allow {role}")?),
-        Verdict::Deny(rule) => Ok(format!(in alloc; "deny {rule}")?),
+/// A reply in words.
+#[derive(Clone, Copy)]
+struct Replied(Reply);
+
+impl Display for Replied {
+    fn fmt<W: fmt::Write>(&self, f: &mut fmt::Formatter<W>) -> fmt::Result {
+        match self.0 {
+            Reply::Idle => f.write_str("idle"),
+            Reply::Issued(message) => write!(f, "issued {}", message.place),
+            Reply::Counted { from, to, .. } => write!(f, "counted {from}-{to}"),
+            Reply::Session(session) => write!(f, "session {session}"),
+            Reply::Done => f.write_str("done"),
+        }
+    }
+}
+
+/// A decision in words.
+#[derive(Clone, Copy)]
+struct Decided(Verdict);
+
+impl Display for Decided {
+    fn fmt<W: fmt::Write>(&self, f: &mut fmt::Formatter<W>) -> fmt::Result {
+        match self.0 {
+            Verdict::Allow(role) => write!(f, "allow {role}"),
+            Verdict::Deny(rule) => write!(f, "deny {rule}"),
+        }
     }
 }

@@ -31,7 +31,7 @@ impl<L: Ledger> Table<L> {
             Err(CloseFault::SeatMissing { node, seats }) => {
                 self.shared = Some(node);
                 self.seats = seats;
-                Ok(text_of(alloc, &"Z1 SeatMissing")?)
+                text_of(alloc, &"Z1 SeatMissing")
             }
         }
     }
@@ -62,9 +62,9 @@ impl<L: Ledger> Table<L> {
     pub fn audit_receipts(&self, alloc: Global) -> Result<String, RowFault> {
         let node = self.closed.as_ref().ok_or(RowFault::BadRow)?;
         match audit(alloc, node, &self.receipts) {
-            Ok(()) => Ok(text_of(alloc, &"ok")?),
+            Ok(()) => text_of(alloc, &"ok"),
             Err(AuditFault::Memory) => Err(RowFault::Memory),
-            Err(fault) => Ok(text_of(alloc, &fault)?),
+            Err(fault) => text_of(alloc, &fault),
         }
     }
 }

@@ -45,14 +45,14 @@ pub fn answer(alloc: Global, first: &mut First, line: &str) -> Result<String, Ro
 fn park(alloc: Global, first: &mut First, words: &mut Words<'_>) -> Result<String, RowFault> {
     let packet = packet_of(words, &first.sizes)?;
     first.packets.park(packet)?;
-    Ok(text_of(alloc, &"ok")?)
+    text_of(alloc, &"ok")
 }
 
 /// `own PACKET`, where no own packet waits.
 fn own(alloc: Global, first: &mut First, words: &mut Words<'_>) -> Result<String, RowFault> {
     let packet = packet_of(words, &first.sizes)?;
     first.put_own(packet)?;
-    Ok(text_of(alloc, &"ok")?)
+    text_of(alloc, &"ok")
 }
 
 impl First {
@@ -70,12 +70,12 @@ impl First {
 fn reached(alloc: Global, first: &mut First, words: &mut Words<'_>) -> Result<String, RowFault> {
     let owner = words.node(&first.sizes)?;
     first.packets.reached(owner, words.wide()?);
-    Ok(text_of(alloc, &"ok")?)
+    text_of(alloc, &"ok")
 }
 
 /// `next`: the packet that comes next.
 fn next(alloc: Global, first: &mut First) -> Result<String, RowFault> {
     let packet = first.packets.next();
     first.is_free = true;
-    Ok(packet_text(alloc, packet)?)
+    packet_text(alloc, packet)
 }

@@ -1,12 +1,14 @@
 //! Rows of lines: what a client's or an operator's line is read as.
 
 use crate::bytes::bytes_of;
-use crate::request_texts::{operator_request_text, request_text};
+use crate::request_texts::{Asked, OperatorAsked};
 use client_lines::{LineFault, RequestReader, read_request};
 use operator_lines::{OperatorFault, read_operator};
 use quorum_sizes::Sizes;
 use row_words::{RowFault, Words, text_of};
 use std::alloc::Global;
+use std::fmt;
+use std::fmt::Display;
 
 /// The lines of clients and operators that a node of a cluster of these sizes reads.
 #[derive(Drop)]
@@ -37,7 +39,7 @@ pub fn answer(alloc: Global, lines: &mut Lines, line: &str) -> Result<String, Ro
 fn client(alloc: Global, lines: &Lines, line: &str) -> Result<String, RowFault> {
     let bytes = bytes_of(alloc, line)?;
     match read_request(alloc, &lines.sizes, &bytes) {
-        Ok(request) => request_text(alloc, &request),
+        Ok(request) => text_of(alloc, &Asked(request)),
         Err(fault) => line_fault_text(alloc, fault),
     }
 }
@@ -46,7 +48,7 @@ fn client(alloc: Global, lines: &Lines, line: &str) -> Result<String, RowFault> 
 fn next(alloc: Global, lines: &mut Lines, line: &str) -> Result<String, RowFault> {
     let bytes = bytes_of(alloc, line)?;
     match lines.reader.read(&lines.sizes, &bytes) {
-        Ok(request) => request_text(alloc, &request),
+        Ok(request) => text_of(alloc, &Asked(request)),
         Err(fault) => line_fault_text(alloc, fault),
     }
 }
@@ -55,9 +57,22 @@ fn next(alloc: Global, lines: &mut Lines, line: &str) -> Result<String, RowFault
 fn operator(alloc: Global, lines: &Lines, line: &str) -> Result<String, RowFault> {
     let bytes = bytes_of(alloc, line)?;
     match read_operator(alloc, &lines.sizes, &bytes) {
-        Ok(Some(request)) => operator_request_text(alloc, &request),
-        Ok(None) => Ok(text_of(alloc, &"none")?),
+        Ok(Some(request)) => text_of(alloc, &OperatorAsked(request)),
+        Ok(None) => text_of(alloc, &"none"),
         Err(fault) => operator_fault_text(alloc, fault),
+    }
+}
+
+/// A fault, and the member that it is about.
+#[derive(Clone, Copy)]
+struct Faulty<F, M>(F, Option<M>);
+
+impl<F: Display, M: Display> Display for Faulty<F, M> {
+    fn fmt<W: fmt::Write>(&self, f: &mut fmt::Formatter<W>) -> fmt::Result {
+        match &self.1 {
+            Some(member) => write!(f, "{} {member}", self.0),
+            None => write!(f, "{}", self.0),
+        }
     }
 }
 
@@ -65,15 +80,12 @@ fn line_fault_text(alloc: Global, fault: LineFault) -> Result<String, RowFault> 
     if fault == LineFault::Memory {
         return Err(RowFault::Memory);
     }
-    match fault.member() {
-        Some(member) => Ok(format!(in alloc; "{fault} {member}")?),
-        None => Ok(text_of(alloc, &fault)?),
-    }
+    text_of(alloc, &Faulty(fault, fault.member()))
 }
 
 fn operator_fault_text(alloc: Global, fault: OperatorFault) -> Result<String, RowFault> {
     match fault.member() {
-        Some(member) => Ok(format!(in alloc; "{fault} {member}")?),
+        Some(member) => text_of(alloc, &Faulty(fault, Some(member))),
         None => Err(RowFault::Memory),
     }
 }

@@ -3,7 +3,7 @@
 use link_frames::{Message, Packet};
 use quorum_sizes::Sizes;
 use row_words::{OrNone, RowFault, Spelled, Words, kind_word, text_of};
-use std::alloc::{AllocError, Global};
+use std::alloc::Global;
 use std::fmt;
 use std::fmt::Display;
 
@@ -36,6 +36,6 @@ impl Display for Shown {
 }
 
 /// `KIND FROM TO OWNER PLACE COMMAND`, or `none`.
-pub fn packet_text(alloc: Global, packet: Option<Packet>) -> Result<String, AllocError> {
+pub fn packet_text(alloc: Global, packet: Option<Packet>) -> Result<String, RowFault> {
     text_of(alloc, &OrNone(packet.map(Shown)))
 }

@@ -40,7 +40,7 @@ pub fn seen(parked: &Parked) -> [u64; 3] {
 
 /// `length`: how many wait.
 fn length(alloc: Global, parked: &Parked) -> Result<String, RowFault> {
-    Ok(text_of(alloc, &parked.packets.len())?)
+    text_of(alloc, &parked.packets.len())
 }
 
 /// `park PACKET`: how many wait then.
@@ -75,7 +75,7 @@ fn moved(packet: &Packet, behind: u32) -> Result<Packet, RowFault> {
 fn take(alloc: Global, parked: &mut Parked, words: &mut Words<'_>) -> Result<String, RowFault> {
     let owner = words.node(&parked.sizes)?;
     let packet = parked.packets.take(owner, words.wide()?);
-    Ok(packet_text(alloc, packet)?)
+    packet_text(alloc, packet)
 }
 
 /// `take-each COUNT OWNER END`: so many as `take` takes them. The last, if each but the first is such as the one before
@@ -88,7 +88,7 @@ fn take_each(
     let count = words.wide()?;
     let owner = words.node(&parked.sizes)?;
     let last = last_of(&mut parked.packets, owner, words.wide()?, count)?;
-    Ok(packet_text(alloc, last)?)
+    packet_text(alloc, last)
 }
 
 fn last_of(

@@ -2,10 +2,11 @@
 
 use crate::calls::{call_of, receipt_text};
 use node_lock::{Call, Receipt, Seat, SharedNode, StepFault, View};
-use role_commands::print_command;
 use role_node::Node;
-use row_words::{OrNone, RowFault, Words, text_of};
+use row_words::{Behind, OrNone, RowFault, Spelled, Words, text_of};
 use std::alloc::Global;
+use std::fmt;
+use std::fmt::Display;
 use std::sync::ledger::Ledger;
 
 /// A node with its seats, or without them once it is closed.
@@ -53,7 +54,7 @@ impl<L: Ledger> Table<L> {
             "audit" => return self.audit_receipts(alloc),
             _ => return Err(RowFault::BadRow),
         }
-        Ok(text_of(alloc, &self.receipts.len())?)
+        text_of(alloc, &self.receipts.len())
     }
 
     /// `seat SEAT CALL`: what the receipt says.
@@ -79,7 +80,7 @@ impl<L: Ledger> Table<L> {
     fn hold(&mut self, alloc: Global, words: &mut Words<'_>) -> Result<String, RowFault> {
         let (receipt, view) = self.held_for(words)?;
         let receipt = receipt.ok_or(RowFault::BadRow)?;
-        let text = held_text(alloc, &receipt, &view)?;
+        let text = held_text(alloc, &receipt, view)?;
         self.receipts.push(receipt)?;
         Ok(text)
     }
@@ -102,7 +103,7 @@ impl<L: Ledger> Table<L> {
         let shared = self.shared.as_mut().ok_or(RowFault::BadRow)?;
         let locked = shared.node.get_mut();
         let me = locked.me();
-        Ok(text_of(alloc, &OrNone(locked.last_vote(me, me)))?)
+        text_of(alloc, &OrNone(locked.last_vote(me, me)))
     }
 }
 
@@ -113,20 +114,20 @@ fn row_fault(fault: StepFault) -> RowFault {
     }
 }
 
-fn held_text(alloc: Global, receipt: &Receipt, view: &View) -> Result<String, RowFault> {
+fn held_text(alloc: Global, receipt: &Receipt, view: View) -> Result<String, RowFault> {
     let said = receipt_text(alloc, receipt)?;
-    let seen = view_text(alloc, view)?;
+    let seen = Seen(view);
     Ok(format!(in alloc; "{said}; {seen}")?)
 }
 
-/// `at EVENTS reach REACH`, and what the node sent at the place as `send COMMAND`.
-fn view_text(alloc: Global, view: &View) -> Result<String, RowFault> {
-    let (at, reach) = (view.at, view.reach);
-    match view.again.send {
-        Some(command) => {
-            let command = print_command(alloc, &command)?;
-            Ok(format!(in alloc; "at {at} reach {reach} send {command}")?)
-        }
-        None => Ok(format!(in alloc; "at {at} reach {reach}")?),
+/// `at EVENTS reach REACH`, and what the node sent at the place as ` send COMMAND`.
+#[derive(Clone, Copy)]
+struct Seen(View);
+
+impl Display for Seen {
+    fn fmt<W: fmt::Write>(&self, f: &mut fmt::Formatter<W>) -> fmt::Result {
+        let (at, reach) = (self.0.at, self.0.reach);
+        let sent = Behind("send", self.0.again.send.map(Spelled));
+        write!(f, "at {at} reach {reach}{sent}")
     }
 }

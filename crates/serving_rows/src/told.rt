@@ -61,7 +61,7 @@ pub fn seen(told: &Told) -> [u64; 3] {
 /// `reaches REACH`: the next owner's stream reaches so far.
 fn reaches(alloc: Global, told: &mut Told, words: &mut Words<'_>) -> Result<String, RowFault> {
     told.reaches.push(words.wide()?)?;
-    Ok(text_of(alloc, &"ok")?)
+    text_of(alloc, &"ok")
 }
 
 /// `journal SYNCS LAST MEAN WORST SOUND`
@@ -74,7 +74,7 @@ fn journal(alloc: Global, told: &mut Told, words: &mut Words<'_>) -> Result<Stri
     };
     let sound = yes_of(words)?;
     told.journal = Some(JournalStanding { times, sound });
-    Ok(text_of(alloc, &"ok")?)
+    text_of(alloc, &"ok")
 }
 
 fn yes_of(words: &mut Words<'_>) -> Result<bool, RowFault> {
@@ -88,7 +88,7 @@ fn yes_of(words: &mut Words<'_>) -> Result<bool, RowFault> {
 /// `myself`, or `peer CONNECTED HEARD WAITING AGAIN LOST UNOPENED`
 fn peer(alloc: Global, told: &mut Told, peer: Option<PeerStanding>) -> Result<String, RowFault> {
     told.peers.push(peer)?;
-    Ok(text_of(alloc, &"ok")?)
+    text_of(alloc, &"ok")
 }
 
 fn peer_of(words: &mut Words<'_>) -> Result<PeerStanding, RowFault> {

@@ -24,7 +24,7 @@ pub fn answer(alloc: Global, turns: &mut Turns, line: &str) -> Result<String, Ro
 fn add(alloc: Global, turns: &mut Turns, words: &mut Words<'_>) -> Result<String, RowFault> {
     let block = usize::from(words.narrow()?);
     turns.add(block, usize::from(words.narrow()?))?;
-    Ok(text_of(alloc, &"ok")?)
+    text_of(alloc, &"ok")
 }
 
 /// `BLOCK FROM-TO`
@@ -40,5 +40,5 @@ impl Display for Shown {
 
 /// `next`: the next turn, or `none`.
 fn next(alloc: Global, turns: &mut Turns) -> Result<String, RowFault> {
-    Ok(text_of(alloc, &OrNone(turns.next().map(Shown)))?)
+    text_of(alloc, &OrNone(turns.next().map(Shown)))
 }

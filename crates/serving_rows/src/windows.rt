@@ -10,6 +10,8 @@ use quorum_sizes::{NodeName, Sizes};
 use role_commands::numbers::wide_number;
 use row_words::{RowFault, Words, text_of, yes_or_no};
 use std::alloc::Global;
+use std::fmt;
+use std::fmt::Display;
 
 /// The pairs of a node of a cluster of these sizes.
 #[derive(Drop)]
@@ -62,13 +64,23 @@ pub fn seen(windows: &Windows) -> [u64; 3] {
 
 /// `around PLACE`, or `around none`: the window of a peer with this last vote.
 fn around(alloc: Global, words: &mut Words<'_>) -> Result<String, RowFault> {
-    let PeerWindow { from, to } = PeerWindow::around(last_of(words)?);
-    Ok(format!(in alloc; "{from}-{to}")?)
+    text_of(alloc, &Shown(PeerWindow::around(last_of(words)?)))
+}
+
+/// `FROM-TO`
+#[derive(Clone, Copy)]
+struct Shown(PeerWindow);
+
+impl Display for Shown {
+    fn fmt<W: fmt::Write>(&self, f: &mut fmt::Formatter<W>) -> fmt::Result {
+        let PeerWindow { from, to } = self.0;
+        write!(f, "{from}-{to}")
+    }
 }
 
 /// `vote-end PLACE`, or `vote-end none`: how far a peer has voted with this last vote.
 fn end(alloc: Global, words: &mut Words<'_>) -> Result<String, RowFault> {
-    Ok(text_of(alloc, &vote_end(last_of(words)?))?)
+    text_of(alloc, &vote_end(last_of(words)?))
 }
 
 /// The place of the last vote.
@@ -93,18 +105,18 @@ fn settled(alloc: Global, words: &mut Words<'_>) -> Result<String, RowFault> {
         voted: words.wide()?,
         outstanding: words.wide()?,
     };
-    Ok(yes_or_no(alloc, seen.is_settled())?)
+    yes_or_no(alloc, seen.is_settled())
 }
 
 /// `served OWNER PEER`: a window went to the peer since it was as far.
 fn served(alloc: Global, windows: &Windows, words: &mut Words<'_>) -> Result<String, RowFault> {
     let (owner, peer) = pair_of(words, &windows.sizes)?;
-    Ok(yes_or_no(alloc, windows.pairs.is_served(owner, peer))?)
+    yes_or_no(alloc, windows.pairs.is_served(owner, peer))
 }
 
 /// `due`: when something is due next.
 fn due(alloc: Global, windows: &Windows) -> Result<String, RowFault> {
-    Ok(text_of(alloc, &windows.pairs.next_due())?)
+    text_of(alloc, &windows.pairs.next_due())
 }
 
 fn pair_of(words: &mut Words<'_>, sizes: &Sizes) -> Result<(NodeName, NodeName), RowFault> {
