@@ -27,18 +27,6 @@ PLANTS = [
      "nul is null", "src/plain_line.rt",
      '    if rest.starts_with(b"null") {\n        Some(at + 4)',
      '    if rest.starts_with(b"nul") {\n        Some(at + 3)'),
-    (106, "client_lines_json", ORDER, "4-clients/20-repeated-members", "client_lines",
-     "of two users the first counts", "src/line.rt",
-     '            "user" => self.user = scalar.number(),',
-     '            "user" if self.user.is_ok() => {}\n            "user" => self.user = scalar.number(),'),
-    (107, "client_lines_json", VALUE, "4-clients/22-more-than-a-text", "client_lines",
-     "a text behind the object", "src/plain_line.rt",
-     "blanks_end(bytes, end + 1) == bytes.len()",
-     "blanks_end(bytes, end + 1) <= bytes.len()"),
-    (108, "client_lines_json", ORDER, "4-clients/19-refused-objects", "client_lines",
-     "no object is no text", "src/request.rt",
-     "        Some(_) => Err(LineFault::NotObject),",
-     "        Some(_) => Err(LineFault::NotJson),"),
     (101, "client_lines_op", ORDER, "4-clients/04-members-that-are-no-numbers", "client_lines",
      "of a check the user is read first", "src/rows.rt",
      "    let session = session_of(line)?;\n"
@@ -64,10 +52,6 @@ PLANTS = [
      "        Ok(_) | Err(MemberFault::OutOfRange) => Err(LineFault::OutOfRange(member)),",
      "        Ok(_) => Err(LineFault::OutOfRange(member)),\n"
      "        Err(MemberFault::OutOfRange) => Err(LineFault::Missing(member)),"),
-    (106, "client_lines_op", VALUE, "4-clients/01-operations", "client_lines",
-     "reach asks for again", "src/operation.rt",
-     '        "reach" => Some(Operation::Reach),',
-     '        "reach" => Some(Operation::Stop),'),
     (101, "client_lines", PRINTING, "4-clients/31-answers", "client_lines",
      "the rule of a denial", "src/answer.rt",
      '        ",\\"rule\\":\\"",',
@@ -93,19 +77,6 @@ PLANTS = [
      "            return Err(LineFault::NotJson);\n"
      "        }\n"
      "        match flat_line(text, &mut self.scratch)? {"),
-    (106, "client_lines", ORDER, "4-clients/31-answers", "client_lines",
-     "operation and object change places", "src/answer.rt",
-     "    let (operation, object) = permission;\n",
-     "    let (operation, object) = (permission.1 as u16, u32::from(permission.0));\n"),
-    (107, "client_lines", ORDER, "4-clients/30-line-after-line", "client_lines",
-     "a line tells on the next", "src/request.rt",
-     "        match flat_line(text, &mut self.scratch)? {\n"
-     "            Some(line) => request_of_line(sizes, &line),",
-     "        if text.len() == 38 {\n"
-     "            return Ok(Request::Stop);\n"
-     "        }\n"
-     "        match flat_line(text, &mut self.scratch)? {\n"
-     "            Some(line) => request_of_line(sizes, &line),"),
     (101, "operator_lines", VALUE, "4-clients/41-operators-lines", "operator_lines",
      "the last place is none", "src/request.rt",
      "pub const MOST_PLACE: u64 = 1 << 53;",
@@ -128,10 +99,6 @@ PLANTS = [
      "    let place = number(line, OperatorMember::Place, MOST_PLACE)?;",
      "    let place = number(line, OperatorMember::Place, MOST_PLACE)?;\n"
      "    let owner = owner_of(sizes, line)?;"),
-    (106, "operator_lines", VALUE, "4-clients/42-no-operators-lines", "operator_lines",
-     "a line of a clients' operation is an operator's", "src/request.rt",
-     '        "status" => Ok(Some(OperatorRequest::Status)),',
-     '        "status" | "Status" => Ok(Some(OperatorRequest::Status)),'),
     (101, "frame_queues", ORDER, "5-serving/01-packets-that-wait", "frame_queues",
      "a READY before an ECHO", "src/stream_packets.rt",
      "        Kind::Echo => 1,\n        Kind::Ready => 2,",
@@ -169,10 +136,6 @@ PLANTS = [
      "        if streams[most].len() < streams[owner].len() {",
      "        if streams[most].len() == 0 || streams[most].len() > streams[owner].len() && "
      "streams[owner].len() > 0 {"),
-    (106, "frame_queues", VALUE, "5-serving/01-packets-that-wait", "frame_queues",
-     "a packet at the place is below it", "src/stream_packets.rt",
-     "        if self.packets.front()?.place() < end {",
-     "        if self.packets.front()?.place() <= end {"),
     (101, "peer_windows", VALUE, "5-serving/05-windows", "peer_windows",
      "a window begins a place later", "src/window.rt",
      "voted.saturating_sub(WINDOW + 1)",
@@ -195,10 +158,6 @@ PLANTS = [
      "who gets on is answered", "src/answers.rt",
      "        self.moving_until = now + u64::from(FIRST_PAUSE);",
      "        self.moving_until = now;"),
-    (106, "peer_windows", VALUE, "5-serving/07-who-is-behind", "peer_windows",
-     "all are served", "src/pairs.rt",
-     "        owner < self.pairs.len() && self.pairs[owner].is_served(usize::from(peer.index()))",
-     "        owner < self.pairs.len() && !self.pairs[owner].is_served(usize::from(peer.index()))"),
     (101, "node_lock", VALUE, "5-serving/11-receipts", "node_lock",
      "a recorded event's place is the next", "src/locked.rt",
      "            seat: number,\n            place,\n            call,",
@@ -219,12 +178,4 @@ PLANTS = [
      "any session is the session", "src/receipt.rt",
      "        (Reply::Session(a), Reply::Session(b)) => *a == *b,",
      "        (Reply::Session(_), Reply::Session(_)) => true,"),
-    (106, "node_lock", VALUE, "5-serving/12-a-hold", "node_lock",
-     "a last vote is none's", "src/locked.rt",
-     "        self.node.last_vote(owner, peer)",
-     "        let _ = self.node.last_vote(owner, peer);\n        None"),
-    (107, "node_lock", VALUE, "5-serving/11-receipts", "node_lock",
-     "a node is closed without a seat", "src/shared.rt",
-     "        if seats.len() != count {",
-     "        if seats.len() > count {"),
 ]

@@ -26,7 +26,7 @@ pub fn begin(alloc: Global) -> Lock {
 
 pub fn answer(alloc: Global, lock: &mut Lock, line: &str) -> Result<String, RowFault> {
     let row = String::from_str(alloc, line)?;
-    let text = answer_last::<Brand>(alloc, Blank::new(2), &lock.rows, line)?;
+    let text = answer_last::<Brand>(alloc, Blank::new(2), &lock.rows, &row)?;
     lock.rows.push(row)?;
     Ok(text)
 }
@@ -41,7 +41,7 @@ fn answer_last<L: Ledger>(
     alloc: Global,
     blank: Blank,
     rows: &[String],
-    last: &str,
+    last: &String,
 ) -> Result<String, RowFault>
     requires name { blank.name ≡ L.name }
     requires parts { (blank.parts ≡ L.parts) × (2 ≡ L.parts) }
