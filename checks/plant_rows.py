@@ -18,6 +18,7 @@ TOP = os.path.dirname(os.path.dirname(os.path.abspath(__file__)))
 sys.dont_write_bytecode = True
 sys.path.insert(0, os.path.join(TOP, "checks"))
 import rows  # noqa: E402
+import serving_plants  # noqa: E402
 
 HOST = "layer_tests"
 
@@ -202,6 +203,7 @@ PLANTS = [
     own(4, "link_frames_device", V, "3-formats/19", "link_frames", "a failed flush counts", "src/lines/watched.rt",
         "        self.inner.flush()", "        self.count_fault(true); self.inner.flush()"),
 ]
+PLANTS += [own(*plant) for plant in serving_plants.PLANTS]
 
 
 class Copy:
@@ -235,9 +237,9 @@ class Copy:
                               capture_output=True)
 
 
-def failed_tests(copy):
-    """The test files and tests that fail."""
-    ran = copy.try_in(HOST, "--test")
+def failed_tests(copy, host):
+    """The test files and tests of a crate that fail."""
+    ran = copy.try_in(host, "--test")
     said = (ran.stdout + ran.stderr).decode("utf-8", "replace")
     found = set(re.findall(r"(\w+)_tests::(\w+)[^\n]*(?:FAIL|fail|status=[1-9])", said))
     if not found and "ok" not in said:
@@ -301,7 +303,7 @@ def main():
                 tests = set()
                 if old:
                     old.plant(plants)
-                    tests, _ = failed_tests(old)
+                    tests, _ = failed_tests(old, serving_plants.HOST if batch >= serving_plants.FIRST else HOST)
                     old.restore()
                 missed += sum(not tell(plant, tests, seen) for plant in plants)
         finally:

@@ -1,46 +1,22 @@
 //! Rows of the layers of a serving node: what a call of one of them answers.
 #![tactic(auto)]
 
-use row_words::RowFault;
-use std::alloc::Global;
+mod alone;
+mod answers;
+mod bytes;
+mod calls;
+mod closing;
+mod comes_first;
+mod lines;
+mod lists;
+mod lock;
+mod packets;
+mod parked;
+mod request_texts;
+mod serving;
+mod table;
+mod told;
+mod turns;
+mod windows;
 
-/// A layer's value.
-#[derive(Drop)]
-pub enum Serving {
-    /// No layer.
-    Blank,
-}
-
-/// Whether a row with this first word begins one of these layers.
-pub fn has(_layer: &str) -> bool {
-    false
-}
-
-/// The value of the layer that the row begins.
-///
-/// # Errors
-///
-/// `BadRow`, or `Memory`.
-pub fn begin(_alloc: Global, _line: &str) -> Result<Serving, RowFault> {
-    Err(RowFault::BadRow)
-}
-
-impl Serving {
-    /// Makes the call that the row spells, and says what came.
-    ///
-    /// # Errors
-    ///
-    /// `BadRow`, or `Memory`, where nothing may have changed.
-    pub fn answer(&mut self, _alloc: Global, _line: &str) -> Result<String, RowFault> {
-        match self {
-            Serving::Blank => Err(RowFault::BadRow),
-        }
-    }
-
-    /// Some numbers that tell whether anything has changed, without memory.
-    pub fn seen(&self) -> [u64; 3] {
-        match self {
-            Serving::Blank => [0; 3],
-        }
-    }
-}
+pub use serving::{Serving, begin, has};

@@ -1,269 +1,21 @@
-//! What no clause says: worked examples, each public call once, threads that meet.
+//! What needs threads or waits: an inbox gives back what is left and hands back what has no room; a pool's workers run
+//! at once, make more calls than an inbox takes, and end well or want memory.
 
-ghost use Rattle.std.specs.Prelude.{◌≡◌, ◌<◌, [], All, IfOk, vec_len};
+ghost use Rattle.std.specs.Prelude.{◌≡◌, ◌<◌, ◌≤◌, [], All, IfOk, vec_len};
+ghost use Rattle.node_lock.specs.Seats.{most_seats};
 ghost use Rattle.node_lock.specs.Inboxes.{IsPassTo, IsNewPassTo};
 
-use link_frames::{Kind, Message, Packet};
 use node_lock::*;
 use quorum_sizes::{NodeName, Sizes};
-use role_commands::{Command, RoleTable, TableFault};
-use role_node::{Answer, ClientEvent, Config, Event, Node, Question, Reply, Rule, Verdict};
-use std::alloc::Global;
-use std::marker::Brand;
-use std::process::Abort;
+use role_commands::RoleTable;
+use role_node::{ClientEvent, Config, Event, Reply};
+use std::alloc::{AllocError, Global};
 use std::sync::Wait;
 use std::sync::atomic::{AtomicU32, Ordering};
-use std::sync::ledger::{Blank, Ledger};
 use std::test::Fail;
 use std::thread::Threads;
 
 const OPEN: Event = Event::Client(ClientEvent::Open { user: 7 });
-
-const OPEN_OTHER: Event = Event::Client(ClientEvent::Open { user: 8 });
-
-const ASSIGN: Command = Command::Assign { user: 7, role: 2 };
-
-const CHECK: Question = Question::Check {
-    session: 1,
-    user: 7,
-    operation: 5,
-    object: 9,
-};
-
-/// The most turns that a gate waits.
-const PATIENCE: u32 = 200_000_000;
-
-/// The configuration of a cluster of one node with role 2, which records so many events, and its node's name.
-fn config(alloc: Global, limit: u32) -> Result<(Config, NodeName), Fail>
-    ensures { IfOk result (λ made. made.1 < made.0.roles.sizes.nodes) }
-{
-    let sizes = Sizes::new(1, 0)?;
-    let me = sizes.name(0).ok_or("no node")?;
-    if !sizes.has(me) {
-        return Err("no node".into());
-    }
-    let mut table = RoleTable::new(alloc, sizes);
-    match table.add(2, 0) {
-        Err(TableFault::Memory) => table.add(2, 0)?,
-        added => added?,
-    }
-    let config = Config::new(1, table, limit).ok_or("no configuration")?;
-    Ok((config, me))
-}
-
-/// A node of this cluster that has recorded nothing.
-fn new_node(alloc: Global) -> Result<Node, Fail>
-    ensures { IfOk result (λ node. node.history ≡ []) }
-{
-    let (config, me) = config(alloc, 10)?;
-    Ok(Node::new(alloc, config, me)?)
-}
-
-/// The receipt of the first event, which opened this session.
-fn opening_receipt(session: u64) -> Receipt {
-    Receipt {
-        seat: 1,
-        place: 0,
-        call: Call::Step(OPEN),
-        outcome: Outcome::Reply(Reply::Session(session)),
-    }
-}
-
-/// The session that a receipt says was opened.
-fn session_of(receipt: &Receipt) -> Option<u64> {
-    match receipt.outcome {
-        Outcome::Reply(Reply::Session(session)) => Some(session),
-        _ => None,
-    }
-}
-
-/// Whether a receipt says that a user has no roles.
-fn has_no_roles(receipt: &Receipt) -> bool {
-    match &receipt.outcome {
-        Outcome::Answer(Answer::Roles(roles)) => roles.as_slice().is_empty(),
-        _ => false,
-    }
-}
-
-/// Whether a receipt says that a session has no active role.
-fn has_no_active_role(receipt: &Receipt) -> bool {
-    match &receipt.outcome {
-        Outcome::Answer(Answer::Verdict(verdict)) => *verdict == Verdict::Deny(Rule::NoActiveRole),
-        _ => false,
-    }
-}
-
-/// One of two seats makes three calls; then the node is closed, and audited with other receipts too.
-fn use_a_seat<L: Ledger, R: Wait + Abort>(rt: &R, alloc: Global, blank: Blank) -> Result<(), Fail>
-    requires name { blank.name ≡ L.name }
-    requires parts { (blank.parts ≡ L.parts) × (2 ≡ L.parts) }
-{
-    let (shared, mut seats) = SharedNode::<L>::new(alloc, blank, new_node(alloc)?, 2)?;
-    let Some(mut seat) = seats.pop() else {
-        return Err("no seat".into());
-    };
-    let open = open_a_session(rt, &shared, &mut seat)?;
-    let asked = ask_twice(rt, alloc, &shared, &mut seat)?;
-    let node = close_at_last(shared, seats, seat)?;
-    audit_three(rt, alloc, &node, open, asked)
-}
-
-/// The first call of a node, which opens session 1.
-fn open_a_session<L: Ledger, R: Wait + Abort>(
-    rt: &R,
-    shared: &SharedNode<L>,
-    seat: &mut Seat<L>,
-) -> Result<Receipt, Fail> {
-    let open = shared.node.lock(rt).step(seat, OPEN)?;
-    assert!(rt;
-        (open.seat, open.place) == (1, 0),
-        "the first of seat 1: {open:?}"
-    );
-    assert!(rt; session_of(&open) == Some(1), "session 1: {open:?}");
-    Ok(open)
-}
-
-/// The receipts of two questions after it.
-fn ask_twice<L: Ledger, R: Wait + Abort>(
-    rt: &R,
-    alloc: Global,
-    shared: &SharedNode<L>,
-    seat: &mut Seat<L>,
-) -> Result<Vec<Receipt>, Fail> {
-    let mut asked = Vec::new(alloc);
-    let roles = shared.node.lock(rt).ask(seat, Question::AssignedRoles(7))?;
-    assert!(rt;
-        roles.place == 1 && has_no_roles(&roles),
-        "no roles at 1: {roles:?}"
-    );
-    asked.push(roles)?;
-    let check = shared.node.lock(rt).ask(seat, CHECK)?;
-    assert!(rt;
-        check.place == 1 && has_no_active_role(&check),
-        "no active role at 1: {check:?}"
-    );
-    asked.push(check)?;
-    Ok(asked)
-}
-
-/// Closes a node without one of its seats, and then with it.
-fn close_at_last<L: Ledger>(
-    shared: SharedNode<L>,
-    seats: Vec<Seat<L>>,
-    seat: Seat<L>,
-) -> Result<Node, Fail> {
-    let Err(CloseFault::SeatMissing { node, mut seats }) = close(shared, seats) else {
-        return Err("closed without a seat".into());
-    };
-    seats.push(seat)?;
-    let Ok(node) = close(node, seats) else {
-        return Err("not closed".into());
-    };
-    Ok(node)
-}
-
-/// The three receipts are true as they came and from the last to the first; with the first one altered, left out or
-/// doubled they are not.
-fn audit_three(
-    rt: &impl Abort,
-    alloc: Global,
-    node: &Node,
-    open: Receipt,
-    mut receipts: Vec<Receipt>,
-) -> Result<(), Fail> {
-    let found = audit(alloc, node, &receipts);
-    assert!(rt;
-        found == Err(AuditFault::Missing(0)),
-        "the first is left out: {found:?}"
-    );
-    receipts.push(opening_receipt(2))?;
-    let found = audit(alloc, node, &receipts);
-    assert!(rt;
-        found == Err(AuditFault::Differs(0)),
-        "the first is altered: {found:?}"
-    );
-    let _altered = receipts.pop();
-    receipts.push(open)?;
-    let found = audit(alloc, node, &receipts);
-    assert!(rt; found == Ok(()), "all three: {found:?}");
-    receipts.push(opening_receipt(1))?;
-    let found = audit(alloc, node, &receipts);
-    assert!(rt;
-        found == Err(AuditFault::Doubled(0)),
-        "the first is doubled: {found:?}"
-    );
-    let _doubled = receipts.pop();
-    receipts.reverse();
-    let found = audit(alloc, node, &receipts);
-    assert!(rt; found == Ok(()), "from the last to the first: {found:?}");
-    Ok(())
-}
-
-#[test]
-fn a_seats_receipts_are_audited(rt: HostRuntime) -> Result<(), Fail> {
-    use_a_seat::<Brand, HostRuntime>(&rt, rt.alloc(), Blank::new(2))
-}
-
-/// The only seat of a new node issues a command in a hold, which reads what the node sends for it.
-fn issue_in_a_hold<L: Ledger, R: Wait + Abort>(
-    rt: &R,
-    alloc: Global,
-    blank: Blank,
-) -> Result<(), Fail>
-    requires name { blank.name ≡ L.name }
-    requires parts { (blank.parts ≡ L.parts) × (1 ≡ L.parts) }
-{
-    let owner = Sizes::new(1, 0)?.name(0).ok_or("no node")?;
-    let (shared, mut seats) = SharedNode::<L>::new(alloc, blank, new_node(alloc)?, 1)?;
-    let Some(mut seat) = seats.pop() else {
-        return Err("no seat".into());
-    };
-    issue(rt, &shared, &mut seat, owner)
-}
-
-/// The hold, which issues the command and reads its place. The node's own ECHO of it is its last vote then.
-fn issue<L: Ledger, R: Wait + Abort>(
-    rt: &R,
-    shared: &SharedNode<L>,
-    seat: &mut Seat<L>,
-    owner: NodeName,
-) -> Result<(), Fail> {
-    let mut node = shared.node.lock(rt);
-    if !node.has(owner) {
-        return Err("no node".into());
-    }
-    let issue = Some(Call::Step(Event::Issue(ASSIGN)));
-    let (receipt, view) = node.hold(seat, issue, owner, 0)?;
-    assert!(rt;
-        receipt.map(|receipt| receipt.place) == Some(0),
-        "the command is issued at place 0"
-    );
-    assert!(rt; (view.at, view.reach) == (1, 0), "at 1, reach 0: {view:?}");
-    assert!(rt;
-        view.again.send == Some(ASSIGN),
-        "the command is sent: {view:?}"
-    );
-    let echo = Message {
-        kind: Kind::Echo,
-        owner,
-        place: 0,
-        command: ASSIGN,
-    };
-    let packet = Packet::new(owner, owner, echo).ok_or("no packet")?;
-    let _taken = node.step(seat, Event::Take(packet))?;
-    if node.has(owner) {
-        assert!(rt;
-            node.last_vote(owner, owner) == Some(0),
-            "the vote is at place 0"
-        );
-    }
-    Ok(())
-}
-
-#[test]
-fn a_hold_reads_the_view_after_its_call(rt: HostRuntime) -> Result<(), Fail> {
-    issue_in_a_hold::<Brand, HostRuntime>(&rt, rt.alloc(), Blank::new(1))
-}
 
 /// A job of this number.
 fn job(number: u32) -> Job {
@@ -384,6 +136,56 @@ fn a_full_inbox_hands_the_job_back(rt: HostRuntime) -> Result<(), Fail> {
     Ok(())
 }
 
+/// The most turns that a gate waits.
+const PATIENCE: u32 = 200_000_000;
+
+/// The configuration of a cluster of one node, which records so many events, and its node's name.
+fn config(alloc: Global, limit: u32) -> Result<(Config, NodeName), Fail>
+    ensures { IfOk result (λ made. made.1 < made.0.roles.sizes.nodes) }
+{
+    let sizes = Sizes::new(1, 0)?;
+    let me = sizes.name(0).ok_or("no node")?;
+    if !sizes.has(me) {
+        return Err("no node".into());
+    }
+    let table = RoleTable::new(alloc, sizes);
+    let config = Config::new(1, table, limit).ok_or("no configuration")?;
+    Ok((config, me))
+}
+
+/// The calls that open a session for each of so many users.
+fn openings(alloc: Global, users: u32) -> Result<Vec<Call>, AllocError> {
+    let mut calls = room_for(alloc, users)?;
+    for user in 0..users {
+        calls.push(Call::Step(Event::Client(ClientEvent::Open { user })))?;
+    }
+    Ok(calls)
+}
+
+/// No calls, with room for so many, made again where memory was wanting.
+fn room_for(alloc: Global, users: u32) -> Result<Vec<Call>, AllocError> {
+    match Vec::with_capacity(alloc, users as usize) {
+        Ok(calls) => Ok(calls),
+        Err(_) => Vec::with_capacity(alloc, users as usize),
+    }
+}
+
+/// The session that a receipt says was opened.
+fn session_of(receipt: &Receipt) -> Option<u64> {
+    match receipt.outcome {
+        Outcome::Reply(Reply::Session(session)) => Some(session),
+        _ => None,
+    }
+}
+
+/// The user for whom a receipt's call opens a session.
+fn user_of(receipt: &Receipt) -> Option<u32> {
+    match receipt.call {
+        Call::Step(Event::Client(ClientEvent::Open { user })) => Some(user),
+        _ => None,
+    }
+}
+
 /// A gate in which each call waits until both have entered, and call 0 then until call 1 has left.
 #[derive(Drop)]
 struct Meeting {
@@ -420,66 +222,106 @@ impl Gate for Meeting {
     }
 }
 
+/// What workers report that make so many openings.
+fn report_of<G: Gate, R: Threads + Wait + Sync>(
+    rt: &R,
+    alloc: Global,
+    users: u32,
+    workers: u8,
+    gate: &G,
+) -> Result<PoolReport, Fail>
+    requires { (1 ≤ workers) × (workers ≤ most_seats) }
+{
+    let (config, me) = config(alloc, users)?;
+    let calls = openings(alloc, users)?;
+    if calls.len() > MOST_CALLS {
+        return Err("too many calls".into());
+    }
+    Ok(run_pool(rt, alloc, config, me, calls, workers, gate)?)
+}
+
+/// Whether the receipt at this place of a report says that it opened this session, at this place of the history.
+fn says(report: &PoolReport, call: usize, place: u32, session: u64) -> bool {
+    match report.receipts.get(call) {
+        Some(receipt) => receipt.place == place && session_of(receipt) == Some(session),
+        None => false,
+    }
+}
+
 #[test]
 fn two_workers_run_at_once(rt: HostRuntime) -> Result<(), Fail> {
-    let alloc = rt.alloc();
-    let (config, me) = config(alloc, 10)?;
-    let mut calls = Vec::new(alloc);
-    calls.push(Call::Step(OPEN))?;
-    calls.push(Call::Step(OPEN_OTHER))?;
     let gate = Meeting {
         entered: AtomicU32::new(0),
         left: AtomicU32::new(0),
         late: AtomicU32::new(0),
     };
-    let PoolReport {
-        receipts,
-        recorded,
-        node,
-    } = run_pool(&rt, alloc, config, me, calls, 2, &gate)?;
-    assert!(rt; gate.late.load(Ordering::SeqCst) == 0);
-    assert!(rt; node.history().len() == 2 && receipts.len() == 2);
-    let (first, second) = (&receipts[0], &receipts[1]);
+    let report = report_of(&rt, rt.alloc(), 2, 2, &gate)?;
+    assert!(rt; gate.late.load(Ordering::SeqCst) == 0, "both are at work");
+    assert!(rt; says(&report, 1, 0, 1), "call 1 is the first");
+    assert!(rt; says(&report, 0, 1, 2), "call 0 is the second");
     assert!(rt;
-        second.place == 0 && session_of(second) == Some(1),
-        "call 1 is the first: {second:?}"
+        report.recorded.as_slice() == [1, 1].as_slice(),
+        "one of each worker"
+    );
+    assert!(rt; report.node.events() == 2 && report.receipts.len() == 2);
+    Ok(())
+}
+
+#[test]
+fn a_pool_runs_more_calls_than_an_inbox_takes(rt: HostRuntime) -> Result<(), Fail> {
+    let report = report_of(&rt, rt.alloc(), 2_500, 8, &NoGate)?;
+    assert!(rt; report.receipts.len() == 2_500 && report.recorded.len() == 8);
+    assert!(rt;
+        first_other(&report.receipts) == None,
+        "a receipt is another user's"
     );
     assert!(rt;
-        first.place == 1 && session_of(first) == Some(2),
-        "call 0 is the second: {first:?}"
-    );
-    assert!(rt;
-        recorded.as_slice() == [1, 1].as_slice(),
-        "one of each worker: {recorded:?}"
+        sum_of(&report.recorded) == 2_500,
+        "the workers recorded all"
     );
     Ok(())
 }
 
-/// The calls that open a session for each of so many users.
-fn openings(alloc: Global, users: u32) -> Result<Vec<Call>, Fail> {
-    let mut calls = match Vec::with_capacity(alloc, users as usize) {
-        Ok(calls) => calls,
-        Err(_) => Vec::with_capacity(alloc, users as usize)?,
-    };
-    for user in 0..users {
-        calls.push(Call::Step(Event::Client(ClientEvent::Open { user })))?;
+/// The first receipt that is not of the user with its number.
+fn first_other(receipts: &[Receipt]) -> Option<u32> {
+    for (receipt, user) in receipts.iter().zip(0..2_500) {
+        if user_of(receipt) != Some(user) {
+            return Some(user);
+        }
     }
-    Ok(calls)
+    None
+}
+
+fn sum_of(counts: &[u32]) -> u32 {
+    let mut sum = 0u32;
+    for count in counts {
+        sum = sum.wrapping_add(*count);
+    }
+    sum
 }
 
 /// Has two workers make two calls, and audits their receipts. False where memory was wanting, and nothing else.
-fn runs_two_calls<R: Threads + Wait + Abort + Sync>(rt: &R, alloc: Global) -> Result<bool, Fail> {
+fn runs_two_calls<R: Threads + Wait + Sync>(rt: &R, alloc: Global) -> Result<bool, Fail> {
     let (config, me) = config(alloc, 10)?;
-    let calls = openings(alloc, 2)?;
-    assert!(rt; calls.len() == 2);
+    let Ok(calls) = openings(alloc, 2) else {
+        return Ok(false);
+    };
+    if calls.len() > MOST_CALLS {
+        return Err("too many calls".into());
+    }
     match run_pool(rt, alloc, config, me, calls, 2, &NoGate) {
-        Ok(report) => match audit(alloc, &report.node, &report.receipts) {
-            Ok(()) => Ok(true),
-            Err(AuditFault::Memory) => Ok(false),
-            Err(_) => Err("the audit fails".into()),
-        },
+        Ok(report) => is_true(alloc, &report),
         Err(PoolFault::Memory | PoolFault::WorkerFailed(Cause::Memory)) => Ok(false),
         Err(_) => Err("the pool fails".into()),
+    }
+}
+
+/// Whether an audit finds a report's receipts true. False where memory was wanting, and nothing else.
+fn is_true(alloc: Global, report: &PoolReport) -> Result<bool, Fail> {
+    match audit(alloc, &report.node, &report.receipts) {
+        Ok(()) => Ok(true),
+        Err(AuditFault::Memory) => Ok(false),
+        Err(_) => Err("the audit fails".into()),
     }
 }
 
@@ -487,36 +329,5 @@ fn runs_two_calls<R: Threads + Wait + Abort + Sync>(rt: &R, alloc: Global) -> Re
 fn a_pool_ends_well_or_wants_memory(rt: HostRuntime) -> Result<(), Fail> {
     let first = runs_two_calls(&rt, rt.alloc())?;
     assert!(rt; first || runs_two_calls(&rt, rt.alloc())?);
-    Ok(())
-}
-
-/// The user for whom a receipt's call opens a session.
-fn user_of(receipt: &Receipt) -> Option<u32> {
-    match receipt.call {
-        Call::Step(Event::Client(ClientEvent::Open { user })) => Some(user),
-        _ => None,
-    }
-}
-
-#[test]
-fn a_pool_runs_more_calls_than_an_inbox_takes(rt: HostRuntime) -> Result<(), Fail> {
-    let alloc = rt.alloc();
-    let (config, me) = config(alloc, 2_500)?;
-    let calls = openings(alloc, 2_500)?;
-    assert!(rt; calls.len() == 2_500);
-    let report = run_pool(&rt, alloc, config, me, calls, 8, &NoGate)?;
-    assert!(rt; report.receipts.len() == 2_500 && report.recorded.len() == 8);
-    for (receipt, user) in report.receipts.iter().zip(0..2_500) {
-        assert!(rt;
-            user_of(receipt) == Some(user),
-            "receipt {user} of {:?}",
-            receipt.call
-        );
-    }
-    let mut sum = 0u32;
-    for count in &report.recorded {
-        sum = sum.wrapping_add(*count);
-    }
-    assert!(rt; sum == 2_500, "{:?} recorded", report.recorded);
     Ok(())
 }

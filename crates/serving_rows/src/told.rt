@@ -1,0 +1,175 @@
+//! Rows of what an operator hears: how it is written.
+
+use operator_lines::*;
+use role_commands::numbers::{long_number, wide_number};
+use role_commands::{Command, Items};
+use row_words::{RowFault, Words, text_of};
+use std::alloc::Global;
+
+/// What is told of a node, its journal and its peers, as far as rows have said it.
+#[derive(Drop)]
+pub struct Told {
+    at: u32,
+    limit: u32,
+    published: u32,
+    sessions: u32,
+    unopened: u64,
+    reaches: Vec<u32>,
+    journal: Option<JournalStanding>,
+    peers: Vec<Option<PeerStanding>>,
+}
+
+/// `told AT LIMIT PUBLISHED SESSIONS UNOPENED`
+pub fn begin(alloc: Global, words: &mut Words<'_>) -> Result<Told, RowFault> {
+    Ok(Told {
+        at: words.wide()?,
+        limit: words.wide()?,
+        published: words.wide()?,
+        sessions: words.wide()?,
+        unopened: words.long()?,
+        reaches: Vec::new(alloc),
+        journal: None,
+        peers: Vec::new(alloc),
+    })
+}
+
+pub fn answer(alloc: Global, told: &mut Told, line: &str) -> Result<String, RowFault> {
+    let mut words = Words::new(line);
+    match words.word() {
+        "reaches" => reaches(alloc, told, &mut words),
+        "journal" => journal(alloc, told, &mut words),
+        "myself" => peer(alloc, told, None),
+        "peer" => peer(alloc, told, Some(peer_of(&mut words)?)),
+        "status" => status(alloc, told),
+        "command" => command(alloc, Some(words.command()?)),
+        "no-command" => command(alloc, None),
+        "open-sessions" => sessions(alloc, told.at, &mut words),
+        "bad" => bad(alloc, &mut words),
+        _ => Err(RowFault::BadRow),
+    }
+}
+
+/// Some numbers that tell whether anything has changed.
+pub fn seen(told: &Told) -> [u64; 3] {
+    [
+        told.reaches.len() as u64,
+        told.peers.len() as u64,
+        u64::from(told.journal.is_some()),
+    ]
+}
+
+/// `reaches REACH`: the next owner's stream reaches so far.
+fn reaches(alloc: Global, told: &mut Told, words: &mut Words<'_>) -> Result<String, RowFault> {
+    told.reaches.push(words.wide()?)?;
+    text_of(alloc, &"ok")
+}
+
+/// `journal SYNCS LAST MEAN WORST SOUND`
+fn journal(alloc: Global, told: &mut Told, words: &mut Words<'_>) -> Result<String, RowFault> {
+    let times = SyncTimes {
+        syncs: words.long()?,
+        last: words.long()?,
+        mean: words.long()?,
+        worst: words.long()?,
+    };
+    let sound = yes_of(words)?;
+    told.journal = Some(JournalStanding { times, sound });
+    text_of(alloc, &"ok")
+}
+
+fn yes_of(words: &mut Words<'_>) -> Result<bool, RowFault> {
+    match words.word() {
+        "yes" => Ok(true),
+        "no" => Ok(false),
+        _ => Err(RowFault::BadRow),
+    }
+}
+
+/// `myself`, or `peer CONNECTED HEARD WAITING AGAIN LOST UNOPENED`
+fn peer(alloc: Global, told: &mut Told, peer: Option<PeerStanding>) -> Result<String, RowFault> {
+    told.peers.push(peer)?;
+    text_of(alloc, &"ok")
+}
+
+fn peer_of(words: &mut Words<'_>) -> Result<PeerStanding, RowFault> {
+    Ok(PeerStanding {
+        connected: yes_of(words)?,
+        heard: yes_of(words)?,
+        waiting: words.wide()?,
+        again: words.long()?,
+        lost: words.long()?,
+        unopened: words.long()?,
+    })
+}
+
+/// `status`: all that was said.
+fn status(alloc: Global, told: &Told) -> Result<String, RowFault> {
+    let node = standing(alloc, told)?;
+    let peers = Items::new(told.peers.to_vec(alloc)?);
+    let status = Status {
+        node,
+        journal: told.journal,
+        peers,
+        unopened: told.unopened,
+    };
+    Ok(operator_text(alloc, &OperatorAnswer::Status(status))?)
+}
+
+fn standing(alloc: Global, told: &Told) -> Result<NodeStanding, RowFault> {
+    Ok(NodeStanding {
+        at: told.at,
+        limit: told.limit,
+        published: told.published,
+        sessions: told.sessions,
+        reaches: Items::new(told.reaches.to_vec(alloc)?),
+    })
+}
+
+/// `command COMMAND`, or `no-command`
+fn command(alloc: Global, command: Option<Command>) -> Result<String, RowFault> {
+    Ok(operator_text(alloc, &OperatorAnswer::Command(command))?)
+}
+
+/// `open-sessions SESSION:USER ..`
+fn sessions(alloc: Global, at: u32, words: &mut Words<'_>) -> Result<String, RowFault> {
+    let sessions = Items::new(sessions_of(alloc, words)?);
+    let answer = OperatorAnswer::Sessions { at, sessions };
+    Ok(operator_text(alloc, &answer)?)
+}
+
+fn sessions_of(alloc: Global, words: &mut Words<'_>) -> Result<Vec<(u64, u32)>, RowFault> {
+    let mut sessions = Vec::new(alloc);
+    for _ in 0..u16::MAX {
+        if words.is_done() {
+            return Ok(sessions);
+        }
+        sessions.push(session_of(words.word())?)?;
+    }
+    Err(RowFault::BadRow)
+}
+
+fn session_of(word: &str) -> Result<(u64, u32), RowFault> {
+    let (session, user) = word.split_once(':').ok_or(RowFault::BadRow)?;
+    let session = long_number(session).ok_or(RowFault::BadRow)?;
+    let user = wide_number(user).ok_or(RowFault::BadRow)?;
+    Ok((session, user))
+}
+
+/// `bad CODE MEMBER`: the line is no request.
+fn bad(alloc: Global, words: &mut Words<'_>) -> Result<String, RowFault> {
+    let fault = match words.word() {
+        "J5" => OperatorFault::Missing(member_of(words.word())?),
+        "J6" => OperatorFault::OutOfRange(member_of(words.word())?),
+        _ => return Err(RowFault::BadRow),
+    };
+    Ok(operator_text(alloc, &OperatorAnswer::BadLine(fault))?)
+}
+
+fn member_of(name: &str) -> Result<OperatorMember, RowFault> {
+    match name {
+        "owner" => Ok(OperatorMember::Owner),
+        "place" => Ok(OperatorMember::Place),
+        "from" => Ok(OperatorMember::From),
+        _ => Err(RowFault::BadRow),
+    }
+}
