@@ -16,14 +16,9 @@ const COMMANDS: u32 = 40_000;
 pub fn run(alloc: Global, seed: u32, share: u32) -> Result<Digest> {
     let mut sample = Sample::new(seed, 5);
     let mut digest = Digest::new();
+    let commands = part(COMMANDS, share);
     for order in 0..6 {
-        audit_one(
-            alloc,
-            &mut sample,
-            part(COMMANDS, share),
-            order,
-            &mut digest,
-        )?;
+        audit_one(alloc, &mut sample, commands, order, &mut digest)?;
     }
     Ok(digest)
 }

@@ -59,9 +59,10 @@ pub fn run(alloc: Global, seed: u32, share: u32) -> Result<Digest> {
 
 /// Fills a registry, and asks it for its listings.
 fn list_one(alloc: Global, sample: &mut Sample, share: u32, digest: &mut Digest) -> Result<()> {
+    let node = lone_node(alloc, ROLES)?;
     let mut registry = Registry {
         alloc,
-        node: lone_node(alloc, ROLES)?,
+        node,
         client: Client::new(alloc),
         line: Line::new(alloc),
         sample,
@@ -95,16 +96,22 @@ impl Registry<'_> {
     fn assign(&mut self, users: u32) -> Result<()> {
         let mut roles = Deck::new(self.alloc, u32::from(ROLES))?;
         for user in 0..users {
-            roles.ready(ROLES_OF_USER);
-            let mut mine = Vec::new(self.alloc);
-            for _ in 0..ROLES_OF_USER {
-                let role = roles.role(self.sample);
-                mine.push(role)?;
-                self.publish(Command::Assign { user, role })?;
-            }
+            let mine = self.assign_to(user, &mut roles)?;
             self.roles_of.push(mine)?;
         }
         Ok(())
+    }
+
+    /// Gives a user roles of the deck: these.
+    fn assign_to(&mut self, user: u32, roles: &mut Deck) -> Result<Vec<u16>> {
+        let mut mine = Vec::new(self.alloc);
+        roles.ready(ROLES_OF_USER);
+        for _ in 0..ROLES_OF_USER {
+            let role = roles.role(self.sample);
+            mine.push(role)?;
+            self.publish(Command::Assign { user, role })?;
+        }
+        Ok(mine)
     }
 
     /// Gives the roles their permissions, those of a role on objects that differ.
@@ -129,30 +136,39 @@ impl Registry<'_> {
     fn ask_of_users(&mut self, users: u32) -> Result<()> {
         let mut deck = Deck::new(self.alloc, users)?;
         for number in 0..users {
-            let user = u64::from(deck.deal(self.sample));
-            self.ask("assigned_roles", &[("user", user)])?;
-            if number % 8 == 0 {
-                self.ask("user_permissions", &[("user", user)])?;
-            }
-            if number % 8 == 4 {
-                let object = u64::from(self.sample.below(OBJECTS));
-                self.ask("user_operations", &[("user", user), ("object", object)])?;
-            }
+            let user = deck.deal(self.sample);
+            self.ask_of_user(number, u64::from(user))?;
         }
         Ok(())
+    }
+
+    fn ask_of_user(&mut self, number: u32, user: u64) -> Result<()> {
+        self.ask("assigned_roles", &[("user", user)])?;
+        match number % 8 {
+            0 => self.ask("user_permissions", &[("user", user)]),
+            4 => {
+                let object = u64::from(self.sample.below(OBJECTS));
+                self.ask("user_operations", &[("user", user), ("object", object)])
+            }
+            _ => Ok(()),
+        }
     }
 
     /// The users and permissions of each role, and its operations on some objects.
     fn ask_of_roles(&mut self) -> Result<()> {
         for role in 0..ROLES {
-            let role = u64::from(role);
-            self.ask("assigned_users", &[("role", role)])?;
-            self.ask("role_permissions", &[("role", role)])?;
-            self.objects.ready(OBJECTS_OF_ROLE);
-            for _ in 0..OBJECTS_OF_ROLE {
-                let object = u64::from(self.objects.deal(self.sample));
-                self.ask("role_operations", &[("role", role), ("object", object)])?;
-            }
+            self.ask_of_role(u64::from(role))?;
+        }
+        Ok(())
+    }
+
+    fn ask_of_role(&mut self, role: u64) -> Result<()> {
+        self.ask("assigned_users", &[("role", role)])?;
+        self.ask("role_permissions", &[("role", role)])?;
+        self.objects.ready(OBJECTS_OF_ROLE);
+        for _ in 0..OBJECTS_OF_ROLE {
+            let object = u64::from(self.objects.deal(self.sample));
+            self.ask("role_operations", &[("role", role), ("object", object)])?;
         }
         Ok(())
     }
@@ -162,14 +178,20 @@ impl Registry<'_> {
         let mut deck = Deck::new(self.alloc, users)?;
         for _ in 0..sessions {
             let user = deck.deal(self.sample);
-            let session = open(&mut self.node, user)?;
-            let mine = self.roles_of.get(user as usize).context("no user")?;
-            for role in mine.iter().take(ROLES_OF_SESSION as usize) {
-                activate(&mut self.node, session, user, *role)?;
-            }
+            let session = self.open_for(user)?;
             self.ask("session_roles", &[("session", session)])?;
             self.ask("session_permissions", &[("session", session)])?;
         }
         Ok(())
+    }
+
+    /// A session of the user, in which the user's first roles are active.
+    fn open_for(&mut self, user: u32) -> Result<u64> {
+        let session = open(&mut self.node, user)?;
+        let mine = self.roles_of.get(user as usize).context("no user")?;
+        for role in mine.iter().take(ROLES_OF_SESSION as usize) {
+            activate(&mut self.node, session, user, *role)?;
+        }
+        Ok(session)
     }
 }
