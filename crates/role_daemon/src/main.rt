@@ -93,6 +93,8 @@ mod serve_help;
 #[cfg(test)]
 mod serve_tests;
 #[cfg(test)]
+mod serve_texts;
+#[cfg(test)]
 mod serve_trials;
 #[cfg(test)]
 mod tests;
