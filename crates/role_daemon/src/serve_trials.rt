@@ -1,5 +1,6 @@
 //! A node over TCP, whose clients and peers do not do as they should.
 
+use crate::serve_frames::{flipped_frames, random_frames};
 use crate::serve_help::{
     AGAIN, FRAME, MOST_LOOKS, PATIENCE, STOP, answer_to, answers, answers_at_once, are_taken, ask,
     connected, connected_saying, echoes, is_closed, is_kept, listeners, local, ports_of, say,
@@ -7,7 +8,7 @@ use crate::serve_help::{
 };
 use crate::serve_texts::{answers_of_users, lines_of_users, text_of};
 use link_frames::{FRAME_LEN, Frame};
-use std::alloc::{AllocError, Global};
+use std::alloc::Global;
 use std::io::{BufRead, BufReader, Read, Write};
 use std::net::{Net, TcpListener, TcpStream};
 use std::sync::Wait;
@@ -16,17 +17,12 @@ use std::thread;
 use std::thread::Threads;
 use std::time::{Clock, Duration};
 
-ghost use Rattle.std.specs.Prelude.{◌≤◌};
-
 const OPEN: &[u8] = b"{\"op\":\"open\",\"user\":7}\n";
 
 /// A check whose answer says how many events the node has recorded.
 const CHECK: &[u8] = b"{\"op\":\"check\",\"session\":1,\"user\":7,\"operation\":5,\"object\":9}\n";
 
 const ASSIGN: &[u8] = b"{\"op\":\"assign\",\"user\":7,\"role\":2}\n";
-
-/// How many bytes of a frame are before its tag.
-const UNTAGGED: usize = FRAME_LEN - 32;
 
 /// What a node is put through.
 #[derive(Clone, Copy)]
@@ -321,49 +317,6 @@ where
     }
     let taken = are_taken(rt, place.peers, &FRAME)?;
     Ok(taken && answers(alloc, &stream, AGAIN, "{\"again\":1}\n")?)
-}
-
-/// The next of some numbers that look random.
-fn next_number(number: u64) -> u64 {
-    let left = number ^ number.wrapping_shl(13);
-    let right = left ^ (left >> 7);
-    right ^ right.wrapping_shl(17)
-}
-
-/// The good frame up to a place, behind which it looks random.
-fn random_frame(begin: usize, number: &mut u64) -> Frame
-    requires { begin ≤ 54 }
-{
-    let mut frame = FRAME;
-    for byte in &mut frame[begin..] {
-        *number = next_number(*number);
-        *byte = (*number % 256) as u8;
-    }
-    frame
-}
-
-/// Ten thousand frames that look random. Every other begins as the good one does, so that only its tag is wrong.
-fn random_frames(alloc: Global) -> Result<Vec<u8>, AllocError> {
-    let mut bytes = Vec::new(alloc);
-    let mut number = 88_172_645_463_325_252;
-    for index in 0..10_000u32 {
-        let begin = if index % 2 == 0 { 0 } else { UNTAGGED };
-        bytes.extend_from_slice(&random_frame(begin, &mut number))?;
-    }
-    Ok(bytes)
-}
-
-/// The good frame once for each of its bits, which is another there.
-fn flipped_frames(alloc: Global) -> Result<Vec<u8>, AllocError> {
-    let mut bytes = Vec::new(alloc);
-    for at in 0..FRAME_LEN {
-        for bit in 0..8u32 {
-            let mut frame = FRAME;
-            frame[at] ^= 1u8 << bit;
-            bytes.extend_from_slice(&frame)?;
-        }
-    }
-    Ok(bytes)
 }
 
 /// Whether the node does as it should.
