@@ -65,7 +65,7 @@ pub enum Asked {
 }
 
 /// What all words that are left ask.
-pub fn asked(words: &mut Words<'_>) -> Result<Asked, RowFault> {
+pub fn read_asked(words: &mut Words<'_>) -> Result<Asked, RowFault> {
     match words.word() {
         "" => Ok(Asked::Nothing),
         "view" => Ok(Asked::View(words.wide()?)),

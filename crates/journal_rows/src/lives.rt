@@ -1,7 +1,7 @@
 //! Rows of a node that is kept: of lives, each of which restores it from the file and goes on.
 
 use crate::batches::record;
-use crate::events::{Asked, asked, event_of};
+use crate::events::{Asked, event_of, read_asked};
 use crate::files::{PATH, bytes, unopened, write};
 use crate::life::{Course, live};
 use crate::node::{KEY, config, sizes};
@@ -10,7 +10,7 @@ use batch_journal::{Journal, JournalFault};
 use kept_node::head_of;
 use role_node::{ClientEvent, Event};
 use row_words::{RowFault, Words, text_of};
-use sqlite_disk::{Files, Fuse};
+use sqlite_disk::{Disk, Files, Fuse};
 use sqlite_std_file::{Unknown, open};
 use std::alloc::{AllocError, Global};
 
@@ -84,7 +84,7 @@ fn begin(rt: &HostRuntime, words: &mut Words<'_>) -> Result<String, RowFault> {
     }
 }
 
-fn with_batch<D: sqlite_disk::Disk>(
+fn with_batch<D: Disk>(
     alloc: Global,
     journal: &mut Journal<D>,
     digits: &[u8],
@@ -111,7 +111,7 @@ fn life(rt: &HostRuntime, rows: &Lives, words: &mut Words<'_>) -> Result<String,
     let many = words.wide()?;
     let course = Course {
         many,
-        asked: asked(words)?,
+        asked: read_asked(words)?,
     };
     match open(rt, PATH, Unknown) {
         Ok(files) => live(rt.alloc(), files, rows.events.as_slice(), course),

@@ -24,7 +24,7 @@ pub fn answer(
 ) -> Result<String, RowFault> {
     match name {
         "cuts" => sweep(rt, rows, Change::Cut, words),
-        "flips" => sweep(rt, rows, Change::Flip(0), words),
+        "flips" => sweep(rt, rows, Change::Flip(2), words),
         "zeros" => sweep(rt, rows, Change::Zero, words),
         _ => fuses(rt, rows, words),
     }
@@ -50,9 +50,9 @@ pub fn write_changed(
     written
 }
 
-/// The places that a sweep goes over, and whether each trial opens the file or reads the bytes alone.
+/// The places that are gone over, and whether each trial opens the file or reads the bytes alone.
 #[derive(Clone, Copy)]
-struct Sweep {
+struct Places {
     opens: bool,
     from: u32,
     to: u32,
@@ -60,7 +60,7 @@ struct Sweep {
 }
 
 /// `read FROM TO STEP`, or `open` in the place of `read`.
-fn sweep_of(words: &mut Words<'_>) -> Result<Sweep, RowFault> {
+fn places_of(words: &mut Words<'_>) -> Result<Places, RowFault> {
     let opens = match words.word() {
         "open" => true,
         "read" => false,
@@ -69,7 +69,7 @@ fn sweep_of(words: &mut Words<'_>) -> Result<Sweep, RowFault> {
     let from = words.wide()?;
     let to = words.wide()?;
     let step = words.wide()?;
-    Ok(Sweep {
+    Ok(Places {
         opens,
         from,
         to,
@@ -84,17 +84,17 @@ fn sweep(
     change: Change,
     words: &mut Words<'_>,
 ) -> Result<String, RowFault> {
-    let sweep = sweep_of(words)?;
+    let places = places_of(words)?;
     let mut runs = Runs::new(rt.alloc());
-    for at in sweep.from..=sweep.to {
-        if sweep.step == 0 || (at - sweep.from) % sweep.step == 0 {
-            try_at(rt, rows, sweep.opens, change, at as usize, &mut runs)?;
+    for at in places.from..=places.to {
+        if (at - places.from) % places.step.max(1) == 0 {
+            try_at(rt, rows, places.opens, change, at as usize, &mut runs)?;
         }
     }
     Ok(runs.into_text()?)
 }
 
-/// The trials at one place: one, or one for each bit.
+/// The trials at one place: one, or where bytes are read one for each bit.
 fn try_at(
     rt: &HostRuntime,
     rows: &mut Batches,
@@ -103,13 +103,14 @@ fn try_at(
     at: usize,
     runs: &mut Runs,
 ) -> Result<(), RowFault> {
-    if let Change::Flip(_) = change {
-        for bit in 0..8u32 {
-            runs.push(at, try_one(rt, rows, opens, Change::Flip(bit), at)?)?;
+    match change {
+        Change::Flip(_) if !opens => {
+            for bit in 0..8u32 {
+                runs.push(at, try_one(rt, rows, opens, Change::Flip(bit), at)?)?;
+            }
         }
-        return Ok(());
+        _ => runs.push(at, try_one(rt, rows, opens, change, at)?)?,
     }
-    runs.push(at, try_one(rt, rows, opens, change, at)?)?;
     Ok(())
 }
 
