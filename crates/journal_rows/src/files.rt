@@ -25,7 +25,10 @@ pub fn fault_of(error: io::Error) -> RowFault {
 
 /// Makes the folder anew.
 pub fn clear(rt: &HostRuntime) -> Result<(), RowFault> {
-    let _ = fs::remove_dir_all(rt, FOLDER);
+    match fs::remove_dir_all(rt, FOLDER) {
+        Err(error) if error.kind() != io::ErrorKind::NotFound => return Err(fault_of(error)),
+        _ => {}
+    }
     fs::create_dir(rt, FOLDER).map_err(fault_of)
 }
 
