@@ -6,8 +6,8 @@ use crate::runs::{digits, digits_text};
 use crate::trials;
 use batch_journal::{Head, Journal, JournalFault, MOST_DIGITS, are_digits, read};
 use row_words::{RowFault, Words, text_of};
-use sqlite_std_file::{File, Unknown, open};
 use sqlite_disk::Disk;
+use sqlite_std_file::{File, Unknown, open};
 use std::alloc::{AllocError, Global};
 
 /// What a journal is opened with, the journal that is open, and bytes of its file that are kept.

@@ -3,8 +3,7 @@
 use row_words::{RowFault, text_of};
 use sqlite_std_file::OpenError;
 use std::alloc::Global;
-use std::fs;
-use std::io;
+use std::{fs, io};
 
 const FOLDER: &str = "row_journal";
 

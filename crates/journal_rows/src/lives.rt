@@ -134,12 +134,7 @@ fn fuses(rt: &HostRuntime, rows: &Lives, words: &mut Words<'_>) -> Result<String
     Ok(runs.into_text()?)
 }
 
-fn two_lives(
-    rt: &HostRuntime,
-    rows: &Lives,
-    calls: u64,
-    many: u32,
-) -> Result<String, RowFault> {
+fn two_lives(rt: &HostRuntime, rows: &Lives, calls: u64, many: u32) -> Result<String, RowFault> {
     let first = fused(rt, rows, calls, many)?;
     let next = match open(rt, PATH, Unknown) {
         Ok(files) => live(rt.alloc(), files, &[], silent(1))?,

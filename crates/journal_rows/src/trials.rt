@@ -162,11 +162,7 @@ fn opened(rt: &HostRuntime, rows: &Batches) -> Result<String, RowFault> {
 
 /// `fuses FROM TO`: the kept bytes are opened and two batches of five digits recorded, where each call of the disk
 /// fails from this one on. How many of the two were synced, and the digits that are found then.
-fn fuses(
-    rt: &HostRuntime,
-    rows: &mut Batches,
-    words: &mut Words<'_>,
-) -> Result<String, RowFault> {
+fn fuses(rt: &HostRuntime, rows: &mut Batches, words: &mut Words<'_>) -> Result<String, RowFault> {
     let from = words.wide()?;
     let to = words.wide()?;
     let mut runs = Runs::new(rt.alloc());

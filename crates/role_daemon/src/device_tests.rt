@@ -151,7 +151,10 @@ fn each_write_fails_in_turn(rt: HostRuntime) {
     let writes = calls_that_cut(rt.alloc(), Calls::Writes);
     assert!(rt; writes == Some(1), "{writes:?} writes");
     let short = calls_that_cut(rt.alloc(), Calls::ShortWrites);
-    assert!(rt; short == Some(DUE.len() as u64), "{short:?} writes of one byte");
+    assert!(rt;
+        short == Some(DUE.len() as u64),
+        "{short:?} writes of one byte"
+    );
 }
 
 /// The device of which calls go wrong.
@@ -214,7 +217,8 @@ fn read_file(alloc: Global, wrong: Wrong) -> Ran {
 /// Whether it is the setup of the whole file, or none since the file is unread.
 fn setup_outcome(setup: &Result<Setup, FileFault>) -> Outcome {
     match setup {
-        Ok(setup) if setup.client == 9 && setup.nodes.as_slice() == [8].as_slice() => Outcome::Whole,
+        Ok(setup) if setup.client == 9 && setup.nodes.as_slice() == [8].as_slice() =>
+            Outcome::Whole,
         Err(FileFault::Unread) => Outcome::Cut,
         _ => Outcome::Wrong,
     }

@@ -59,11 +59,15 @@ fn serve_one<R>(
 where
     R: Net<Listener = TcpListener, Stream = TcpStream> + Threads + Wait + Clock + Sync,
 {
-    thread::scope(thread::scope_env(), rt, |scope| -> Result<(Option<usize>, bool), Fail> {
-        let server = scope.spawn(move || serve_text(rt, alloc, text))?;
-        let wrong = talk_to_one(rt, alloc, peers, client)?;
-        Ok((wrong, server.join(rt) == 0))
-    })
+    thread::scope(
+        thread::scope_env(),
+        rt,
+        |scope| -> Result<(Option<usize>, bool), Fail> {
+            let server = scope.spawn(move || serve_text(rt, alloc, text))?;
+            let wrong = talk_to_one(rt, alloc, peers, client)?;
+            Ok((wrong, server.join(rt) == 0))
+        },
+    )
 }
 
 /// The status with which the node of a text ends where another listens at its port for clients.
@@ -81,7 +85,10 @@ fn a_node_serves_and_stops(rt: HostRuntime) -> Result<(), Fail> {
     let text = text_of(rt.alloc(), 0, 0, &[peers], client)?;
     let (wrong, ends) = serve_one(&rt, rt.alloc(), text.as_str(), peers, client)?;
     let beside = serve_beside(&rt, rt.alloc(), text.as_str(), client)?;
-    assert!(rt; wrong.is_none() && ends && beside == 4, "line {wrong:?}, {ends}, {beside}");
+    assert!(rt;
+        wrong.is_none() && ends && beside == 4,
+        "line {wrong:?}, {ends}, {beside}"
+    );
     Ok(())
 }
 
@@ -94,19 +101,14 @@ where
     forged[FRAME_LEN - 1] ^= 1;
     let stream = connected(rt, client)?;
     let lost = are_taken(rt, peers, &forged)? && answers(alloc, &stream, AGAIN, "{\"again\":0}\n")?;
-    let counted = are_taken(rt, peers, &FRAME)? && answers(alloc, &stream, AGAIN, "{\"again\":1}\n")?;
+    let counted = are_taken(rt, peers, &FRAME)?
+        && answers(alloc, &stream, AGAIN, "{\"again\":1}\n")?;
     ask(alloc, &stream, STOP)?;
     Ok(lost && counted)
 }
 
 /// Whether node 1 of four, alone, takes a frame that was written out elsewhere, and ends well.
-fn serve_second<R>(
-    rt: &R,
-    alloc: Global,
-    text: &str,
-    peers: u16,
-    client: u16,
-) -> Result<bool, Fail>
+fn serve_second<R>(rt: &R, alloc: Global, text: &str, peers: u16, client: u16) -> Result<bool, Fail>
 where
     R: Net<Listener = TcpListener, Stream = TcpStream> + Threads + Wait + Clock + Sync,
 {
@@ -140,7 +142,12 @@ fn a_frame_of_another_program_counts(rt: HostRuntime) -> Result<(), Fail> {
 /// Whether a node delivers what another one issued, at the last of some questions.
 fn delivers<R: Clock>(rt: &R, alloc: Global, stream: &TcpStream) -> Result<bool, Fail> {
     for _ in 0..10_000u32 {
-        if answers(alloc, stream, b"{\"op\":\"reach\",\"owner\":0}\n", "{\"reach\":1}\n")? {
+        if answers(
+            alloc,
+            stream,
+            b"{\"op\":\"reach\",\"owner\":0}\n",
+            "{\"reach\":1}\n",
+        )? {
             return Ok(true);
         }
         thread::sleep(rt, Duration::from_millis(1));

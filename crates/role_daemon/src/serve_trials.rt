@@ -108,9 +108,11 @@ where
     let first = hears(alloc, &mut reader, "{\"session\":1}\n")?;
     say(&stream, b"\n")?;
     say(&stream, OPEN)?;
-    Ok(first
-        && hears(alloc, &mut reader, "{\"error\":\"J1 NotJson\"}\n")?
-        && hears(alloc, &mut reader, "{\"session\":2}\n")?)
+    Ok(
+        first
+            && hears(alloc, &mut reader, "{\"error\":\"J1 NotJson\"}\n")?
+            && hears(alloc, &mut reader, "{\"session\":2}\n")?,
+    )
 }
 
 /// A check that nothing comes before, then a hundred users' lines.

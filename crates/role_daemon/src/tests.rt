@@ -78,7 +78,10 @@ fn cluster_texts(rt: HostRuntime) -> Result<(), Fail> {
         assert!(rt; has_fault(rt.alloc(), text, Mode::Pipe, due)?, "row {row}");
     }
     for (row, (text, due)) in SERVER_TEXTS.iter().enumerate() {
-        assert!(rt; has_fault(rt.alloc(), text, Mode::Serve, due)?, "server's row {row}");
+        assert!(rt;
+            has_fault(rt.alloc(), text, Mode::Serve, due)?,
+            "server's row {row}"
+        );
     }
     Ok(())
 }
@@ -250,10 +253,14 @@ fn answered_before_a_fault(alloc: Global, input: &str) -> Option<Vec<u8>> {
     }
 }
 
+const ASSIGNED: &[u8] = b"{\"issued\":0,\"reach\":1}\n";
+
 fn is_answered_before_the_fault(alloc: Global, count: u32) -> Result<bool, Fail> {
     let input = line_without_end(alloc, count)?;
-    let answered = answered_before_a_fault(alloc, &input);
-    Ok(answered.is_some_and(|held| held.as_slice() == b"{\"issued\":0,\"reach\":1}\n"))
+    match answered_before_a_fault(alloc, &input) {
+        Some(answered) => Ok(answered.as_slice() == ASSIGNED),
+        None => Ok(false),
+    }
 }
 
 #[test]
@@ -274,14 +281,13 @@ fn long_line(alloc: Global) -> Result<String, Fail> {
     Ok(input)
 }
 
+const REFUSED_AND_STOPPED: &[u8] = b"{\"error\":\"J1 NotJson\"}\n{\"stopped\":true}\n";
+
 #[test]
 fn a_long_line_is_passed_over(rt: HostRuntime) -> Result<(), Fail> {
     let input = long_line(rt.alloc())?;
     let written = answers_to(rt.alloc(), &input)?;
-    assert!(rt;
-        written.as_slice() == b"{\"error\":\"J1 NotJson\"}\n{\"stopped\":true}\n",
-        "{written:?}"
-    );
+    assert!(rt; written.as_slice() == REFUSED_AND_STOPPED, "{written:?}");
     Ok(())
 }
 

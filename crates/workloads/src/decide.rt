@@ -267,10 +267,7 @@ impl Registry {
 
     /// What is asked in a session.
     fn draw_for(&mut self, session: &Session) -> Result<Vec<Access>> {
-        let mine = self
-            .roles_of
-            .get(session.user as usize)
-            .context("no user")?;
+        let mine = self.roles_of.get(session.user as usize).context("no user")?;
         let active = mine.get(..session.active as usize).context("no role")?;
         Ok(self.draws.accesses(self.alloc, active)?)
     }

@@ -116,12 +116,7 @@ impl Client {
         Ok(())
     }
 
-    fn answer_text(
-        &mut self,
-        node: &mut Node,
-        line: &[u8],
-        digest: &mut Digest,
-    ) -> Result<String> {
+    fn answer_text(&mut self, node: &mut Node, line: &[u8], digest: &mut Digest) -> Result<String> {
         let answer = self.answer(node, line, digest)?;
         Ok(answer_text(self.alloc, &answer)?)
     }

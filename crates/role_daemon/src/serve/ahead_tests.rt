@@ -81,7 +81,12 @@ fn frames_of(
     for place in 0..PLACES {
         put(&mut frames, keys, to, &message_at(Kind::Send, owner, place))?;
         put(&mut frames, keys, to, &message_at(Kind::Echo, owner, place))?;
-        put(&mut frames, keys, to, &message_at(Kind::Ready, owner, place))?;
+        put(
+            &mut frames,
+            keys,
+            to,
+            &message_at(Kind::Ready, owner, place),
+        )?;
     }
     Ok(frames)
 }

@@ -91,7 +91,11 @@ where
 }
 
 /// A peer whose frame is taken though silent ones had all places, and those; nothing where it is not taken.
-fn peer_among_silent<R>(rt: &R, alloc: Global, ports: Ports) -> Result<Option<(TcpStream, Vec<TcpStream>)>, Fail>
+fn peer_among_silent<R>(
+    rt: &R,
+    alloc: Global,
+    ports: Ports,
+) -> Result<Option<(TcpStream, Vec<TcpStream>)>, Fail>
 where
     R: Net<Listener = TcpListener, Stream = TcpStream> + Clock,
 {
@@ -200,10 +204,7 @@ where
                 peers: *peers,
                 client: *client,
             };
-            Ok((
-                text_of(alloc, 1, 1, &[*a, *peers, *c, *d], *client)?,
-                ports,
-            ))
+            Ok((text_of(alloc, 1, 1, &[*a, *peers, *c, *d], *client)?, ports))
         }
         _ => Err("no ports".into()),
     }

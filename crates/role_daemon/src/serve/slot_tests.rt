@@ -1,8 +1,7 @@
 //! Clients that come one after another at the same place, one that asks again after a while, and a page in a browser.
 
 use crate::serve_help::{
-    answers, begins, connected, connected_saying, say, serve_text, sixteen_served, stop,
-    two_ports,
+    answers, begins, connected, connected_saying, say, serve_text, sixteen_served, stop, two_ports,
 };
 use crate::serve_texts::text_of;
 use std::alloc::Global;
@@ -25,8 +24,7 @@ const LINES: &[u8] = b"{\"op\":\"open\",\"user\":7}\n{\"op\":\"assign\",\"user\"
     {\"op\":\"open\",\"user\":8}\n{\"op\":\"grant\",\"role\":2,\"operation\":5,\"object\":9}\n";
 
 /// A request of a page in a browser, with a stop behind it.
-const WEB_PAGE: &[u8] =
-    b"POST / HTTP/1.1\r\nContent-Length: 14\r\n\r\n{\"op\":\"stop\"}\n";
+const WEB_PAGE: &[u8] = b"POST / HTTP/1.1\r\nContent-Length: 14\r\n\r\n{\"op\":\"stop\"}\n";
 
 const REACH: &[u8] = b"{\"op\":\"reach\",\"owner\":0}\n";
 
@@ -140,11 +138,13 @@ fn serves_all<R>(rt: &R, alloc: Global, client: u16) -> Result<bool, Fail>
 where
     R: Net<Listener = TcpListener, Stream = TcpStream> + Clock,
 {
-    Ok(asks_after_a_while(rt, alloc, client)?
-        && hears_its_own(rt, alloc, client)?
-        && web_page(rt, alloc, client)?
-        && operator(rt, alloc, client)?
-        && next_client(rt, alloc, client)?)
+    Ok(
+        asks_after_a_while(rt, alloc, client)?
+            && hears_its_own(rt, alloc, client)?
+            && web_page(rt, alloc, client)?
+            && operator(rt, alloc, client)?
+            && next_client(rt, alloc, client)?,
+    )
 }
 
 /// The same of the node of a text, and whether it ends well.
