@@ -32,6 +32,17 @@ fn audit_one(
     digest: &mut Digest,
 ) -> Result<()> {
     let mut history = History::new(alloc, sample, commands, digest)?;
+    audit_receipts(alloc, &mut history, sample, order, digest)
+}
+
+/// Audits the history with its receipts in this order.
+fn audit_receipts(
+    alloc: Global,
+    history: &mut History,
+    sample: &mut Sample,
+    order: u32,
+    digest: &mut Digest,
+) -> Result<()> {
     let mut receipts = history.receipts(alloc)?;
     arrange(&mut receipts, sample, order);
     digest.number(u64::from(history.node.events()));

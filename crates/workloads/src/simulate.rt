@@ -267,11 +267,33 @@ fn command_of(owner: u8, sample: &mut Sample) -> Command {
 pub fn run(alloc: Global, seed: u32, share: u32) -> Result<Digest> {
     let mut sample = Sample::new(seed, 6);
     let mut digest = Digest::new();
-    let mut lab = Lab::new(alloc, 16, 5)?;
-    lab.run_among_liars(part(BATCHES, share), &mut sample, &mut digest)?;
-    for (n, f, commands) in &QUIET {
-        let mut lab = Lab::new(alloc, *n, *f)?;
-        lab.run_in_order(part(*commands, share), &mut sample, &mut digest)?;
+    run_speaking(alloc, part(BATCHES, share), &mut sample, &mut digest)?;
+    for cluster in &QUIET {
+        run_quiet(alloc, cluster, share, &mut sample, &mut digest)?;
     }
     Ok(digest)
+}
+
+/// A cluster whose liars speak, for so many batches of commands.
+fn run_speaking(
+    alloc: Global,
+    batches: u32,
+    sample: &mut Sample,
+    digest: &mut Digest,
+) -> Result<()> {
+    let mut lab = Lab::new(alloc, 16, 5)?;
+    lab.run_among_liars(batches, sample, digest)
+}
+
+/// A cluster whose liars are silent, on a part of its commands.
+fn run_quiet(
+    alloc: Global,
+    cluster: &(u8, u8, u32),
+    share: u32,
+    sample: &mut Sample,
+    digest: &mut Digest,
+) -> Result<()> {
+    let (n, f, commands) = *cluster;
+    let mut lab = Lab::new(alloc, n, f)?;
+    lab.run_in_order(part(commands, share), sample, digest)
 }
