@@ -39,11 +39,11 @@ pub fn answer(rt: &HostRuntime, rows: &mut Batches, line: &str) -> Result<String
         "open" => opened(rt, rows),
         "read" => found(rt, rows),
         "record" => recorded(rt.alloc(), rows, &mut words),
-        "said" => Ok(text_of(rt.alloc(), &fault_named(words.word())?)?),
+        "said" => text_of(rt.alloc(), &fault_named(words.word())?),
         "cuts" | "flips" | "zeros" | "fuses" => trials::answer(rt, rows, name, &mut words),
         _ => {
             set(rt, rows, name, &mut words)?;
-            Ok(text_of(rt.alloc(), &"ok")?)
+            text_of(rt.alloc(), &"ok")
         }
     }
 }
@@ -73,7 +73,7 @@ pub fn refused(alloc: Global, fault: JournalFault) -> Result<String, RowFault> {
     match fault {
         JournalFault::Memory => Err(RowFault::Memory),
         JournalFault::Damaged { batch } => Ok(format!(in alloc; "{fault} {batch}")?),
-        fault => Ok(text_of(alloc, &fault)?),
+        fault => text_of(alloc, &fault),
     }
 }
 
@@ -85,7 +85,7 @@ fn begin(rt: &HostRuntime, rows: &mut Batches) -> Result<String, RowFault> {
         Ok(files) => match Journal::begin(alloc, files, &rows.key, head) {
             Ok(journal) => {
                 rows.journal = Some(journal);
-                Ok(text_of(alloc, &"begun")?)
+                text_of(alloc, &"begun")
             }
             Err((fault, _)) => refused(alloc, fault),
         },
@@ -133,7 +133,7 @@ fn recorded(alloc: Global, rows: &mut Batches, words: &mut Words<'_>) -> Result<
     let batch = digits(alloc, words.byte()?)?;
     match &mut rows.journal {
         Some(journal) => match record(journal, &batch) {
-            Ok(()) => Ok(text_of(alloc, &"recorded")?),
+            Ok(()) => text_of(alloc, &"recorded"),
             Err(fault) => refused(alloc, fault),
         },
         None => Err(RowFault::BadRow),

@@ -34,7 +34,7 @@ pub fn clear(rt: &HostRuntime) -> Result<(), RowFault> {
 /// What is answered where the files are not opened: `in use` where another handle has them.
 pub fn unopened(alloc: Global, error: OpenError) -> Result<String, RowFault> {
     match error {
-        OpenError::Busy => Ok(text_of(alloc, &"in use")?),
+        OpenError::Busy => text_of(alloc, &"in use"),
         OpenError::OutOfMemory => Err(RowFault::Memory),
         OpenError::Io(error) => Err(fault_of(error)),
         OpenError::HotJournal => Err(RowFault::BadRow),

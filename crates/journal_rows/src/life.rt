@@ -66,7 +66,7 @@ fn unrestored<D: Disk>(alloc: Global, fault: &Unrestored<D>) -> Result<String, R
             fault: JournalFault::Memory,
             ..
         } => Err(RowFault::Memory),
-        fault => Ok(text_of(alloc, fault)?),
+        fault => text_of(alloc, fault),
     }
 }
 

@@ -41,7 +41,7 @@ pub fn answer(rt: &HostRuntime, rows: &mut Lives, line: &str) -> Result<String, 
         "fuses" => fuses(rt, rows, &mut words),
         "openings" => {
             add_openings(&mut rows.events, words.wide()?)?;
-            Ok(text_of(rt.alloc(), &rows.events.len())?)
+            text_of(rt.alloc(), &rows.events.len())
         }
         _ => add(rt.alloc(), rows, name, &mut words),
     }
@@ -56,7 +56,7 @@ fn add(
 ) -> Result<String, RowFault> {
     let (sizes, me) = sizes()?;
     rows.events.push(event_of(&sizes, me, name, words)?)?;
-    Ok(text_of(alloc, &rows.events.len())?)
+    text_of(alloc, &rows.events.len())
 }
 
 /// So many sessions are opened, and each is closed.
@@ -90,10 +90,10 @@ fn with_batch<D: Disk>(
     digits: &[u8],
 ) -> Result<String, RowFault> {
     if digits.is_empty() {
-        return Ok(text_of(alloc, &"begun")?);
+        return text_of(alloc, &"begun");
     }
     match record(journal, digits) {
-        Ok(()) => Ok(text_of(alloc, &"begun")?),
+        Ok(()) => text_of(alloc, &"begun"),
         Err(fault) => fault_text(alloc, fault),
     }
 }
@@ -101,7 +101,7 @@ fn with_batch<D: Disk>(
 fn fault_text(alloc: Global, fault: JournalFault) -> Result<String, RowFault> {
     match fault {
         JournalFault::Memory => Err(RowFault::Memory),
-        fault => Ok(text_of(alloc, &fault)?),
+        fault => text_of(alloc, &fault),
     }
 }
 

@@ -9,7 +9,7 @@ use std::alloc::Global;
 pub fn outcome_text(alloc: Global, outcome: &Outcome) -> Result<String, RowFault> {
     match outcome {
         Outcome::Answer(answer) => answer_text(alloc, answer),
-        Outcome::Refused(fault) => Ok(text_of(alloc, fault)?),
+        Outcome::Refused(fault) => text_of(alloc, fault),
         Outcome::Reply(_) => Err(RowFault::BadRow),
     }
 }
@@ -17,10 +17,10 @@ pub fn outcome_text(alloc: Global, outcome: &Outcome) -> Result<String, RowFault
 fn answer_text(alloc: Global, answer: &Answer) -> Result<String, RowFault> {
     match answer {
         Answer::Verdict(verdict) => verdict_text(alloc, *verdict),
-        Answer::Users(users) => Ok(list_text(alloc, users.as_slice())?),
-        Answer::Roles(roles) => Ok(list_text(alloc, roles.as_slice())?),
-        Answer::Operations(operations) => Ok(list_text(alloc, operations.as_slice())?),
-        Answer::Permissions(permissions) => Ok(permissions_text(alloc, permissions.as_slice())?),
+        Answer::Users(users) => list_text(alloc, users.as_slice()),
+        Answer::Roles(roles) => list_text(alloc, roles.as_slice()),
+        Answer::Operations(operations) => list_text(alloc, operations.as_slice()),
+        Answer::Permissions(permissions) => permissions_text(alloc, permissions.as_slice()),
     }
 }
 
@@ -47,7 +47,7 @@ pub fn view_text(alloc: Global, view: &View) -> Result<String, RowFault> {
 /// The command at a place of the node's own stream, if it was delivered.
 pub fn command_text(alloc: Global, node: &Node, place: u32) -> Result<String, RowFault> {
     let command = node.command(node.me(), place);
-    Ok(text_of(alloc, &OrNone(command.map(Spelled)))?)
+    text_of(alloc, &OrNone(command.map(Spelled)))
 }
 
 /// The sessions that are open, each as SESSION:USER.
