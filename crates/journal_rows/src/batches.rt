@@ -12,17 +12,17 @@ use std::alloc::{AllocError, Global};
 
 /// What a journal is opened with, the journal that is open, and bytes of its file that are kept.
 #[derive(Drop)]
-pub struct Batches {
+pub struct BatchRows {
     pub head: Head,
     pub key: [u8; 32],
     journal: Option<Journal<File>>,
     pub kept: Vec<u8>,
 }
 
-impl Batches {
+impl BatchRows {
     /// Nothing is open.
-    pub fn new(alloc: Global) -> Result<Batches, AllocError> {
-        Ok(Batches {
+    pub fn new(alloc: Global) -> Result<BatchRows, AllocError> {
+        Ok(BatchRows {
             head: first_head(alloc)?,
             key: [7; 32],
             journal: None,
@@ -31,7 +31,7 @@ impl Batches {
     }
 }
 
-pub fn answer(rt: &HostRuntime, rows: &mut Batches, line: &str) -> Result<String, RowFault> {
+pub fn answer(rt: &HostRuntime, rows: &mut BatchRows, line: &str) -> Result<String, RowFault> {
     let mut words = Words::new(line);
     let name = words.word();
     match name {
@@ -51,7 +51,7 @@ pub fn answer(rt: &HostRuntime, rows: &mut Batches, line: &str) -> Result<String
 /// What is answered with `ok`.
 fn set(
     rt: &HostRuntime,
-    rows: &mut Batches,
+    rows: &mut BatchRows,
     name: &str,
     words: &mut Words<'_>,
 ) -> Result<(), RowFault> {
@@ -78,7 +78,7 @@ pub fn refused(alloc: Global, fault: JournalFault) -> Result<String, RowFault> {
 }
 
 /// `begin`: a journal is begun, and stays open.
-fn begin(rt: &HostRuntime, rows: &mut Batches) -> Result<String, RowFault> {
+fn begin(rt: &HostRuntime, rows: &mut BatchRows) -> Result<String, RowFault> {
     let alloc = rt.alloc();
     let head = copy_of(alloc, &rows.head)?;
     match open(rt, PATH, Unknown) {
@@ -94,7 +94,7 @@ fn begin(rt: &HostRuntime, rows: &mut Batches) -> Result<String, RowFault> {
 }
 
 /// `open`: a journal is opened, and stays so. The digits of its batches.
-fn opened(rt: &HostRuntime, rows: &mut Batches) -> Result<String, RowFault> {
+fn opened(rt: &HostRuntime, rows: &mut BatchRows) -> Result<String, RowFault> {
     let alloc = rt.alloc();
     let head = copy_of(alloc, &rows.head)?;
     match open(rt, PATH, Unknown) {
@@ -110,7 +110,7 @@ fn opened(rt: &HostRuntime, rows: &mut Batches) -> Result<String, RowFault> {
 }
 
 /// `read`: what the file stands for.
-fn found(rt: &HostRuntime, rows: &Batches) -> Result<String, RowFault> {
+fn found(rt: &HostRuntime, rows: &BatchRows) -> Result<String, RowFault> {
     let alloc = rt.alloc();
     let head = copy_of(alloc, &rows.head)?;
     match open(rt, PATH, Unknown) {
@@ -129,7 +129,11 @@ fn found(rt: &HostRuntime, rows: &Batches) -> Result<String, RowFault> {
 }
 
 /// `record COUNT`: a batch of so many digits is written and synced.
-fn recorded(alloc: Global, rows: &mut Batches, words: &mut Words<'_>) -> Result<String, RowFault> {
+fn recorded(
+    alloc: Global,
+    rows: &mut BatchRows,
+    words: &mut Words<'_>,
+) -> Result<String, RowFault> {
     let batch = digits(alloc, words.byte()?)?;
     match &mut rows.journal {
         Some(journal) => match record(journal, &batch) {

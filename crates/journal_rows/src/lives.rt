@@ -19,20 +19,20 @@ const ENOUGH: u64 = 100;
 
 /// What the node is to record in all its lives.
 #[derive(Drop)]
-pub struct Lives {
+pub struct LifeRows {
     events: Vec<Event>,
 }
 
-impl Lives {
+impl LifeRows {
     /// Nothing.
-    pub fn new(alloc: Global) -> Lives {
-        Lives {
+    pub fn new(alloc: Global) -> LifeRows {
+        LifeRows {
             events: Vec::new(alloc),
         }
     }
 }
 
-pub fn answer(rt: &HostRuntime, rows: &mut Lives, line: &str) -> Result<String, RowFault> {
+pub fn answer(rt: &HostRuntime, rows: &mut LifeRows, line: &str) -> Result<String, RowFault> {
     let mut words = Words::new(line);
     let name = words.word();
     match name {
@@ -50,7 +50,7 @@ pub fn answer(rt: &HostRuntime, rows: &mut Lives, line: &str) -> Result<String, 
 /// An event more, as `event_of` has them. How many there are.
 fn add(
     alloc: Global,
-    rows: &mut Lives,
+    rows: &mut LifeRows,
     name: &str,
     words: &mut Words<'_>,
 ) -> Result<String, RowFault> {
@@ -107,7 +107,7 @@ fn fault_text(alloc: Global, fault: JournalFault) -> Result<String, RowFault> {
 
 /// `life MANY ..`: the node is restored, records those of the events that it lacks, and syncs so many at a time. How many
 /// are synced then, and behind it what it says to what is asked.
-fn life(rt: &HostRuntime, rows: &Lives, words: &mut Words<'_>) -> Result<String, RowFault> {
+fn life(rt: &HostRuntime, rows: &LifeRows, words: &mut Words<'_>) -> Result<String, RowFault> {
     let many = words.wide()?;
     let course = Course {
         many,
@@ -121,7 +121,7 @@ fn life(rt: &HostRuntime, rows: &Lives, words: &mut Words<'_>) -> Result<String,
 
 /// `fuses FROM TO MANY`: lives over what the file holds now, where each call of the disk fails from this one on, each
 /// followed by a life that records nothing. How many events are synced in both.
-fn fuses(rt: &HostRuntime, rows: &Lives, words: &mut Words<'_>) -> Result<String, RowFault> {
+fn fuses(rt: &HostRuntime, rows: &LifeRows, words: &mut Words<'_>) -> Result<String, RowFault> {
     let from = words.wide()?;
     let to = words.wide()?;
     let many = words.wide()?;
@@ -134,7 +134,7 @@ fn fuses(rt: &HostRuntime, rows: &Lives, words: &mut Words<'_>) -> Result<String
     Ok(runs.into_text()?)
 }
 
-fn two_lives(rt: &HostRuntime, rows: &Lives, calls: u64, many: u32) -> Result<String, RowFault> {
+fn two_lives(rt: &HostRuntime, rows: &LifeRows, calls: u64, many: u32) -> Result<String, RowFault> {
     let first = fused(rt, rows, calls, many)?;
     let next = match open(rt, PATH, Unknown) {
         Ok(files) => live(rt.alloc(), files, &[], silent(1))?,
@@ -144,7 +144,7 @@ fn two_lives(rt: &HostRuntime, rows: &Lives, calls: u64, many: u32) -> Result<St
 }
 
 /// A life in which each call of the disk fails from this one on.
-fn fused(rt: &HostRuntime, rows: &Lives, calls: u64, many: u32) -> Result<String, RowFault> {
+fn fused(rt: &HostRuntime, rows: &LifeRows, calls: u64, many: u32) -> Result<String, RowFault> {
     match open(rt, PATH, Unknown) {
         Ok(Files { log, db }) => {
             let files = Files {

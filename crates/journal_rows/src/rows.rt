@@ -1,7 +1,7 @@
 //! The layers of these rows: which one a file is about, and its value.
 
-use crate::batches::Batches;
-use crate::lives::Lives;
+use crate::batches::BatchRows;
+use crate::lives::LifeRows;
 use crate::{batches, files, lives};
 use row_words::{RowFault, Words};
 
@@ -9,9 +9,9 @@ use row_words::{RowFault, Words};
 #[derive(Drop)]
 pub enum Journal {
     /// `journal`
-    Batches(Batches),
+    Batches(BatchRows),
     /// `kept`
-    Lives(Lives),
+    Lives(LifeRows),
 }
 
 /// Whether a row with this first word begins one of these layers.
@@ -27,8 +27,8 @@ pub fn has(layer: &str) -> bool {
 pub fn begin(rt: &HostRuntime, line: &str) -> Result<Journal, RowFault> {
     files::clear(rt)?;
     match Words::new(line).word() {
-        "journal" => Ok(Journal::Batches(Batches::new(rt.alloc())?)),
-        "kept" => Ok(Journal::Lives(Lives::new(rt.alloc()))),
+        "journal" => Ok(Journal::Batches(BatchRows::new(rt.alloc())?)),
+        "kept" => Ok(Journal::Lives(LifeRows::new(rt.alloc()))),
         _ => Err(RowFault::BadRow),
     }
 }

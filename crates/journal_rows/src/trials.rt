@@ -2,7 +2,7 @@
 
 ghost use Rattle.std.specs.Prelude.{IsTrue};
 
-use crate::batches::{Batches, record, refused};
+use crate::batches::{BatchRows, record, refused};
 use crate::changes::{Change, change_at, length_after, put_back};
 use crate::files::{PATH, unopened, write};
 use crate::head::copy_of;
@@ -18,7 +18,7 @@ const ENOUGH: u64 = 100;
 
 pub fn answer(
     rt: &HostRuntime,
-    rows: &mut Batches,
+    rows: &mut BatchRows,
     name: &str,
     words: &mut Words<'_>,
 ) -> Result<String, RowFault> {
@@ -80,7 +80,7 @@ fn places_of(words: &mut Words<'_>) -> Result<Places, RowFault> {
 /// What comes of the kept bytes with a change at one place after another.
 fn sweep(
     rt: &HostRuntime,
-    rows: &mut Batches,
+    rows: &mut BatchRows,
     change: Change,
     words: &mut Words<'_>,
 ) -> Result<String, RowFault> {
@@ -97,7 +97,7 @@ fn sweep(
 /// The trials at one place: one, or where bytes are read one for each bit.
 fn try_at(
     rt: &HostRuntime,
-    rows: &mut Batches,
+    rows: &mut BatchRows,
     opens: bool,
     change: Change,
     at: usize,
@@ -116,7 +116,7 @@ fn try_at(
 
 fn try_one(
     rt: &HostRuntime,
-    rows: &mut Batches,
+    rows: &mut BatchRows,
     opens: bool,
     change: Change,
     at: usize,
@@ -131,7 +131,7 @@ fn try_one(
 /// What so many of the kept bytes are opened or read as.
 fn come_of(
     rt: &HostRuntime,
-    rows: &Batches,
+    rows: &BatchRows,
     opens: bool,
     length: usize,
 ) -> Result<String, RowFault> {
@@ -148,7 +148,7 @@ fn come_of(
 }
 
 /// The digits of the batches of a file that is opened and closed again.
-fn opened(rt: &HostRuntime, rows: &Batches) -> Result<String, RowFault> {
+fn opened(rt: &HostRuntime, rows: &BatchRows) -> Result<String, RowFault> {
     let alloc = rt.alloc();
     let head = copy_of(alloc, &rows.head)?;
     match open(rt, PATH, Unknown) {
@@ -162,7 +162,11 @@ fn opened(rt: &HostRuntime, rows: &Batches) -> Result<String, RowFault> {
 
 /// `fuses FROM TO`: the kept bytes are opened and two batches of five digits recorded, where each call of the disk
 /// fails from this one on. How many of the two were synced, and the digits that are found then.
-fn fuses(rt: &HostRuntime, rows: &mut Batches, words: &mut Words<'_>) -> Result<String, RowFault> {
+fn fuses(
+    rt: &HostRuntime,
+    rows: &mut BatchRows,
+    words: &mut Words<'_>,
+) -> Result<String, RowFault> {
     let from = words.wide()?;
     let to = words.wide()?;
     let mut runs = Runs::new(rt.alloc());
@@ -172,7 +176,7 @@ fn fuses(rt: &HostRuntime, rows: &mut Batches, words: &mut Words<'_>) -> Result<
     Ok(runs.into_text()?)
 }
 
-fn fused(rt: &HostRuntime, rows: &Batches, calls: u64) -> Result<String, RowFault> {
+fn fused(rt: &HostRuntime, rows: &BatchRows, calls: u64) -> Result<String, RowFault> {
     write(rt, &rows.kept)?;
     let synced = match open(rt, PATH, Unknown) {
         Ok(Files { log, db }) => {
@@ -191,7 +195,7 @@ fn fused(rt: &HostRuntime, rows: &Batches, calls: u64) -> Result<String, RowFaul
 /// Opens a journal and records two batches, up to the first call that fails: how many are synced.
 fn record_two<D: Disk + Drop>(
     alloc: Global,
-    rows: &Batches,
+    rows: &BatchRows,
     files: Files<D>,
 ) -> Result<u8, RowFault>
     requires beside { IsTrue (D.Disk.is_usable files.log) }
