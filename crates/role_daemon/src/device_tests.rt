@@ -26,7 +26,7 @@ const DUE: &[u8] = b"{\"issued\":0,\"reach\":1}\n\
     {\"at\":10,\"permissions\":[[5,9]]}\n";
 
 /// A run of calls that go wrong.
-#[derive(Clone, Copy, Debug)]
+#[derive(Clone, Copy)]
 struct Wrong {
     mishap: Mishap,
     first: u64,
@@ -62,7 +62,7 @@ impl Wrong {
 }
 
 /// How a run came out.
-#[derive(Clone, Copy, Debug, PartialEq, Eq)]
+#[derive(Clone, Copy, PartialEq, Eq)]
 enum Outcome {
     /// It ended well, and the whole text is written.
     Whole,
@@ -73,7 +73,7 @@ enum Outcome {
 }
 
 /// How a run came out, and how many reads and writes failed.
-#[derive(Clone, Copy, Debug)]
+#[derive(Clone, Copy)]
 struct Ran {
     outcome: Outcome,
     faults: u64,
@@ -158,7 +158,7 @@ fn each_write_fails_in_turn(rt: HostRuntime) {
 }
 
 /// The device of which calls go wrong.
-#[derive(Clone, Copy, Debug)]
+#[derive(Clone, Copy)]
 enum Device {
     Reader,
     Writer,
