@@ -38,7 +38,6 @@ TESTED = {
         "node_lock_tests",
         ["a_pool_ends_well_or_wants_memory", "an_inbox_gives_back_what_is_left"],
     ),
-    "kept_node": ("journal_lab", "kept_tests", ["nothing_is_lost_where_memory_is_wanting"]),
     "role_lab": ("role_lab", "tests", ["a_script_ends_well_or_wants_memory"]),
 }
 SERVED = ["memory", "thread", "socket", "listen", "accept", "connect", "poll", "option", "read", "write"]
@@ -136,7 +135,8 @@ def sweep_rows(refuser, path, every):
 
     def run(kind, at):
         environment = refuser.environment(kind, at)
-        ran = subprocess.run([program], input=given, env=environment, capture_output=True, timeout=PATIENCE)
+        ran = subprocess.run(
+            [program], input=given, env=environment, capture_output=True, timeout=PATIENCE, cwd=refuser.folder)
         reading = ran.returncode == 1 and refuser.has_refused() and due.startswith(ran.stdout)
         if not (reading or ran.returncode == 0 and ran.stdout == due and not ran.stderr):
             said = f"wrote {ran.stdout[-80:]!r} and said {ran.stderr[-200:]!r}"

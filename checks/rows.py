@@ -11,6 +11,7 @@ import os
 import re
 import subprocess
 import sys
+import tempfile
 
 TOP = os.path.dirname(os.path.dirname(os.path.abspath(__file__)))
 FOLDER = os.path.join(TOP, "rows")
@@ -82,7 +83,8 @@ def faults_of(program, path):
     rows = rows_of(path)
     if not rows:
         return [f"{named(path)}: no row"], 0
-    ran = subprocess.run([program], input=given(rows), capture_output=True, timeout=PATIENCE)
+    with tempfile.TemporaryDirectory(prefix="tundelca-") as folder:
+        ran = subprocess.run([program], input=given(rows), capture_output=True, timeout=PATIENCE, cwd=folder)
     came = ran.stdout.decode("utf-8", "replace").splitlines()
     faults = [f"{named(path)}, line {row.number}: {row.call}: due {row.due!r}, came {answer!r}"
               for row, answer in zip(rows, came + ["nothing"] * len(rows)) if row.due != answer]

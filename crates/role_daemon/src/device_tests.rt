@@ -26,7 +26,7 @@ const DUE: &[u8] = b"{\"issued\":0,\"reach\":1}\n\
     {\"at\":10,\"permissions\":[[5,9]]}\n";
 
 /// A run of calls that go wrong.
-#[derive(Clone, Copy, Debug)]
+#[derive(Clone, Copy)]
 struct Wrong {
     mishap: Mishap,
     first: u64,
@@ -61,12 +61,30 @@ impl Wrong {
     }
 }
 
-/// How a run ended, what it wrote, and how many reads and writes failed.
-#[derive(Debug, Drop)]
+/// How a run came out.
+#[derive(Clone, Copy, PartialEq, Eq)]
+enum Outcome {
+    /// It ended well, and the whole text is written.
+    Whole,
+    /// A device has failed, and a prefix of the text is written.
+    Cut,
+    /// Neither.
+    Wrong,
+}
+
+/// How a run came out, and how many reads and writes failed.
+#[derive(Clone, Copy)]
 struct Ran {
-    ended: Result<(), PipeFault>,
-    written: Vec<u8>,
+    outcome: Outcome,
     faults: u64,
+}
+
+fn outcome_of(ended: &Result<(), PipeFault>, written: &[u8]) -> Outcome {
+    match ended {
+        Ok(()) if written == DUE => Outcome::Whole,
+        Err(PipeFault::Device) if DUE.starts_with(written) => Outcome::Cut,
+        _ => Outcome::Wrong,
+    }
 }
 
 /// What comes of the input, where `reads` go wrong, and `writes` over a writer of which `sizes` do.
@@ -77,92 +95,106 @@ fn run(alloc: Global, input: &[u8], reads: Wrong, sizes: Wrong, writes: Wrong) -
     let ended = run_pipe(alloc, &mut reader, &mut writer);
     let faults = reader.faults().saturating_add(writer.faults());
     Ran {
-        ended,
-        written,
+        outcome: outcome_of(&ended, &written),
         faults,
     }
 }
 
-impl Ran {
-    fn is_whole(&self) -> bool {
-        self.ended.is_ok() && self.written.as_slice() == DUE
-    }
+/// The calls of which one fails.
+#[derive(Clone, Copy)]
+enum Calls {
+    Reads,
+    Writes,
+    ShortWrites,
+    FileReads,
+}
 
-    /// Whether a device has failed, and a prefix of the text is written.
-    fn is_cut(&self) -> bool {
-        matches!(&self.ended, Err(PipeFault::Device)) && DUE.starts_with(&self.written)
+fn run_failing(alloc: Global, calls: Calls, wrong: Wrong) -> Ran {
+    match calls {
+        Calls::Reads => run(alloc, INPUT, wrong, NONE, NONE),
+        Calls::Writes => run(alloc, INPUT, NONE, NONE, wrong),
+        Calls::ShortWrites => run(alloc, INPUT, NONE, SHORT, wrong),
+        Calls::FileReads => read_file(alloc, wrong),
     }
+}
+
+/// How many calls there are, each of which cuts the run where it fails; nothing where one does not.
+fn calls_that_cut(alloc: Global, calls: Calls) -> Option<u64> {
+    for number in 0..1_000u64 {
+        let ran = run_failing(alloc, calls, Wrong::at(number));
+        if ran.faults == 0 {
+            return (ran.outcome == Outcome::Whole).then_some(number);
+        }
+        if ran.outcome != Outcome::Cut {
+            return None;
+        }
+    }
+    None
 }
 
 #[test]
 fn each_read_fails_in_turn(rt: HostRuntime) {
-    let mut tried = 0;
-    for number in 0..10u64 {
-        let ran = run(rt.alloc(), INPUT, Wrong::at(number), NONE, NONE);
-        if ran.faults == 0 {
-            assert!(rt; ran.is_whole(), "{ran:?}");
-            break;
-        }
-        assert!(rt; ran.is_cut(), "read {number}: {ran:?}");
-        tried = number + 1;
-    }
-    assert!(rt; tried == 2, "{tried} reads");
+    let reads = calls_that_cut(rt.alloc(), Calls::Reads);
+    assert!(rt; reads == Some(2), "{reads:?} reads");
+}
+
+#[test]
+fn the_second_read_fails_behind_any_bytes(rt: HostRuntime) {
     for count in 1..=INPUT.len() {
         let ran = run(rt.alloc(), &INPUT[..count], Wrong::at(1), NONE, NONE);
-        assert!(rt; ran.is_cut(), "behind {count} bytes: {ran:?}");
+        assert!(rt; ran.outcome == Outcome::Cut, "behind {count} bytes");
     }
 }
 
 #[test]
 fn each_write_fails_in_turn(rt: HostRuntime) {
-    for (sizes, due) in [(NONE, 1), (SHORT, DUE.len() as u64)] {
-        let mut tried = 0;
-        for number in 0..1_000u64 {
-            let ran = run(rt.alloc(), INPUT, NONE, sizes, Wrong::at(number));
-            if ran.faults == 0 {
-                assert!(rt; ran.is_whole(), "{ran:?}");
-                break;
-            }
-            assert!(rt; ran.is_cut(), "write {number} with {sizes:?}: {ran:?}");
-            tried = number + 1;
-        }
-        assert!(rt; tried == due, "{tried} writes with {sizes:?}");
-    }
+    let writes = calls_that_cut(rt.alloc(), Calls::Writes);
+    assert!(rt; writes == Some(1), "{writes:?} writes");
+    let short = calls_that_cut(rt.alloc(), Calls::ShortWrites);
+    assert!(rt;
+        short == Some(DUE.len() as u64),
+        "{short:?} writes of one byte"
+    );
 }
 
 /// The device of which calls go wrong.
-#[derive(Clone, Copy, Debug)]
+#[derive(Clone, Copy)]
 enum Device {
     Reader,
     Writer,
 }
 
-/// Mishaps of so many calls of a device, and whether a run gets through them.
-static MISHAPS: [(Device, Mishap, u64, bool); 7] = [
-    (Device::Reader, Mishap::Short, u64::MAX, true),
-    (Device::Writer, Mishap::Short, u64::MAX, true),
-    (Device::Reader, Mishap::Interrupt, 1_024, true),
-    (Device::Writer, Mishap::Interrupt, 1_024, true),
-    (Device::Reader, Mishap::Interrupt, 1_025, false),
-    (Device::Writer, Mishap::Interrupt, 1_025, false),
-    (Device::Writer, Mishap::Nothing, 1, false),
+/// Mishaps of so many calls of a device, and how a run comes out of them.
+static MISHAPS: [(Device, Mishap, u64, Outcome); 7] = [
+    (Device::Reader, Mishap::Short, u64::MAX, Outcome::Whole),
+    (Device::Writer, Mishap::Short, u64::MAX, Outcome::Whole),
+    (Device::Reader, Mishap::Interrupt, 1_024, Outcome::Whole),
+    (Device::Writer, Mishap::Interrupt, 1_024, Outcome::Whole),
+    (Device::Reader, Mishap::Interrupt, 1_025, Outcome::Cut),
+    (Device::Writer, Mishap::Interrupt, 1_025, Outcome::Cut),
+    (Device::Writer, Mishap::Nothing, 1, Outcome::Cut),
 ];
+
+/// How a run comes out where calls of one byte of a device go wrong.
+fn run_with(alloc: Global, device: Device, wrong: Wrong) -> Outcome {
+    let ran = match device {
+        Device::Reader => run(alloc, INPUT, wrong, SHORT, NONE),
+        Device::Writer => run(alloc, INPUT, NONE, SHORT, wrong),
+    };
+    ran.outcome
+}
 
 #[test]
 fn mishaps_are_got_through_or_end_the_run(rt: HostRuntime) {
-    for (device, mishap, calls, whole) in &MISHAPS {
-        for first in [0, 1] {
+    for (row, (device, mishap, calls, due)) in MISHAPS.iter().enumerate() {
+        for first in 0..2u64 {
             let wrong = Wrong {
                 mishap: *mishap,
                 first,
                 calls: *calls,
             };
-            let ran = match device {
-                Device::Reader => run(rt.alloc(), INPUT, wrong, SHORT, NONE),
-                Device::Writer => run(rt.alloc(), INPUT, NONE, SHORT, wrong),
-            };
-            let right = if *whole { ran.is_whole() } else { ran.is_cut() };
-            assert!(rt; right, "{device:?} with {wrong:?}: {ran:?}");
+            let came = run_with(rt.alloc(), *device, wrong);
+            assert!(rt; came == *due, "row {row} from call {first} on");
         }
     }
 }
@@ -172,58 +204,48 @@ const FILE: &[u8] = b"{\"client\":9,\"cluster\":1,\"f\":0,\n\
     \"keys\":[\"000102030405060708090a0b0c0d0e0f101112131415161718191a1b1c1d1e1f\"],\n\
     \"me\":0,\"n\":1,\"nodes\":[8],\"roles\":[[2,0]]}\n";
 
-/// What the cluster file sets up where a run of reads of one byte goes wrong, and how many of them failed.
-fn setup(alloc: Global, wrong: Wrong) -> (Result<Setup, FileFault>, u64) {
+/// How a cluster file is read where a run of reads of one byte goes wrong, and how many of them failed.
+fn read_file(alloc: Global, wrong: Wrong) -> Ran {
     let mut reader = Watched::new(wrong.of(SHORT.of(FILE)));
     let setup = read_setup(alloc, &mut reader);
-    (setup, reader.faults())
+    Ran {
+        outcome: setup_outcome(&setup),
+        faults: reader.faults(),
+    }
 }
 
-/// Whether it is the setup of the whole file.
-fn is_whole(setup: &Result<Setup, FileFault>) -> bool {
-    matches!(setup, Ok(setup) if setup.client == 9 && setup.nodes.as_slice() == [8].as_slice())
+/// Whether it is the setup of the whole file, or none since the file is unread.
+fn setup_outcome(setup: &Result<Setup, FileFault>) -> Outcome {
+    match setup {
+        Ok(setup) if setup.client == 9 && setup.nodes.as_slice() == [8].as_slice() =>
+            Outcome::Whole,
+        Err(FileFault::Unread) => Outcome::Cut,
+        _ => Outcome::Wrong,
+    }
 }
 
 #[test]
 fn each_read_of_a_file_fails_in_turn(rt: HostRuntime) {
-    let mut tried = 0;
-    for number in 0..1_000u64 {
-        let (setup, faults) = setup(rt.alloc(), Wrong::at(number));
-        if faults == 0 {
-            assert!(rt; is_whole(&setup), "{setup:?}");
-            break;
-        }
-        assert!(rt;
-            matches!(&setup, Err(FileFault::Unread)),
-            "read {number}: {setup:?}"
-        );
-        tried = number + 1;
-    }
-    assert!(rt; tried == FILE.len() as u64 + 1, "{tried} reads");
+    let reads = calls_that_cut(rt.alloc(), Calls::FileReads);
+    assert!(rt; reads == Some(FILE.len() as u64 + 1), "{reads:?} reads");
 }
+
+/// Interruptions of a file's reads, from one on so many, and how it is read.
+static INTERRUPTIONS: [(u64, u64, Outcome); 4] = [
+    (0, 1_024, Outcome::Whole),
+    (0, 1_025, Outcome::Cut),
+    (100, 1_024, Outcome::Whole),
+    (100, 1_025, Outcome::Cut),
+];
 
 #[test]
 fn a_file_is_read_as_patiently_as_all_else(rt: HostRuntime) {
-    for first in [0, 100] {
-        for (calls, whole) in [(1_024, true), (1_025, false)] {
-            let mishap = Mishap::Interrupt;
-            let (setup, _) = setup(
-                rt.alloc(),
-                Wrong {
-                    mishap,
-                    first,
-                    calls,
-                },
-            );
-            let right = if whole {
-                is_whole(&setup)
-            } else {
-                matches!(&setup, Err(FileFault::Unread))
-            };
-            assert!(rt;
-                right,
-                "{calls} interruptions from read {first} on: {setup:?}"
-            );
-        }
+    for (row, (first, calls, due)) in INTERRUPTIONS.iter().enumerate() {
+        let wrong = Wrong {
+            mishap: Mishap::Interrupt,
+            first: *first,
+            calls: *calls,
+        };
+        assert!(rt; read_file(rt.alloc(), wrong).outcome == *due, "row {row}");
     }
 }

@@ -37,45 +37,44 @@ pub fn local(port: u16) -> SocketAddr {
     SocketAddr::V4(SocketAddrV4::new(Ipv4Addr::LOCALHOST, port))
 }
 
+/// So many listeners on ports that were free.
+pub fn listeners<R>(rt: &R, alloc: Global, count: usize) -> Result<Vec<TcpListener>, Fail>
+where
+    R: Net<Listener = TcpListener, Stream = TcpStream>,
+{
+    let mut made = Vec::new(alloc);
+    for _ in 0..count {
+        made.push(TcpListener::bind(rt, local(0))?)?;
+    }
+    Ok(made)
+}
+
+pub fn ports_of(alloc: Global, listeners: &[TcpListener]) -> Result<Vec<u16>, Fail> {
+    let mut ports = Vec::new(alloc);
+    for listener in listeners {
+        ports.push(listener.local_addr()?.port())?;
+    }
+    Ok(ports)
+}
+
 /// So many ports that nobody listens on.
 pub fn free_ports<R>(rt: &R, alloc: Global, count: usize) -> Result<Vec<u16>, Fail>
 where
     R: Net<Listener = TcpListener, Stream = TcpStream>,
 {
-    let mut held = Vec::new(alloc);
-    let mut ports = Vec::new(alloc);
-    for _ in 0..count {
-        let listener = TcpListener::bind(rt, local(0))?;
-        ports.push(listener.local_addr()?.port())?;
-        held.push(listener)?;
-    }
-    Ok(ports)
+    let held = listeners(rt, alloc, count)?;
+    ports_of(alloc, &held)
 }
 
-/// The text of node `me`, of as many as there are ports for peers, of which role 2 is node `owner`'s, with the
-/// laboratory's keys: the lesser name and the greater as a byte each, and thirty zero bytes.
-pub fn text_of(
-    alloc: Global,
-    me: usize,
-    owner: u8,
-    peers: &[u16],
-    client: u16,
-) -> Result<String, Fail> {
-    let mut keys = String::new(alloc);
-    let mut ports = String::new(alloc);
-    for (other, port) in peers.iter().enumerate() {
-        let comma = if other == 0 { "" } else { "," };
-        let (less, more) = (me.min(other), me.max(other));
-        let key = format!(in alloc; "{comma}\"{less:02x}{more:02x}{:060}\"", 0)?;
-        keys.push_str(&key)?;
-        ports.push_str(&format!(in alloc; "{comma}{port}")?)?;
+/// Two ports that nobody listens on.
+pub fn two_ports<R>(rt: &R, alloc: Global) -> Result<(u16, u16), Fail>
+where
+    R: Net<Listener = TcpListener, Stream = TcpStream>,
+{
+    match free_ports(rt, alloc, 2)?.as_slice() {
+        [one, other] => Ok((*one, *other)),
+        _ => Err("no ports".into()),
     }
-    let n = peers.len();
-    let f = n / 4;
-    Ok(format!(in alloc;
-        "{{\"client\":{client},\"cluster\":1,\"f\":{f},\"keys\":[{keys}],\"me\":{me},\"n\":{n},\
-        \"nodes\":[{ports}],\"roles\":[[2,{owner}]]}}"
-    )?)
 }
 
 /// Serves the node of a cluster text. The program's exit status.
@@ -107,16 +106,81 @@ where
     Err("nobody listens".into())
 }
 
+/// So many connections to each of these ports.
+pub fn connections<R>(
+    rt: &R,
+    alloc: Global,
+    ports: &[u16],
+    count: u32,
+) -> Result<Vec<TcpStream>, Fail>
+where
+    R: Net<Listener = TcpListener, Stream = TcpStream> + Clock,
+{
+    let mut made = Vec::new(alloc);
+    for port in ports {
+        for _ in 0..count {
+            made.push(connected(rt, *port)?)?;
+        }
+    }
+    Ok(made)
+}
+
+/// A client that was answered a line.
+pub fn served<R>(rt: &R, alloc: Global, client: u16, line: &[u8]) -> Result<TcpStream, Fail>
+where
+    R: Net<Listener = TcpListener, Stream = TcpStream> + Clock,
+{
+    let stream = connected(rt, client)?;
+    ask(alloc, &stream, line)?;
+    Ok(stream)
+}
+
+/// As many clients as a node has places for, each of which was answered a line.
+pub fn sixteen_served<R>(
+    rt: &R,
+    alloc: Global,
+    client: u16,
+    line: &[u8],
+) -> Result<Vec<TcpStream>, Fail>
+where
+    R: Net<Listener = TcpListener, Stream = TcpStream> + Clock,
+{
+    let mut held = Vec::new(alloc);
+    for _ in 0..16 {
+        held.push(served(rt, alloc, client, line)?)?;
+    }
+    Ok(held)
+}
+
+/// Says something over a connection.
+pub fn say(stream: &TcpStream, bytes: &[u8]) -> Result<(), Fail> {
+    let mut writer = stream;
+    writer.write_all(bytes)?;
+    Ok(())
+}
+
+/// A connection to a port, over which this was said.
+pub fn connected_saying<R>(rt: &R, port: u16, bytes: &[u8]) -> Result<TcpStream, Fail>
+where
+    R: Net<Listener = TcpListener, Stream = TcpStream> + Clock,
+{
+    let stream = connected(rt, port)?;
+    say(&stream, bytes)?;
+    Ok(stream)
+}
+
 /// What is answered to a line, if anything is.
 pub fn answer_to(alloc: Global, stream: &TcpStream, line: &[u8]) -> Option<String> {
     let mut writer = stream;
     writer.write_all(line).ok()?;
-    let mut answer = String::new(alloc);
-    BufReader::new(alloc, stream)
-        .ok()?
-        .read_line(&mut answer)
-        .ok()?;
-    Some(answer)
+    next_line(alloc, stream)
+}
+
+fn next_line(alloc: Global, stream: &TcpStream) -> Option<String> {
+    let mut reader = BufReader::new(alloc, stream).ok()?;
+    let mut line = String::new(alloc);
+    reader.read_line(&mut line).ok()?;
+    Some(line)
 }
 
 /// The answer to a line.
@@ -125,6 +189,41 @@ pub fn ask(alloc: Global, stream: &TcpStream, line: &[u8]) -> Result<String, Fai
         Some(answer) => Ok(answer),
         None => Err("no answer".into()),
     }
+}
+
+/// Whether this is the answer to a line.
+pub fn answers(alloc: Global, stream: &TcpStream, line: &[u8], due: &str) -> Result<bool, Fail> {
+    Ok(ask(alloc, stream, line)?.as_str() == due)
+}
+
+/// Whether the answer to a line begins so.
+pub fn begins(alloc: Global, stream: &TcpStream, line: &[u8], due: &str) -> Result<bool, Fail> {
+    Ok(ask(alloc, stream, line)?.as_str().starts_with(due))
+}
+
+/// All that is answered to lines that are said at once, where nothing is said behind them.
+pub fn answers_at_once<R>(rt: &R, alloc: Global, client: u16, lines: &[u8]) -> Result<String, Fail>
+where
+    R: Net<Listener = TcpListener, Stream = TcpStream> + Clock,
+{
+    let mut stream = connected_saying(rt, client, lines)?;
+    stream.shutdown(Shutdown::Write)?;
+    let mut answers = String::new(alloc);
+    stream.read_to_string(&mut answers)?;
+    Ok(answers)
+}
+
+/// Whether the node has one message to send again, at the last of some questions.
+pub fn echoes<R: Clock>(rt: &R, alloc: Global, stream: &TcpStream) -> bool {
+    for _ in 0..MOST_LOOKS {
+        match answer_to(alloc, stream, AGAIN) {
+            Some(answer) if answer.as_str() == "{\"again\":1}\n" => return true,
+            Some(_) => {}
+            None => return false,
+        }
+        thread::sleep(rt, Duration::from_millis(1));
+    }
+    false
 }
 
 /// Stops the node, if it is still there.
@@ -148,6 +247,12 @@ pub fn is_closed(stream: &TcpStream) -> bool {
         Ok(count) => count == 0,
         Err(error) => error.kind() == ErrorKind::ConnectionReset,
     }
+}
+
+/// Whether the connection is not closed.
+pub fn is_kept(stream: &TcpStream) -> Result<bool, Fail> {
+    stream.set_read_timeout(Some(Duration::from_millis(1)))?;
+    Ok(!is_closed(stream))
 }
 
 /// Sends bytes to a node's port for peers. Whether the node has then taken them and closed the connection.

@@ -1,13 +1,16 @@
 //! A node over TCP, whose clients and peers do not do as they should.
 
+use crate::serve_frames::{flipped_frames, random_frames};
 use crate::serve_help::{
-    AGAIN, FRAME, MOST_LOOKS, PATIENCE, STOP, answer_to, are_taken, ask, connected, is_closed,
-    local, serve_text, stop, text_of,
+    AGAIN, FRAME, MOST_LOOKS, PATIENCE, STOP, answer_to, answers, answers_at_once, are_taken, ask,
+    connected, connected_saying, echoes, is_closed, is_kept, listeners, local, ports_of, say,
+    serve_text, served, sixteen_served, stop, two_ports,
 };
+use crate::serve_texts::{answers_of_users, lines_of_users, text_of};
 use link_frames::{FRAME_LEN, Frame};
 use std::alloc::Global;
 use std::io::{BufRead, BufReader, Read, Write};
-use std::net::{Net, Shutdown, TcpListener, TcpStream};
+use std::net::{Net, TcpListener, TcpStream};
 use std::sync::Wait;
 use std::test::Fail;
 use std::thread;
@@ -19,8 +22,7 @@ const OPEN: &[u8] = b"{\"op\":\"open\",\"user\":7}\n";
 /// A check whose answer says how many events the node has recorded.
 const CHECK: &[u8] = b"{\"op\":\"check\",\"session\":1,\"user\":7,\"operation\":5,\"object\":9}\n";
 
-/// How many bytes of a frame are before its tag.
-const UNTAGGED: usize = FRAME_LEN - 32;
+const ASSIGN: &[u8] = b"{\"op\":\"assign\",\"user\":7,\"role\":2}\n";
 
 /// What a node is put through.
 #[derive(Clone, Copy)]
@@ -60,20 +62,37 @@ fn accepted<R: Clock>(rt: &R, listener: &TcpListener) -> Result<TcpStream, Fail>
     Err("nobody connects".into())
 }
 
+/// Whether a session is opened over a connection that is made.
+fn opens_once<R>(rt: &R, alloc: Global, client: u16) -> Result<bool, Fail>
+where
+    R: Net<Listener = TcpListener, Stream = TcpStream> + Clock,
+{
+    let stream = connected(rt, client)?;
+    match answer_to(alloc, &stream, OPEN) {
+        Some(answer) => Ok(answer.as_str().starts_with("{\"session\":")),
+        None => Ok(false),
+    }
+}
+
 /// Whether a session is opened, over a connection that is made again where it is closed.
 fn opens<R>(rt: &R, alloc: Global, client: u16) -> Result<bool, Fail>
 where
     R: Net<Listener = TcpListener, Stream = TcpStream> + Clock,
 {
     for _ in 0..MOST_LOOKS {
-        if let Some(answer) = answer_to(alloc, &connected(rt, client)?, OPEN) {
-            if answer.as_str().starts_with("{\"session\":") {
-                return Ok(true);
-            }
+        if opens_once(rt, alloc, client)? {
+            return Ok(true);
         }
         thread::sleep(rt, Duration::from_millis(1));
     }
     Ok(false)
+}
+
+/// Whether this is the next line that comes.
+fn hears(alloc: Global, reader: &mut impl BufRead, due: &str) -> Result<bool, Fail> {
+    let mut line = String::new(alloc);
+    reader.read_line(&mut line)?;
+    Ok(line.as_str() == due)
 }
 
 /// Whether an answer comes though the line behind it is too long and has no end yet, and those to that line and to the
@@ -83,19 +102,24 @@ where
     R: Net<Listener = TcpListener, Stream = TcpStream> + Clock,
 {
     let stream = connected(rt, place.client)?;
-    let mut writer = &stream;
     let mut reader = BufReader::new(alloc, &stream)?;
-    writer.write_all(OPEN)?;
-    writer.write_all(&[b'x'; 5_000])?;
-    let mut answers = String::new(alloc);
-    reader.read_line(&mut answers)?;
-    let first = answers.as_str() == "{\"session\":1}\n";
-    writer.write_all(b"\n")?;
-    writer.write_all(OPEN)?;
-    answers.clear();
-    reader.read_line(&mut answers)?;
-    reader.read_line(&mut answers)?;
-    Ok(first && answers.as_str() == "{\"error\":\"J1 NotJson\"}\n{\"session\":2}\n")
+    say(&stream, OPEN)?;
+    say(&stream, &[b'x'; 5_000])?;
+    let first = hears(alloc, &mut reader, "{\"session\":1}\n")?;
+    say(&stream, b"\n")?;
+    say(&stream, OPEN)?;
+    Ok(
+        first
+            && hears(alloc, &mut reader, "{\"error\":\"J1 NotJson\"}\n")?
+            && hears(alloc, &mut reader, "{\"session\":2}\n")?,
+    )
+}
+
+/// A check that nothing comes before, then a hundred users' lines.
+fn check_then_lines(alloc: Global) -> Result<Vec<u8>, Fail> {
+    let mut lines = CHECK.to_vec(alloc)?;
+    lines.extend_from_slice(lines_of_users(alloc, 100)?.as_bytes())?;
+    Ok(lines)
 }
 
 /// Whether two hundred lines that come at once are answered in their order: a check that nothing comes before, then one
@@ -104,24 +128,25 @@ fn many_lines<R>(rt: &R, alloc: Global, place: &Place) -> Result<bool, Fail>
 where
     R: Net<Listener = TcpListener, Stream = TcpStream> + Clock,
 {
-    let mut lines = String::new(alloc);
-    let mut due = String::new(alloc);
-    due.push_str("{\"allow\":false,\"at\":0,\"rule\":\"N1\"}\n")?;
-    for user in 1..=100u32 {
-        lines.push_str(&format!(in alloc; "{{\"op\":\"open\",\"user\":{user}}}\n")?)?;
-        due.push_str(&format!(in alloc; "{{\"session\":{user}}}\n")?)?;
-        lines.push_str(&format!(in alloc;
-            "{{\"op\":\"check\",\"session\":{user},\"user\":{user},\"operation\":5,\"object\":9}}\n"
-        )?)?;
-        due.push_str(&format!(in alloc; "{{\"allow\":false,\"at\":{user},\"rule\":\"N3\"}}\n")?)?;
-    }
-    let mut stream = connected(rt, place.client)?;
-    stream.write_all(CHECK)?;
-    stream.write_all(lines.as_bytes())?;
-    stream.shutdown(Shutdown::Write)?;
-    let mut answers = String::new(alloc);
-    stream.read_to_string(&mut answers)?;
-    Ok(answers.as_str() == due.as_str())
+    let lines = check_then_lines(alloc)?;
+    let answers = answers_at_once(rt, alloc, place.client, &lines)?;
+    are_answers_of_users(alloc, answers.as_str())
+}
+
+fn are_answers_of_users(alloc: Global, answers: &str) -> Result<bool, Fail> {
+    let due = answers_of_users(alloc, 100)?;
+    let behind = answers.strip_prefix("{\"allow\":false,\"at\":0,\"rule\":\"N1\"}\n");
+    Ok(behind == Some(due.as_str()))
+}
+
+/// Says stop over a connection that is reset then, since an answer was not read.
+fn stop_and_reset<R>(rt: &R, client: u16) -> Result<(), Fail>
+where
+    R: Net<Listener = TcpListener, Stream = TcpStream> + Clock,
+{
+    let stream = connected_saying(rt, client, OPEN)?;
+    stream.peek(&mut [0u8; 1])?;
+    say(&stream, STOP)
 }
 
 /// Whether a node stops though the connection that said so was reset.
@@ -129,12 +154,7 @@ fn stop_then_reset<R>(rt: &R, place: &Place) -> Result<bool, Fail>
 where
     R: Net<Listener = TcpListener, Stream = TcpStream> + Clock,
 {
-    let mut stream = connected(rt, place.client)?;
-    stream.write_all(OPEN)?;
-    stream.peek(&mut [0u8; 1])?;
-    stream.write_all(STOP)?;
-    // an answer that was not read makes it a reset
-    drop(stream);
+    stop_and_reset(rt, place.client)?;
     for _ in 0..MOST_LOOKS {
         if TcpStream::connect(rt, local(place.client)).is_err() {
             return Ok(true);
@@ -144,38 +164,55 @@ where
     Ok(false)
 }
 
+fn seventeenth_is_closed<R>(rt: &R, alloc: Global, client: u16) -> Result<bool, Fail>
+where
+    R: Net<Listener = TcpListener, Stream = TcpStream> + Clock,
+{
+    let _held = sixteen_served(rt, alloc, client, OPEN)?;
+    Ok(is_closed(&connected(rt, client)?))
+}
+
 /// Whether the seventeenth client is closed, and served once another has gone.
 fn many_clients<R>(rt: &R, alloc: Global, place: &Place) -> Result<bool, Fail>
 where
     R: Net<Listener = TcpListener, Stream = TcpStream> + Clock,
 {
-    let mut held = Vec::new(alloc);
-    for _ in 0..16 {
-        let stream = connected(rt, place.client)?;
-        ask(alloc, &stream, OPEN)?;
-        held.push(stream)?;
-    }
-    let right = is_closed(&connected(rt, place.client)?);
-    drop(held);
-    Ok(right && opens(rt, alloc, place.client)?)
+    Ok(seventeenth_is_closed(rt, alloc, place.client)? && opens(rt, alloc, place.client)?)
 }
 
-/// Whether a client is answered while another does not read the answers to its 10,000 lines.
-fn deaf_client<R>(rt: &R, alloc: Global, place: &Place) -> Result<bool, Fail>
+/// A client that does not read the answers to its 10,000 lines.
+fn deaf<R>(rt: &R, client: u16) -> Result<TcpStream, Fail>
 where
     R: Net<Listener = TcpListener, Stream = TcpStream> + Clock,
 {
-    let mut deaf = connected(rt, place.client)?;
+    let mut deaf = connected(rt, client)?;
     deaf.set_write_timeout(Some(Duration::from_millis(PATIENCE)))?;
     for _ in 0..10_000u32 {
         if deaf.write_all(b"{\"op\":\"reach\",\"owner\":0}\n").is_err() {
             break;
         }
     }
-    let stream = connected(rt, place.client)?;
-    let right = ask(alloc, &stream, OPEN)?.as_str() == "{\"session\":1}\n";
+    Ok(deaf)
+}
+
+/// Whether a client is answered, which then says stop.
+fn is_answered<R>(rt: &R, alloc: Global, client: u16) -> Result<bool, Fail>
+where
+    R: Net<Listener = TcpListener, Stream = TcpStream> + Clock,
+{
+    let stream = connected(rt, client)?;
+    let right = answers(alloc, &stream, OPEN, "{\"session\":1}\n")?;
     ask(alloc, &stream, STOP)?;
     Ok(right)
+}
+
+/// Whether a client is answered while another does not read the answers to its lines.
+fn deaf_client<R>(rt: &R, alloc: Global, place: &Place) -> Result<bool, Fail>
+where
+    R: Net<Listener = TcpListener, Stream = TcpStream> + Clock,
+{
+    let _deaf = deaf(rt, place.client)?;
+    is_answered(rt, alloc, place.client)
 }
 
 /// Whether a connection is closed on which no frame opens.
@@ -184,9 +221,18 @@ where
     R: Net<Listener = TcpListener, Stream = TcpStream> + Clock,
 {
     let silent = connected(rt, place.peers)?;
-    let mut wrong = connected(rt, place.peers)?;
-    wrong.write_all(&[0; 2 * FRAME_LEN])?;
+    let wrong = connected_saying(rt, place.peers, &[0; 2 * FRAME_LEN])?;
     Ok(is_closed(&silent) && is_closed(&wrong) && opens(rt, alloc, place.client)?)
+}
+
+/// A peer's connection that has brought the frame, which the node has taken then.
+fn first_connection<R>(rt: &R, alloc: Global, place: &Place) -> Result<TcpStream, Fail>
+where
+    R: Net<Listener = TcpListener, Stream = TcpStream> + Clock,
+{
+    let first = connected_saying(rt, place.peers, &FRAME)?;
+    let _taken = echoes(rt, alloc, &connected(rt, place.client)?);
+    Ok(first)
 }
 
 /// Whether of three connections of a peer that is closed which has brought nothing new, the older of two of these.
@@ -194,25 +240,11 @@ fn third_connection<R>(rt: &R, alloc: Global, place: &Place) -> Result<bool, Fai
 where
     R: Net<Listener = TcpListener, Stream = TcpStream> + Clock,
 {
-    let client = connected(rt, place.client)?;
-    let mut first = connected(rt, place.peers)?;
-    first.write_all(&FRAME)?;
-    for _ in 0..MOST_LOOKS {
-        if ask(alloc, &client, AGAIN)?.as_str() == "{\"again\":1}\n" {
-            break;
-        }
-        thread::sleep(rt, Duration::from_millis(1));
-    }
-    let mut second = connected(rt, place.peers)?;
-    second.write_all(&FRAME)?;
+    let first = first_connection(rt, alloc, place)?;
+    let second = connected_saying(rt, place.peers, &FRAME)?;
     thread::sleep(rt, Duration::from_millis(20));
-    let mut third = connected(rt, place.peers)?;
-    third.write_all(&FRAME)?;
-    let closed = is_closed(&second);
-    for kept in [&first, &third] {
-        kept.set_read_timeout(Some(Duration::from_millis(1)))?;
-    }
-    Ok(closed && !is_closed(&first) && !is_closed(&third))
+    let third = connected_saying(rt, place.peers, &FRAME)?;
+    Ok(is_closed(&second) && is_kept(&first)? && is_kept(&third)?)
 }
 
 /// Whether frames do no harm whose connections are closed before they are taken.
@@ -249,15 +281,14 @@ fn peer_that_closes<R>(rt: &R, alloc: Global, place: &Place) -> Result<bool, Fai
 where
     R: Net<Listener = TcpListener, Stream = TcpStream> + Clock,
 {
-    let stream = connected(rt, place.client)?;
-    ask(
-        alloc,
-        &stream,
-        b"{\"op\":\"assign\",\"user\":7,\"role\":2}\n",
-    )?;
-    let Some(listener) = place.others.first() else {
-        return Ok(false);
-    };
+    let _client = served(rt, alloc, place.client, ASSIGN)?;
+    match place.others.first() {
+        Some(listener) => gets_frames_again(rt, listener),
+        None => Ok(false),
+    }
+}
+
+fn gets_frames_again<R: Clock>(rt: &R, listener: &TcpListener) -> Result<bool, Fail> {
     drop(accepted(rt, listener)?);
     for _ in 0..2u8 {
         if !brings_the_send(&mut accepted(rt, listener)?)? {
@@ -267,9 +298,11 @@ where
     Ok(true)
 }
 
-/// What a client hears that asks how many events there are, and what the node sent at the first place of node 0.
-fn heard(alloc: Global, stream: &TcpStream) -> Result<(String, String), Fail> {
-    Ok((ask(alloc, stream, CHECK)?, ask(alloc, stream, AGAIN)?))
+/// Whether a client that asks how many events there are, and what the node sent at the first place of node 0, hears
+/// that nothing has happened.
+fn nothing_has_happened(alloc: Global, stream: &TcpStream) -> Result<bool, Fail> {
+    let check = "{\"allow\":false,\"at\":0,\"rule\":\"N1\"}\n";
+    Ok(answers(alloc, stream, CHECK, check)? && answers(alloc, stream, AGAIN, "{\"again\":0}\n")?)
 }
 
 /// Whether a client hears that nothing has happened before these bytes came to the port for peers and behind them, and
@@ -280,53 +313,12 @@ where
 {
     let stream = connected(rt, place.client)?;
     for _ in 0..2u8 {
-        let (check, again) = heard(alloc, &stream)?;
-        if check.as_str() != "{\"allow\":false,\"at\":0,\"rule\":\"N1\"}\n"
-            || again.as_str() != "{\"again\":0}\n"
-            || !are_taken(rt, place.peers, bytes)?
-        {
+        if !nothing_has_happened(alloc, &stream)? || !are_taken(rt, place.peers, bytes)? {
             return Ok(false);
         }
     }
     let taken = are_taken(rt, place.peers, &FRAME)?;
-    let (_, again) = heard(alloc, &stream)?;
-    Ok(taken && again.as_str() == "{\"again\":1}\n")
-}
-
-/// The next of some numbers that look random.
-fn next_number(number: u64) -> u64 {
-    let left = number ^ number.wrapping_shl(13);
-    let right = left ^ (left >> 7);
-    right ^ right.wrapping_shl(17)
-}
-
-/// Ten thousand frames that look random. Every other begins as the good one does, so that only its tag is wrong.
-fn random_frames(alloc: Global) -> Result<Vec<u8>, Fail> {
-    let mut bytes = Vec::new(alloc);
-    let mut number = 88_172_645_463_325_252;
-    for index in 0..10_000u32 {
-        let mut frame = FRAME;
-        let begin = if index % 2 == 0 { 0 } else { UNTAGGED };
-        for byte in &mut frame[begin..] {
-            number = next_number(number);
-            *byte = (number % 256) as u8;
-        }
-        bytes.extend_from_slice(&frame)?;
-    }
-    Ok(bytes)
-}
-
-/// The good frame once for each of its bits, which is another there.
-fn flipped_frames(alloc: Global) -> Result<Vec<u8>, Fail> {
-    let mut bytes = Vec::new(alloc);
-    for at in 0..FRAME_LEN {
-        for bit in 0..8u32 {
-            let mut frame = FRAME;
-            frame[at] ^= 1u8 << bit;
-            bytes.extend_from_slice(&frame)?;
-        }
-    }
-    Ok(bytes)
+    Ok(taken && answers(alloc, &stream, AGAIN, "{\"again\":1}\n")?)
 }
 
 /// Whether the node does as it should.
@@ -351,18 +343,51 @@ where
     }
 }
 
-/// So many listeners on ports that were free, which do not wait.
-fn listeners<R>(rt: &R, alloc: Global, count: usize) -> Result<Vec<TcpListener>, Fail>
-where
-    R: Net<Listener = TcpListener, Stream = TcpStream>,
-{
-    let mut made = Vec::new(alloc);
-    for _ in 0..count {
-        let listener = TcpListener::bind(rt, local(0))?;
-        listener.set_nonblocking(true)?;
-        made.push(listener)?;
+impl Place {
+    /// Three listeners that do not wait, and two ports that nobody listens on.
+    fn new<R>(rt: &R, alloc: Global) -> Result<Place, Fail>
+    where
+        R: Net<Listener = TcpListener, Stream = TcpStream>,
+    {
+        let others = listeners(rt, alloc, 3)?;
+        for listener in &others {
+            listener.set_nonblocking(true)?;
+        }
+        let (peers, client) = two_ports(rt, alloc)?;
+        Ok(Place {
+            others,
+            peers,
+            client,
+        })
     }
-    Ok(made)
+
+    /// The cluster text of node 1, whose other nodes are the listeners.
+    fn text(&self, alloc: Global) -> Result<String, Fail> {
+        match ports_of(alloc, &self.others)?.as_slice() {
+            [a, c, d] => Ok(text_of(alloc, 1, 1, &[*a, self.peers, *c, *d], self.client)?),
+            _ => Err("no ports".into()),
+        }
+    }
+}
+
+/// Whether the node of a text, which is put through a trial and stopped, does as it should and ends well.
+fn is_fit_at<R>(
+    rt: &R,
+    alloc: Global,
+    trial: Trial,
+    place: &Place,
+    text: &str,
+) -> Result<bool, Fail>
+where
+    R: Net<Listener = TcpListener, Stream = TcpStream> + Threads + Wait + Clock + Sync,
+{
+    thread::scope(thread::scope_env(), rt, |scope| -> Result<bool, Fail> {
+        let server = scope.spawn(move || serve_text(rt, alloc, text))?;
+        let right = try_out(rt, alloc, trial, place);
+        stop(rt, alloc, place.client);
+        let status = server.join(rt);
+        Ok(right? && status == 0)
+    })
 }
 
 /// Node 1 of four, whose other nodes are mere listeners, is put through a trial and stopped. Whether all is well.
@@ -370,33 +395,9 @@ fn is_fit<R>(rt: &R, alloc: Global, trial: Trial) -> Result<bool, Fail>
 where
     R: Net<Listener = TcpListener, Stream = TcpStream> + Threads + Wait + Clock + Sync,
 {
-    let others = listeners(rt, alloc, 3)?;
-    let own = listeners(rt, alloc, 2)?;
-    let mut ports = Vec::new(alloc);
-    for listener in others.iter().chain(&own) {
-        ports.push(listener.local_addr()?.port())?;
-    }
-    let (a, c, d, peers, client) = match ports.as_slice() {
-        [a, c, d, peers, client] => (*a, *c, *d, *peers, *client),
-        _ => return Ok(false),
-    };
-    drop(own);
-    let text = text_of(alloc, 1, 1, &[a, peers, c, d], client)?;
-    let shown = text.as_str();
-    let place = Place {
-        others,
-        peers,
-        client,
-    };
-    let right = thread::scope(thread::scope_env(), rt, |scope| -> Result<bool, Fail> {
-        let server = scope.spawn(move || serve_text(rt, alloc, shown))?;
-        let right = try_out(rt, alloc, trial, &place);
-        stop(rt, alloc, client);
-        let status = server.join(rt);
-        let right = right?;
-        Ok(right && status == 0)
-    })?;
-    Ok(right)
+    let place = Place::new(rt, alloc)?;
+    let text = place.text(alloc)?;
+    is_fit_at(rt, alloc, trial, &place, text.as_str())
 }
 
 #[test]

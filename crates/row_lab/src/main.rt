@@ -8,7 +8,6 @@ use link_rows::Link;
 use lower_rows::Lower;
 use row_words::{RowFault, Words, text_of};
 use serving_rows::Serving;
-use std::alloc::Global;
 use std::io::{self, BufRead, BufReader};
 use std::process::ExitCode;
 
@@ -24,7 +23,8 @@ enum Layer {
 }
 
 /// The value of the layer that the row begins, if it begins one.
-fn begin(alloc: Global, line: &str) -> Result<Option<Layer>, RowFault> {
+fn begin(rt: &HostRuntime, line: &str) -> Result<Option<Layer>, RowFault> {
+    let alloc = rt.alloc();
     let layer = Words::new(line).word();
     if link_rows::has(layer) {
         return Ok(Some(Layer::Link(link_rows::begin(alloc, line)?)));
@@ -39,7 +39,7 @@ fn begin(alloc: Global, line: &str) -> Result<Option<Layer>, RowFault> {
         return Ok(Some(Layer::Serving(serving_rows::begin(alloc, line)?)));
     }
     if journal_rows::has(layer) {
-        return Ok(Some(Layer::Journal(journal_rows::begin(alloc, line)?)));
+        return Ok(Some(Layer::Journal(journal_rows::begin(rt, line)?)));
     }
     Ok(None)
 }
@@ -55,32 +55,33 @@ impl Layer {
         }
     }
 
-    fn call(&mut self, alloc: Global, line: &str) -> Result<String, RowFault> {
+    fn call(&mut self, rt: &HostRuntime, line: &str) -> Result<String, RowFault> {
+        let alloc = rt.alloc();
         match self {
             Layer::Blank => Err(RowFault::BadRow),
             Layer::Link(link) => link.answer(alloc, line),
             Layer::Lower(lower) => lower.answer(alloc, line),
             Layer::Cluster(cluster) => cluster.answer(alloc, line),
             Layer::Serving(serving) => serving.answer(alloc, line),
-            Layer::Journal(journal) => journal.answer(alloc, line),
+            Layer::Journal(journal) => journal.answer(rt, line),
         }
     }
 
-    fn answer(&mut self, alloc: Global, line: &str) -> Result<String, RowFault> {
-        match begin(alloc, line)? {
+    fn answer(&mut self, rt: &HostRuntime, line: &str) -> Result<String, RowFault> {
+        match begin(rt, line)? {
             Some(layer) => {
                 *self = layer;
-                text_of(alloc, &"ok")
+                text_of(rt.alloc(), &"ok")
             }
-            None => self.call(alloc, line),
+            None => self.call(rt, line),
         }
     }
 
     /// What comes of a row. Where memory is wanting nothing has changed, and the call is made once more.
-    fn answer_twice(&mut self, alloc: Global, line: &str) -> Result<String, RowFault> {
+    fn answer_twice(&mut self, rt: &HostRuntime, line: &str) -> Result<String, RowFault> {
         let before = self.seen();
-        match self.answer(alloc, line) {
-            Err(RowFault::Memory) if self.seen() == before => self.answer(alloc, line),
+        match self.answer(rt, line) {
+            Err(RowFault::Memory) if self.seen() == before => self.answer(rt, line),
             Err(RowFault::Memory) => Err(RowFault::Changed),
             answer => answer,
         }
@@ -91,7 +92,7 @@ fn main(rt: HostRuntime) -> io::Result<ExitCode> {
     let mut layer = Layer::Blank;
     for line in BufReader::new(rt.alloc(), rt.reader())?.lines(rt.alloc()) {
         let line = line?;
-        match layer.answer_twice(rt.alloc(), &line) {
+        match layer.answer_twice(&rt, &line) {
             Ok(text) => println!(rt; "{text}")?,
             Err(fault) => {
                 eprintln!(rt; "row_lab: {fault:?}: {line}")?;

@@ -2,8 +2,7 @@
 
 use crate::deck::Deck;
 use crate::sample::Sample;
-use anyhow::Result;
-use std::alloc::Global;
+use std::alloc::{AllocError, Global};
 
 /// An operation on an object.
 #[derive(Clone, Copy)]
@@ -47,38 +46,28 @@ pub struct Permissions {
 
 impl Permissions {
     /// Draws the permissions, and which of them each of so many roles has.
-    pub fn new(alloc: Global, sample: &mut Sample, roles: u16) -> Result<Permissions> {
-        let mut accesses = Vec::new(alloc);
-        let mut asked_in = Vec::new(alloc);
-        let mut objects = Deck::new(alloc, OBJECTS)?;
-        for _ in 0..COMMON + POPULAR {
-            accesses.push(Access {
-                operation: sample.role(OPERATIONS),
-                object: objects.deal(sample),
-            })?;
-            asked_in.push(0)?;
-        }
-        let mut of_roles = Vec::new(alloc);
-        let mut common = Deck::new(alloc, COMMON)?;
-        for _ in 0..roles {
-            common.ready(COMMON_OF_ROLE);
-            let mut places = Vec::new(alloc);
-            for _ in 0..COMMON_OF_ROLE {
-                places.push(common.deal(sample))?;
-            }
-            of_roles.push(places)?;
-        }
+    ///
+    /// # Errors
+    ///
+    /// Only for want of memory.
+    pub fn new(alloc: Global, sample: &mut Sample, roles: u16) -> Result<Permissions, AllocError> {
+        let accesses = draw_accesses(alloc, sample)?;
+        let of_roles = draw_places(alloc, sample, roles)?;
         Ok(Permissions {
+            asked_in: asked_in_none(alloc, accesses.len())?,
             accesses,
             of_roles,
-            asked_in,
             session: 0,
             foreign: 0,
         })
     }
 
     /// The common permissions of a role.
-    pub fn common(&self, alloc: Global, role: u16) -> Result<Vec<Access>> {
+    ///
+    /// # Errors
+    ///
+    /// Only for want of memory.
+    pub fn common(&self, alloc: Global, role: u16) -> Result<Vec<Access>, AllocError> {
         let mut accesses = Vec::new(alloc);
         if let Some(places) = self.of_roles.get(usize::from(role)) {
             for place in places.iter() {
@@ -89,7 +78,11 @@ impl Permissions {
     }
 
     /// The permissions that hundreds of roles are to have.
-    pub fn popular(&self, alloc: Global) -> Result<Vec<Access>> {
+    ///
+    /// # Errors
+    ///
+    /// Only for want of memory.
+    pub fn popular(&self, alloc: Global) -> Result<Vec<Access>, AllocError> {
         let mut accesses = Vec::new(alloc);
         for number in 0..POPULAR {
             accesses.push(self.access(COMMON + number))?;
@@ -168,4 +161,51 @@ impl Permissions {
             .copied()
             .unwrap_or(nothing)
     }
+}
+
+/// The permissions, each of an object of its own.
+fn draw_accesses(alloc: Global, sample: &mut Sample) -> Result<Vec<Access>, AllocError> {
+    let mut objects = Deck::new(alloc, OBJECTS)?;
+    let mut accesses = Vec::new(alloc);
+    for _ in 0..COMMON + POPULAR {
+        accesses.push(Access {
+            operation: sample.role(OPERATIONS),
+            object: objects.deal(sample),
+        })?;
+    }
+    Ok(accesses)
+}
+
+/// For each of so many roles the places of its common permissions.
+fn draw_places(
+    alloc: Global,
+    sample: &mut Sample,
+    roles: u16,
+) -> Result<Vec<Vec<u32>>, AllocError> {
+    let mut common = Deck::new(alloc, COMMON)?;
+    let mut of_roles = Vec::new(alloc);
+    for _ in 0..roles {
+        of_roles.push(places_of_role(alloc, sample, &mut common)?)?;
+    }
+    Ok(of_roles)
+}
+
+fn places_of_role(
+    alloc: Global,
+    sample: &mut Sample,
+    common: &mut Deck,
+) -> Result<Vec<u32>, AllocError> {
+    common.ready(COMMON_OF_ROLE);
+    let mut places = Vec::new(alloc);
+    for _ in 0..COMMON_OF_ROLE {
+        places.push(common.deal(sample))?;
+    }
+    Ok(places)
+}
+
+/// That no session has asked about any of so many permissions.
+fn asked_in_none(alloc: Global, count: usize) -> Result<Vec<u32>, AllocError> {
+    let mut asked_in = Vec::new(alloc);
+    asked_in.resize(count, 0)?;
+    Ok(asked_in)
 }

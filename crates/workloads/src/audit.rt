@@ -16,14 +16,9 @@ const COMMANDS: u32 = 40_000;
 pub fn run(alloc: Global, seed: u32, share: u32) -> Result<Digest> {
     let mut sample = Sample::new(seed, 5);
     let mut digest = Digest::new();
+    let commands = part(COMMANDS, share);
     for order in 0..6 {
-        audit_one(
-            alloc,
-            &mut sample,
-            part(COMMANDS, share),
-            order,
-            &mut digest,
-        )?;
+        audit_one(alloc, &mut sample, commands, order, &mut digest)?;
     }
     Ok(digest)
 }
@@ -37,6 +32,17 @@ fn audit_one(
     digest: &mut Digest,
 ) -> Result<()> {
     let mut history = History::new(alloc, sample, commands, digest)?;
+    audit_receipts(alloc, &mut history, sample, order, digest)
+}
+
+/// Audits the history with its receipts in this order.
+fn audit_receipts(
+    alloc: Global,
+    history: &mut History,
+    sample: &mut Sample,
+    order: u32,
+    digest: &mut Digest,
+) -> Result<()> {
     let mut receipts = history.receipts(alloc)?;
     arrange(&mut receipts, sample, order);
     digest.number(u64::from(history.node.events()));

@@ -72,29 +72,17 @@ impl Changes {
 
     /// Takes back something that was given at some time.
     fn take_back(&mut self) -> Result<()> {
-        let Ok(count) = u32::try_from(self.given.len()) else {
-            return Ok(());
-        };
+        match self.draw_given().and_then(taking_back) {
+            Some(command) => self.publish(command),
+            None => Ok(()),
+        }
+    }
+
+    /// One of the commands that were given.
+    fn draw_given(&mut self) -> Option<Command> {
+        let count = u32::try_from(self.given.len()).ok()?;
         let index = self.sample.below(count);
-        let command = match self.given.get(index as usize) {
-            Some(Command::Assign { user, role }) => Command::Deassign {
-                user: *user,
-                role: *role,
-            },
-            Some(
-                Command::Grant {
-                    role,
-                    operation,
-                    object,
-                },
-            ) => Command::Revoke {
-                role: *role,
-                operation: *operation,
-                object: *object,
-            },
-            _ => return Ok(()),
-        };
-        self.publish(command)
+        self.given.get(index as usize).copied()
     }
 
     /// One command of the mix: among a thousand one clear of a role with no pair, and one of another small role.
@@ -102,18 +90,18 @@ impl Changes {
         let user = self.sample.below(USERS);
         let drawn = self.sample.below(1_000);
         match drawn {
-            0 => {
-                let role = ROLES + self.sample.role(ALL_ROLES - ROLES) % 56;
-                self.publish(Command::Clear { role })
-            }
-            1 => {
-                let role = LARGE_ROLES + self.sample.role(ROLES - LARGE_ROLES) % 198;
-                self.publish(Command::Clear { role })
-            }
+            0 => self.clear_drawn(ROLES, ALL_ROLES - ROLES),
+            1 => self.clear_drawn(LARGE_ROLES, ROLES - LARGE_ROLES),
             2..450 => self.assign(user),
             450..550 => self.grant(),
             _ => self.take_back(),
         }
+    }
+
+    /// Clears one of so many roles from this one on.
+    fn clear_drawn(&mut self, first: u16, count: u16) -> Result<()> {
+        let role = first.saturating_add(self.sample.role(count));
+        self.publish(Command::Clear { role })
     }
 
     /// Assigns roles to so many users, in descending order of the users, and grants something with each eighth.
@@ -169,15 +157,33 @@ impl Changes {
     /// Adds who has each role, and what each may do, to the digest.
     fn review(&mut self) -> Result<()> {
         for role in 0..ALL_ROLES {
-            for question in [
-                Question::AssignedUsers(role),
-                Question::RolePermissions(role),
-            ] {
-                let answer = self.node.ask(question)?;
-                self.digest.answer(&answer);
-            }
+            self.ask(Question::AssignedUsers(role))?;
+            self.ask(Question::RolePermissions(role))?;
         }
         Ok(())
+    }
+
+    fn ask(&mut self, question: Question) -> Result<()> {
+        let answer = self.node.ask(question)?;
+        self.digest.answer(&answer);
+        Ok(())
+    }
+}
+
+/// The command that takes back what another gave.
+fn taking_back(given: Command) -> Option<Command> {
+    match given {
+        Command::Assign { user, role } => Some(Command::Deassign { user, role }),
+        Command::Grant {
+            role,
+            operation,
+            object,
+        } => Some(Command::Revoke {
+            role,
+            operation,
+            object,
+        }),
+        _ => None,
     }
 }
 

@@ -1,7 +1,7 @@
 //! Commands of four owners on their way to seven nodes as sealed frames, among which come repeats, old frames and
 //! forged tags.
 
-ghost use Rattle.std.specs.Prelude.{◌≡◌, ◌<◌};
+ghost use Rattle.std.specs.Prelude.{◌≡◌, ◌<◌, IfOk};
 
 use crate::digest::Digest;
 use crate::registry::{config, node};
@@ -11,7 +11,7 @@ use link_frames::{FRAME_LEN, Frame, Message, Packet, PairKeys, open_frame, seal}
 use quorum_sizes::{NodeName, Sizes};
 use role_commands::Command;
 use role_node::{Event, Node, NodeFault};
-use std::alloc::Global;
+use std::alloc::{AllocError, Global};
 use std::collections::VecDeque;
 
 const NODES: u8 = 7;
@@ -52,14 +52,11 @@ impl Member {
         if !sizes.has(me) {
             bail!("no node");
         }
-        let mut keys = Vec::new(alloc);
-        for other in 0..NODES {
-            keys.push(key(index, other, secret))?;
-        }
+        let keys = pair_keys(alloc, &sizes, me, secret)?;
         Ok(Member {
             alloc,
             node: node(alloc, config(alloc, NODES, LIARS, OWNERS, ROLES)?, index)?,
-            keys: PairKeys::new(alloc, &sizes, me, &keys)?,
+            keys,
             sizes,
             me,
         })
@@ -110,6 +107,24 @@ impl Member {
     }
 }
 
+/// The keys that a node shares with each node.
+fn pair_keys(alloc: Global, sizes: &Sizes, me: NodeName, secret: u32) -> Result<PairKeys>
+    requires { me < sizes.now.nodes }
+    ensures sized { IfOk result (λ keys. keys.sizes ≡ sizes.now) }
+    ensures own { IfOk result (λ keys. keys.me ≡ me) }
+{
+    let keys = secret_keys(alloc, me, secret)?;
+    Ok(PairKeys::new(alloc, sizes, me, &keys)?)
+}
+
+fn secret_keys(alloc: Global, me: NodeName, secret: u32) -> Result<Vec<[u8; 32]>, AllocError> {
+    let mut keys = Vec::new(alloc);
+    for other in 0..NODES {
+        keys.push(key(me.index(), other, secret))?;
+    }
+    Ok(keys)
+}
+
 /// The key that two nodes share.
 fn key(one: u8, other: u8, secret: u32) -> [u8; 32] {
     let mut key = [0; 32];
@@ -135,12 +150,8 @@ struct Net {
 
 impl Net {
     fn new(alloc: Global, secret: u32) -> Result<Net> {
-        let mut members = Vec::new(alloc);
-        for index in 0..NODES {
-            members.push(Member::new(alloc, index, secret)?)?;
-        }
         Ok(Net {
-            members,
+            members: members(alloc, secret)?,
             frames: VecDeque::new(alloc),
             old: [0; FRAME_LEN],
             taken: 0,
@@ -174,26 +185,30 @@ impl Net {
             };
             self.give(&frame, digest)?;
             self.taken = self.taken.wrapping_add(1);
-            match self.taken % 60 {
-                19 => self.give(&frame, digest)?,
-                39 => {
-                    let mut forged = frame;
-                    forged[FRAME_LEN - 1] ^= 1;
-                    self.give(&forged, digest)?;
-                }
-                59 => {
-                    let old = self.old;
-                    if old[0] != 0 {
-                        self.give(&old, digest)?;
-                    }
-                }
-                _ => {}
-            }
+            self.give_besides(&frame, digest)?;
             if self.taken % 1_021 == 0 {
                 self.old = frame;
             }
         }
         Ok(())
+    }
+
+    /// Behind a frame that was given, now and then the same once more, one with another tag, or an old one.
+    fn give_besides(&mut self, frame: &Frame, digest: &mut Digest) -> Result<()> {
+        match self.taken % 60 {
+            19 => self.give(frame, digest),
+            39 => self.give(&forged(frame), digest),
+            59 => self.give_old(digest),
+            _ => Ok(()),
+        }
+    }
+
+    fn give_old(&mut self, digest: &mut Digest) -> Result<()> {
+        let old = self.old;
+        if old[0] == 0 {
+            return Ok(());
+        }
+        self.give(&old, digest)
     }
 
     /// Has each owner publish as many commands as are on their way at once.
@@ -202,6 +217,23 @@ impl Net {
             for owner in 0..OWNERS {
                 self.issue(owner, sample, digest)?;
             }
+        }
+        Ok(())
+    }
+
+    /// So many batches of commands, from their publishing to all nodes. Adds what the nodes then have to the digest.
+    fn deliver_all(
+        &mut self,
+        batches: u32,
+        sample: &mut Sample,
+        digest: &mut Digest,
+    ) -> Result<()> {
+        for _ in 0..batches {
+            self.publish(sample, digest)?;
+            self.give_all(digest)?;
+        }
+        for member in self.members.iter() {
+            member.review(digest)?;
         }
         Ok(())
     }
@@ -215,6 +247,22 @@ impl Net {
         let message = reply.message().context("no message")?;
         self.send(index, message, digest)
     }
+}
+
+/// All nodes.
+fn members(alloc: Global, secret: u32) -> Result<Vec<Member>> {
+    let mut members = Vec::new(alloc);
+    for index in 0..NODES {
+        members.push(Member::new(alloc, index, secret)?)?;
+    }
+    Ok(members)
+}
+
+/// The frame with another tag.
+fn forged(frame: &Frame) -> Frame {
+    let mut forged = *frame;
+    forged[FRAME_LEN - 1] ^= 1;
+    forged
 }
 
 /// A command about a role of this owner.
@@ -239,14 +287,8 @@ fn command_of(owner: u8, sample: &mut Sample) -> Command {
 /// Does the job on the input of a seed.
 pub fn run(alloc: Global, seed: u32, share: u32) -> Result<Digest> {
     let mut sample = Sample::new(seed, 2);
-    let mut net = Net::new(alloc, sample.below(u32::MAX))?;
     let mut digest = Digest::new();
-    for _ in 0..part(COMMANDS / FLIGHT, share) {
-        net.publish(&mut sample, &mut digest)?;
-        net.give_all(&mut digest)?;
-    }
-    for member in net.members.iter() {
-        member.review(&mut digest)?;
-    }
+    let mut net = Net::new(alloc, sample.below(u32::MAX))?;
+    net.deliver_all(part(COMMANDS / FLIGHT, share), &mut sample, &mut digest)?;
     Ok(digest)
 }

@@ -64,14 +64,7 @@ impl Digest {
                 from,
                 to,
             } => {
-                self.number(3);
-                if let Some(message) = send {
-                    self.message(message);
-                }
-                if let Some(command) = delivered {
-                    self.number(4);
-                    self.command(command);
-                }
+                self.counted(send, delivered);
                 self.number(u64::from(*from) << 32 | u64::from(*to));
             }
             Reply::Session(session) => {
@@ -82,29 +75,48 @@ impl Digest {
         }
     }
 
+    fn counted(&mut self, send: &Option<Message>, delivered: &Option<Command>) {
+        self.number(3);
+        if let Some(message) = send {
+            self.message(message);
+        }
+        if let Some(command) = delivered {
+            self.number(4);
+            self.command(command);
+        }
+    }
+
     /// Adds what a node answered, each list with its length.
     pub fn answer(&mut self, answer: &Answer) {
         match answer {
             Answer::Verdict(Verdict::Allow(role)) => self.number(u64::from(*role)),
             Answer::Verdict(Verdict::Deny(rule)) => self.bytes(rule.code().as_bytes()),
-            Answer::Users(users) => {
-                self.number(users.as_slice().len() as u64);
-                for user in users.as_slice() {
-                    self.number(u64::from(*user));
-                }
-            }
+            Answer::Users(users) => self.users(users.as_slice()),
             Answer::Roles(numbers) | Answer::Operations(numbers) => {
-                self.number(numbers.as_slice().len() as u64);
-                for number in numbers.as_slice() {
-                    self.number(u64::from(*number));
-                }
+                self.numbers(numbers.as_slice());
             }
-            Answer::Permissions(permissions) => {
-                self.number(permissions.as_slice().len() as u64);
-                for (operation, object) in permissions.as_slice() {
-                    self.number(u64::from(*operation) << 32 | u64::from(*object));
-                }
-            }
+            Answer::Permissions(permissions) => self.permissions(permissions.as_slice()),
+        }
+    }
+
+    fn users(&mut self, users: &[u32]) {
+        self.number(users.len() as u64);
+        for user in users {
+            self.number(u64::from(*user));
+        }
+    }
+
+    fn numbers(&mut self, numbers: &[u16]) {
+        self.number(numbers.len() as u64);
+        for number in numbers {
+            self.number(u64::from(*number));
+        }
+    }
+
+    fn permissions(&mut self, permissions: &[(u16, u32)]) {
+        self.number(permissions.len() as u64);
+        for (operation, object) in permissions {
+            self.number(u64::from(*operation) << 32 | u64::from(*object));
         }
     }
 

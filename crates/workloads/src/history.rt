@@ -9,7 +9,7 @@ use link_frames::{Kind, Message, Packet};
 use node_lock::{Call, Outcome, Receipt};
 use quorum_sizes::NodeName;
 use role_node::{Event, Node, Question, Reply};
-use std::alloc::Global;
+use std::alloc::{AllocError, Global};
 
 const NODES: u8 = 4;
 
@@ -37,38 +37,37 @@ impl History {
         commands: u32,
         digest: &mut Digest,
     ) -> Result<History> {
-        let mut history = History {
-            node: node(alloc, config(alloc, NODES, 1, 1, ROLES)?, 1)?,
-            users: Deck::new(alloc, USERS)?,
-            seats: seats_without_receipts(alloc)?,
-        };
+        let mut history = History::empty(alloc)?;
         for place in 0..commands {
             history.deliver(sample, place, digest)?;
         }
         Ok(history)
     }
 
+    fn empty(alloc: Global) -> Result<History> {
+        let users = Deck::new(alloc, USERS)?;
+        let seats = seats_without_receipts(alloc)?;
+        Ok(History {
+            node: node(alloc, config(alloc, NODES, 1, 1, ROLES)?, 1)?,
+            users,
+            seats,
+        })
+    }
+
     /// The packets of one command at their receiver. For each third command the first of them comes once more, and for
     /// each sixteenth a client asks.
     fn deliver(&mut self, sample: &mut Sample, place: u32, digest: &mut Digest) -> Result<()> {
-        let sizes = self.node.config().roles().sizes();
-        let owner = sizes.name(0).context("no node")?;
-        let command = sample.assign(USERS, ROLES);
-        let message = |kind| Message {
-            kind,
-            owner,
+        let send = Message {
+            kind: Kind::Send,
+            owner: self.name(0)?,
             place,
-            command,
+            command: sample.assign(USERS, ROLES),
         };
-        self.take(sample, owner, message(Kind::Send), digest)?;
-        for kind in [Kind::Echo, Kind::Ready] {
-            for index in 0..NODES {
-                let from = sizes.name(index).context("no node")?;
-                self.take(sample, from, message(kind), digest)?;
-            }
-        }
+        self.take(sample, 0, send, digest)?;
+        self.take_votes(sample, Kind::Echo, &send, digest)?;
+        self.take_votes(sample, Kind::Ready, &send, digest)?;
         if place % 3 == 0 {
-            self.take(sample, owner, message(Kind::Send), digest)?;
+            self.take(sample, 0, send, digest)?;
         }
         if place % 16 == 5 {
             let user = self.users.deal(sample);
@@ -77,13 +76,33 @@ impl History {
         Ok(())
     }
 
+    fn name(&self, index: u8) -> Result<NodeName> {
+        let sizes = self.node.config().roles().sizes();
+        sizes.name(index).context("no node")
+    }
+
+    /// Each node's vote of a kind for what was sent.
+    fn take_votes(
+        &mut self,
+        sample: &mut Sample,
+        kind: Kind,
+        sent: &Message,
+        digest: &mut Digest,
+    ) -> Result<()> {
+        for index in 0..NODES {
+            self.take(sample, index, Message { kind, ..*sent }, digest)?;
+        }
+        Ok(())
+    }
+
     fn take(
         &mut self,
         sample: &mut Sample,
-        from: NodeName,
+        from: u8,
         message: Message,
         digest: &mut Digest,
     ) -> Result<()> {
+        let from = self.name(from)?;
         let packet = Packet::new(from, self.node.me(), message).context("no packet")?;
         self.step(sample, Event::Take(packet), digest)
     }
@@ -129,21 +148,30 @@ impl History {
     }
 
     /// The receipts of one seat after another's.
-    pub fn receipts(&mut self, alloc: Global) -> Result<Vec<Receipt>> {
+    ///
+    /// # Errors
+    ///
+    /// Only for want of memory.
+    pub fn receipts(&mut self, alloc: Global) -> Result<Vec<Receipt>, AllocError> {
         let mut all = Vec::new(alloc);
         for _ in 0..SEATS {
             let Some(seat) = self.seats.pop() else {
                 break;
             };
-            for receipt in seat {
-                all.push(receipt)?;
-            }
+            put_behind(&mut all, seat)?;
         }
         Ok(all)
     }
 }
 
-fn seats_without_receipts(alloc: Global) -> Result<Vec<Vec<Receipt>>> {
+fn put_behind(all: &mut Vec<Receipt>, receipts: Vec<Receipt>) -> Result<(), AllocError> {
+    for receipt in receipts {
+        all.push(receipt)?;
+    }
+    Ok(())
+}
+
+fn seats_without_receipts(alloc: Global) -> Result<Vec<Vec<Receipt>>, AllocError> {
     let mut seats = Vec::new(alloc);
     for _ in 0..SEATS {
         seats.push(Vec::new(alloc))?;

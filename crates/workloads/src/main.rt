@@ -23,17 +23,22 @@ use anyhow::Result;
 use digest::Digest;
 use std::alloc::Global;
 use std::env;
-use words::{Job, Words};
+use words::{JOBS, Job, Words};
 
 fn main(rt: HostRuntime) -> Result<()> {
-    let words = Words::read(env::args(&rt)?.skip(1).collect(rt.alloc())?)?;
-    for job in Job::ALL {
-        if words.asks_for(job) {
-            let digest = run(rt.alloc(), job, &words)?;
+    let words = words_given(&rt)?;
+    for job in &JOBS {
+        if words.asks_for(*job) {
+            let digest = run(rt.alloc(), *job, &words)?;
             println!(rt; "{} {:016x}", job.name(), digest.value())?;
         }
     }
     Ok(())
+}
+
+fn words_given(rt: &HostRuntime) -> Result<Words> {
+    let words: Vec<String> = env::args(rt)?.skip(1).collect(rt.alloc())?;
+    Words::read(&words)
 }
 
 /// Does the job. The digest of its answers.

@@ -111,10 +111,14 @@ impl Client {
 
     /// Says a line to the node, and adds the answer to the digest.
     pub fn say(&mut self, node: &mut Node, line: &[u8], digest: &mut Digest) -> Result<()> {
-        let answer = self.answer(node, line, digest)?;
-        let text = answer_text(self.alloc, &answer)?;
+        let text = self.answer_text(node, line, digest)?;
         digest.bytes(text.as_bytes());
         Ok(())
+    }
+
+    fn answer_text(&mut self, node: &mut Node, line: &[u8], digest: &mut Digest) -> Result<String> {
+        let answer = self.answer(node, line, digest)?;
+        Ok(answer_text(self.alloc, &answer)?)
     }
 
     fn answer(&mut self, node: &mut Node, line: &[u8], digest: &mut Digest) -> Result<ClientAnswer>

@@ -25,6 +25,9 @@ const FLIGHT: u32 = 5;
 /// So many batches of commands come among liars that speak.
 const BATCHES: u32 = 70;
 
+/// Clusters whose liars are silent: of so many nodes and liars, in which each owner publishes so many commands.
+static QUIET: [(u8, u8, u32); 4] = [(64, 21, 170), (64, 0, 100), (128, 42, 30), (128, 0, 20)];
+
 /// A cluster, and what is drawn for it.
 #[derive(Drop)]
 struct Lab {
@@ -42,13 +45,11 @@ impl Lab {
     fn new(alloc: Global, n: u8, f: u8) -> Result<Lab> {
         let sizes = Sizes::new(n, f)?;
         let first_liar = n.saturating_sub(f);
-        let mut liars = NodeSet::new();
-        for index in first_liar..n {
-            liars.insert(sizes.name(index).context("no node")?);
-        }
+        let liars = nodes_from(&sizes, first_liar)?;
+        let config = config(alloc, n, f, OWNERS, ROLES)?;
         Ok(Lab {
             alloc,
-            world: World::new(alloc, config(alloc, n, f, OWNERS, ROLES)?, liars)?,
+            world: World::new(alloc, config, liars)?,
             sizes,
             first_liar,
             given: 0,
@@ -58,6 +59,37 @@ impl Lab {
 
     fn name(&self, index: u8) -> Result<NodeName> {
         self.sizes.name(index).context("no node")
+    }
+
+    /// So many batches of commands among liars that speak.
+    fn run_among_liars(
+        &mut self,
+        batches: u32,
+        sample: &mut Sample,
+        digest: &mut Digest,
+    ) -> Result<()> {
+        for _ in 0..batches {
+            for _ in 0..FLIGHT {
+                self.lie(sample, digest)?;
+                self.issue(sample, digest)?;
+            }
+            self.give_in_no_order(digest)?;
+        }
+        self.review(digest)
+    }
+
+    /// So many commands of each owner, each of which all nodes have before the next.
+    fn run_in_order(
+        &mut self,
+        commands: u32,
+        sample: &mut Sample,
+        digest: &mut Digest,
+    ) -> Result<()> {
+        for _ in 0..commands {
+            self.issue(sample, digest)?;
+            self.flush()?;
+        }
+        self.review(digest)
     }
 
     /// Does a step, and adds its answer to the digest.
@@ -119,9 +151,13 @@ impl Lab {
             place: self.place,
             command,
         };
-        let (from, to) = (self.name(link.0)?, self.name(link.1)?);
-        let packet = Packet::new(from, to, message).context("no packet")?;
+        let packet = self.packet(link, message)?;
         self.step(Step::Lie { packet }, digest)
+    }
+
+    fn packet(&self, link: (u8, u8), message: Message) -> Result<Packet> {
+        let (from, to) = (self.name(link.0)?, self.name(link.1)?);
+        Packet::new(from, to, message).context("no packet")
     }
 
     /// Gives the packets that were not given yet, and those that they cause, each wave of them in no order.
@@ -163,14 +199,18 @@ impl Lab {
         digest.number(u64::from(self.world.sent_len()));
         for owner in 0..OWNERS {
             for other in 0..self.first_liar {
-                let (a, b, owner) = (self.name(0)?, self.name(other)?, self.name(owner)?);
-                let length = self.world.agree(a, b, owner).context("no correct node")?;
-                digest.number(u64::from(length));
+                digest.number(u64::from(self.agreed(owner, other)?));
             }
         }
         self.review_streams(digest)?;
         self.review_sent(digest);
         Ok(())
+    }
+
+    /// How much of an owner's stream the first node and another one have in common.
+    fn agreed(&self, owner: u8, other: u8) -> Result<u32> {
+        let (a, b, owner) = (self.name(0)?, self.name(other)?, self.name(owner)?);
+        self.world.agree(a, b, owner).context("no correct node")
     }
 
     /// Adds the commands that were delivered to each node that does not lie.
@@ -203,6 +243,15 @@ impl Lab {
     }
 }
 
+/// The nodes from an index on.
+fn nodes_from(sizes: &Sizes, first: u8) -> Result<NodeSet> {
+    let mut nodes = NodeSet::new();
+    for index in first..sizes.n() {
+        nodes.insert(sizes.name(index).context("no node")?);
+    }
+    Ok(nodes)
+}
+
 /// A command about a role of this owner.
 fn command_of(owner: u8, sample: &mut Sample) -> Command {
     Command::Assign {
@@ -218,22 +267,33 @@ fn command_of(owner: u8, sample: &mut Sample) -> Command {
 pub fn run(alloc: Global, seed: u32, share: u32) -> Result<Digest> {
     let mut sample = Sample::new(seed, 6);
     let mut digest = Digest::new();
-    let mut lab = Lab::new(alloc, 16, 5)?;
-    for _ in 0..part(BATCHES, share) {
-        for _ in 0..FLIGHT {
-            lab.lie(&mut sample, &mut digest)?;
-            lab.issue(&mut sample, &mut digest)?;
-        }
-        lab.give_in_no_order(&mut digest)?;
-    }
-    lab.review(&mut digest)?;
-    for (n, f, commands) in [(64, 21, 170), (64, 0, 100), (128, 42, 30), (128, 0, 20)] {
-        let mut lab = Lab::new(alloc, n, f)?;
-        for _ in 0..part(commands, share) {
-            lab.issue(&mut sample, &mut digest)?;
-            lab.flush()?;
-        }
-        lab.review(&mut digest)?;
+    run_speaking(alloc, part(BATCHES, share), &mut sample, &mut digest)?;
+    for cluster in &QUIET {
+        run_quiet(alloc, cluster, share, &mut sample, &mut digest)?;
     }
     Ok(digest)
+}
+
+/// A cluster whose liars speak, for so many batches of commands.
+fn run_speaking(
+    alloc: Global,
+    batches: u32,
+    sample: &mut Sample,
+    digest: &mut Digest,
+) -> Result<()> {
+    let mut lab = Lab::new(alloc, 16, 5)?;
+    lab.run_among_liars(batches, sample, digest)
+}
+
+/// A cluster whose liars are silent, on a part of its commands.
+fn run_quiet(
+    alloc: Global,
+    cluster: &(u8, u8, u32),
+    share: u32,
+    sample: &mut Sample,
+    digest: &mut Digest,
+) -> Result<()> {
+    let (n, f, commands) = *cluster;
+    let mut lab = Lab::new(alloc, n, f)?;
+    lab.run_in_order(part(commands, share), sample, digest)
 }

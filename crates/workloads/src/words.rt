@@ -20,16 +20,6 @@ pub enum Job {
 }
 
 impl Job {
-    /// All jobs.
-    pub const ALL: [Job; 6] = [
-        Job::Decide,
-        Job::Deliver,
-        Job::Change,
-        Job::List,
-        Job::Audit,
-        Job::Simulate,
-    ];
-
     /// The word that asks for the job.
     pub fn name(self) -> &'static str {
         match self {
@@ -44,17 +34,35 @@ impl Job {
 
     /// The job that this word asks for.
     fn named(word: &str) -> Option<Job> {
-        for job in Job::ALL {
+        for job in &JOBS {
             if job.name() == word {
-                return Some(job);
+                return Some(*job);
             }
         }
         None
     }
 }
 
+/// All jobs.
+pub static JOBS: [Job; 6] = [
+    Job::Decide,
+    Job::Deliver,
+    Job::Change,
+    Job::List,
+    Job::Audit,
+    Job::Simulate,
+];
+
+/// The one job that a word asks for, or none where it asks for all.
+fn asked_job(word: &str) -> Result<Option<Job>> {
+    if word == "all" {
+        return Ok(None);
+    }
+    Ok(Some(Job::named(word).context("no such job")?))
+}
+
 /// What the program is to do.
-#[derive(Drop)]
+#[derive(Clone, Copy)]
 pub struct Words {
     /// The one job that is asked for, or all where there is none.
     job: Option<Job>,
@@ -70,19 +78,14 @@ impl Words {
     /// # Errors
     ///
     /// There are other words, or the first names no job.
-    pub fn read(words: Vec<String>) -> Result<Words> {
-        let mut words = words.into_iter();
-        let word = words.next().context("no job")?;
-        let job = match word.as_str() {
-            "all" => None,
-            name => Some(Job::named(name).context("no such job")?),
-        };
-        let seed = words.next().context("no seed")?.as_str().parse::<u32>()?;
-        let share = match words.next() {
+    pub fn read(words: &[String]) -> Result<Words> {
+        let job = asked_job(words.first().context("no job")?)?;
+        let seed = words.get(1).context("no seed")?.as_str().parse::<u32>()?;
+        let share = match words.get(2) {
             Some(share) => share.as_str().parse::<u32>()?,
             None => 1,
         };
-        if share == 0 || words.next().is_some() {
+        if share == 0 || words.len() > 3 {
             bail!("JOB SEED [SHARE]");
         }
         Ok(Words { job, seed, share })

@@ -2,13 +2,16 @@
 
 use crate::cluster::{Mode, read_cluster};
 use crate::serve::keys_of;
-use crate::serve_help::{MOST_LOOKS, ask, connected, free_ports, serve_text, stop, text_of};
+use crate::serve_help::{
+    MOST_LOOKS, answers, answers_at_once, connected, connected_saying, free_ports, serve_text, stop,
+};
+use crate::serve_texts::{answers_between, lines_between, text_of};
 use link_frames::{Kind, Message};
-use node_server::FrameKeys;
+use node_server::{ClusterKeys, FrameKeys};
+use quorum_sizes::NodeName;
 use role_commands::Command;
-use std::alloc::Global;
-use std::io::{Read, Write};
-use std::net::{Net, Shutdown, TcpListener, TcpStream};
+use std::alloc::{AllocError, Global};
+use std::net::{Net, TcpListener, TcpStream};
 use std::sync::Wait;
 use std::test::Fail;
 use std::thread;
@@ -23,6 +26,9 @@ const TIMES: u32 = 2;
 
 const REACH: &[u8] = b"{\"op\":\"reach\",\"owner\":1}\n";
 
+/// The answer where all these places are delivered.
+const ALL_REACHED: &str = "{\"reach\":400}\n";
+
 /// The ports of the nodes, and that for clients of node 0.
 #[derive(Drop)]
 struct Ports {
@@ -30,56 +36,95 @@ struct Ports {
     client: u16,
 }
 
-/// The frames to node 0 by which a node says all that it has to say at these places of node 1's stream.
-fn said(alloc: Global, from: usize, ports: &Ports) -> Result<Vec<u8>, Fail> {
-    let text = text_of(alloc, from, 1, ports.nodes.as_slice(), ports.client)?;
-    let Ok(setup) = read_cluster(alloc, text.as_bytes(), Mode::Serve) else {
-        return Err("no setup".into());
-    };
-    let keys = keys_of(alloc, &setup)?;
-    let sizes = keys.sizes();
-    let (Some(to), Some(owner)) = (sizes.name(0), sizes.name(1)) else {
-        return Err("no names".into());
-    };
+/// The keys of the node of a text.
+fn keys_at(alloc: Global, text: &str) -> Result<ClusterKeys, Fail> {
+    match read_cluster(alloc, text.as_bytes(), Mode::Serve) {
+        Ok(setup) => Ok(keys_of(alloc, &setup)?),
+        Err(_) => Err("no setup".into()),
+    }
+}
+
+/// A message about a place of node 1's stream.
+fn message_at(kind: Kind, owner: NodeName, place: u32) -> Message {
+    Message {
+        kind,
+        owner,
+        place,
+        command: Command::Assign {
+            user: place,
+            role: 2,
+        },
+    }
+}
+
+/// Puts the frame of a message to a node behind others. A SEND of another node than its owner is none.
+fn put(
+    frames: &mut Vec<u8>,
+    keys: &ClusterKeys,
+    to: NodeName,
+    message: &Message,
+) -> Result<(), AllocError> {
+    match keys.seal(to, message) {
+        Some(frame) => frames.extend_from_slice(&frame),
+        None => Ok(()),
+    }
+}
+
+/// The frames to a node by which the keys' node says all that it has to say at these places of an owner's stream.
+fn frames_of(
+    alloc: Global,
+    keys: &ClusterKeys,
+    to: NodeName,
+    owner: NodeName,
+) -> Result<Vec<u8>, AllocError> {
     let mut frames = Vec::new(alloc);
     for place in 0..PLACES {
-        for kind in [Kind::Send, Kind::Echo, Kind::Ready] {
-            let message = Message {
-                kind,
-                owner,
-                place,
-                command: Command::Assign {
-                    user: place,
-                    role: 2,
-                },
-            };
-            // a SEND of another node is none
-            if let Some(frame) = keys.seal(to, &message) {
-                frames.extend_from_slice(&frame)?;
-            }
-        }
+        put(&mut frames, keys, to, &message_at(Kind::Send, owner, place))?;
+        put(&mut frames, keys, to, &message_at(Kind::Echo, owner, place))?;
+        put(
+            &mut frames,
+            keys,
+            to,
+            &message_at(Kind::Ready, owner, place),
+        )?;
     }
     Ok(frames)
 }
 
-/// Whether node 0 delivers all that the three others say in one write each.
+/// The frames to node 0 by which a node says all that it has to say at these places of node 1's stream.
+fn said(alloc: Global, from: usize, ports: &Ports) -> Result<Vec<u8>, Fail> {
+    let text = text_of(alloc, from, 1, ports.nodes.as_slice(), ports.client)?;
+    let keys = keys_at(alloc, text.as_str())?;
+    let sizes = keys.sizes();
+    match (sizes.name(0), sizes.name(1)) {
+        (Some(to), Some(owner)) => Ok(frames_of(alloc, &keys, to, owner)?),
+        _ => Err("no names".into()),
+    }
+}
+
+/// The connections over which the three others say all in one write each.
+fn peers<R>(rt: &R, alloc: Global, ports: &Ports) -> Result<Vec<TcpStream>, Fail>
+where
+    R: Net<Listener = TcpListener, Stream = TcpStream> + Clock,
+{
+    let port = ports.nodes.first().copied().ok_or("no ports")?;
+    let mut peers = Vec::new(alloc);
+    for from in 1..4usize {
+        let frames = said(alloc, from, ports)?;
+        peers.push(connected_saying(rt, port, &frames)?)?;
+    }
+    Ok(peers)
+}
+
+/// Whether node 0 delivers all that the three others say.
 fn catches_up<R>(rt: &R, alloc: Global, ports: &Ports) -> Result<bool, Fail>
 where
     R: Net<Listener = TcpListener, Stream = TcpStream> + Clock,
 {
     let client = connected(rt, ports.client)?;
-    let Some(port) = ports.nodes.first() else {
-        return Err("no ports".into());
-    };
-    let mut peers = Vec::new(alloc);
-    for from in 1..4usize {
-        let mut peer = connected(rt, *port)?;
-        peer.write_all(&said(alloc, from, ports)?)?;
-        peers.push(peer)?;
-    }
-    let due = format!(in alloc; "{{\"reach\":{PLACES}}}\n")?;
+    let _peers = peers(rt, alloc, ports)?;
     for _ in 0..MOST_LOOKS {
-        if ask(alloc, &client, REACH)?.as_str() == due.as_str() {
+        if answers(alloc, &client, REACH, ALL_REACHED)? {
             return Ok(true);
         }
         thread::sleep(rt, Duration::from_millis(1));
@@ -92,19 +137,9 @@ fn answers_in_order<R>(rt: &R, alloc: Global, ports: &Ports) -> Result<bool, Fai
 where
     R: Net<Listener = TcpListener, Stream = TcpStream> + Clock,
 {
-    let mut lines = String::new(alloc);
-    let mut due = String::new(alloc);
-    for user in 1..=200u32 {
-        lines.push_str(&format!(in alloc; "{{\"op\":\"open\",\"user\":{user}}}\n")?)?;
-        due.push_str(&format!(in alloc; "{{\"session\":{user}}}\n")?)?;
-        lines.push_str("{\"op\":\"again\",\"owner\":1,\"place\":0}\n")?;
-        due.push_str("{\"again\":2}\n")?;
-    }
-    let mut stream = connected(rt, ports.client)?;
-    stream.write_all(lines.as_bytes())?;
-    stream.shutdown(Shutdown::Write)?;
-    let mut answers = String::new(alloc);
-    stream.read_to_string(&mut answers)?;
+    let lines = lines_between(alloc, 200)?;
+    let answers = answers_at_once(rt, alloc, ports.client, lines.as_bytes())?;
+    let due = answers_between(alloc, 200)?;
     Ok(answers.as_str() == due.as_str())
 }
 
@@ -116,25 +151,42 @@ where
     Ok(catches_up(rt, alloc, ports)? && answers_in_order(rt, alloc, ports)?)
 }
 
-/// Node 0 of four, whose peers are scripted, hears all that they say, and answers a client. Whether all is well.
+impl Ports {
+    /// Ports that nobody listens on.
+    fn new<R>(rt: &R, alloc: Global) -> Result<Ports, Fail>
+    where
+        R: Net<Listener = TcpListener, Stream = TcpStream>,
+    {
+        let mut nodes = free_ports(rt, alloc, 5)?;
+        match nodes.pop() {
+            Some(client) => Ok(Ports { nodes, client }),
+            None => Err("no ports".into()),
+        }
+    }
+}
+
+/// Whether the node of a text, whose peers are scripted, hears all that they say, answers a client, and ends well.
+fn is_fit_at<R>(rt: &R, alloc: Global, ports: &Ports, text: &str) -> Result<bool, Fail>
+where
+    R: Net<Listener = TcpListener, Stream = TcpStream> + Threads + Wait + Clock + Sync,
+{
+    thread::scope(thread::scope_env(), rt, |scope| -> Result<bool, Fail> {
+        let server = scope.spawn(move || serve_text(rt, alloc, text))?;
+        let right = is_right(rt, alloc, ports);
+        stop(rt, alloc, ports.client);
+        let status = server.join(rt);
+        Ok(right? && status == 0)
+    })
+}
+
+/// The same of node 0 of four.
 fn is_fit<R>(rt: &R, alloc: Global) -> Result<bool, Fail>
 where
     R: Net<Listener = TcpListener, Stream = TcpStream> + Threads + Wait + Clock + Sync,
 {
-    let mut nodes = free_ports(rt, alloc, 5)?;
-    let Some(client) = nodes.pop() else {
-        return Err("no ports".into());
-    };
-    let ports = Ports { nodes, client };
-    let text = text_of(alloc, 0, 1, ports.nodes.as_slice(), client)?;
-    let shown = text.as_str();
-    thread::scope(thread::scope_env(), rt, |scope| -> Result<bool, Fail> {
-        let server = scope.spawn(move || serve_text(rt, alloc, shown))?;
-        let right = is_right(rt, alloc, &ports);
-        stop(rt, alloc, client);
-        let status = server.join(rt);
-        Ok(right? && status == 0)
-    })
+    let ports = Ports::new(rt, alloc)?;
+    let text = text_of(alloc, 0, 1, ports.nodes.as_slice(), ports.client)?;
+    is_fit_at(rt, alloc, &ports, text.as_str())
 }
 
 #[test]

@@ -3,11 +3,11 @@
 use crate::cluster::{Mode, read_cluster};
 use crate::serve::serve_until_idle;
 use crate::serve_help::{
-    AGAIN, FRAME, MOST_LOOKS, STOP, answer_to, connected, free_ports, is_closed, local, stop,
-    text_of,
+    FRAME, MOST_LOOKS, STOP, answer_to, connected, echoes, free_ports, is_closed, is_kept, local,
+    say, stop,
 };
+use crate::serve_texts::text_of;
 use std::alloc::Global;
-use std::io::Write;
 use std::net::{Net, TcpListener, TcpStream};
 use std::sync::Wait;
 use std::test::Fail;
@@ -78,17 +78,34 @@ where
     false
 }
 
-/// Whether the node has one message to send again, at the last of some questions.
-fn echoes<R: Clock>(rt: &R, alloc: Global, stream: &TcpStream) -> bool {
-    for _ in 0..MOST_LOOKS {
-        match answer_to(alloc, stream, AGAIN) {
-            Some(answer) if answer.as_str() == "{\"again\":1}\n" => return true,
-            Some(_) => {}
-            None => return false,
-        }
-        thread::sleep(rt, Duration::from_millis(1));
+/// So many connections to a port.
+fn silent<R>(rt: &R, alloc: Global, port: u16, count: u32) -> Result<Vec<TcpStream>, Fail>
+where
+    R: Net<Listener = TcpListener, Stream = TcpStream> + Clock,
+{
+    let mut made = Vec::new(alloc);
+    for _ in 0..count {
+        made.push(connected_at_once(rt, port)?)?;
     }
-    false
+    Ok(made)
+}
+
+/// A peer whose frame is taken though silent ones had all places, and those; nothing where it is not taken.
+fn peer_among_silent<R>(
+    rt: &R,
+    alloc: Global,
+    ports: Ports,
+) -> Result<Option<(TcpStream, Vec<TcpStream>)>, Fail>
+where
+    R: Net<Listener = TcpListener, Stream = TcpStream> + Clock,
+{
+    let held = silent(rt, alloc, ports.peers, MOST_PEERS)?;
+    let peer = connected_at_once(rt, ports.peers)?;
+    say(&peer, &FRAME)?;
+    if echoes(rt, alloc, &connected_at_once(rt, ports.client)?) {
+        return Ok(Some((peer, held)));
+    }
+    Ok(None)
 }
 
 /// Whether a frame is taken though silent peers have all places, and its connection is kept as more of them come than
@@ -97,20 +114,11 @@ fn silent_peers<R>(rt: &R, alloc: Global, ports: Ports) -> Result<bool, Fail>
 where
     R: Net<Listener = TcpListener, Stream = TcpStream> + Clock,
 {
-    let client = connected_at_once(rt, ports.client)?;
-    let mut silent = Vec::new(alloc);
-    for _ in 0..MOST_PEERS {
-        silent.push(connected_at_once(rt, ports.peers)?)?;
-    }
-    let mut peer = connected_at_once(rt, ports.peers)?;
-    peer.write_all(&FRAME)?;
-    let taken = echoes(rt, alloc, &client);
-    for _ in 0..MOST_PEERS + 16 {
-        silent.push(connected_at_once(rt, ports.peers)?)?;
-    }
-    let gone = silent.iter().all(is_closed);
-    peer.set_read_timeout(Some(Duration::from_millis(1)))?;
-    Ok(taken && gone && !is_closed(&peer))
+    let Some((peer, first)) = peer_among_silent(rt, alloc, ports)? else {
+        return Ok(false);
+    };
+    let more = silent(rt, alloc, ports.peers, MOST_PEERS + 16)?;
+    Ok(first.iter().chain(&more).all(is_closed) && is_kept(&peer)?)
 }
 
 /// Writes so many times 200 lines that are no JSON, and a stop behind them, all at once: so nothing of it waits here
@@ -121,9 +129,7 @@ fn say_stop_unheard(alloc: Global, stream: &TcpStream, times: u32) -> Result<(),
         lines.extend_from_slice(&LINES)?;
     }
     lines.extend_from_slice(STOP)?;
-    let mut writer = stream;
-    writer.write_all(&lines)?;
-    Ok(())
+    say(stream, &lines)
 }
 
 /// Whether the node stops though the client that says so has read none of many answers.
@@ -148,18 +154,27 @@ where
     Ok(has_stopped(rt, ports.client))
 }
 
+/// Whether a client that was served is closed when it says nothing for a while; nothing where it was not served.
+fn is_closed_once_served<R>(rt: &R, alloc: Global, client: u16) -> Result<Option<bool>, Fail>
+where
+    R: Net<Listener = TcpListener, Stream = TcpStream> + Clock,
+{
+    let stream = connected_at_once(rt, client)?;
+    match answer_to(alloc, &stream, OPEN) {
+        Some(answer) if answer.as_str() == "{\"session\":1}\n" => Ok(Some(is_closed(&stream))),
+        _ => Ok(None),
+    }
+}
+
 /// Whether a client is served while it says something, and closed when it says nothing for a while.
 fn idle_client<R>(rt: &R, alloc: Global, ports: Ports) -> Result<bool, Fail>
 where
     R: Net<Listener = TcpListener, Stream = TcpStream> + Clock,
 {
+    // it may be closed before it is served, where this thread was slow
     for _ in 0..MOST_LOOKS {
-        let stream = connected_at_once(rt, ports.client)?;
-        // it may be closed already, where this thread was slow
-        if let Some(answer) = answer_to(alloc, &stream, OPEN) {
-            if answer.as_str() == "{\"session\":1}\n" {
-                return Ok(is_closed(&stream));
-            }
+        if let Some(right) = is_closed_once_served(rt, alloc, ports.client)? {
+            return Ok(right);
         }
     }
     Ok(false)
@@ -178,23 +193,21 @@ where
     }
 }
 
-/// The setup of node 1 of four, and its ports.
+/// The text of node 1 of four, and its ports.
 fn setup<R>(rt: &R, alloc: Global) -> Result<(String, Ports), Fail>
 where
     R: Net<Listener = TcpListener, Stream = TcpStream>,
 {
-    let all = free_ports(rt, alloc, 5)?;
-    let (nodes, client) = match all.as_slice() {
-        [nodes @ .., client] => (nodes, *client),
-        _ => return Err("no ports".into()),
-    };
-    let Some(peers) = nodes.get(1).copied() else {
-        return Err("no ports".into());
-    };
-    Ok((
-        text_of(alloc, 1, 1, nodes, client)?,
-        Ports { peers, client },
-    ))
+    match free_ports(rt, alloc, 5)?.as_slice() {
+        [a, peers, c, d, client] => {
+            let ports = Ports {
+                peers: *peers,
+                client: *client,
+            };
+            Ok((text_of(alloc, 1, 1, &[*a, *peers, *c, *d], *client)?, ports))
+        }
+        _ => Err("no ports".into()),
+    }
 }
 
 /// Serves the node of a cluster text, with this time for idle clients. Whether it ends well.
@@ -208,26 +221,32 @@ where
     }
 }
 
-/// Node 1 of four, whose other nodes are absent, is put through a trial and stopped. Whether all is well.
-fn is_fit<R>(rt: &R, alloc: Global, trial: Trial) -> Result<bool, Fail>
+/// Whether the node of a text, which is put through a trial and stopped, does as it should and ends well.
+fn is_fit_at<R>(rt: &R, alloc: Global, trial: Trial, text: &str, ports: Ports) -> Result<bool, Fail>
 where
     R: Net<Listener = TcpListener, Stream = TcpStream> + Threads + Wait + Clock + Sync,
 {
-    let (text, ports) = setup(rt, alloc)?;
-    let shown = text.as_str();
     let idle = if trial == Trial::IdleClient {
         SHORT
     } else {
         LONG
     };
     thread::scope(thread::scope_env(), rt, |scope| -> Result<bool, Fail> {
-        let server = scope.spawn(move || serves(rt, alloc, shown, idle))?;
+        let server = scope.spawn(move || serves(rt, alloc, text, idle))?;
         let right = try_out(rt, alloc, trial, ports);
         stop(rt, alloc, ports.client);
         let ended = server.join(rt);
-        let right = right?;
-        Ok(right && ended)
+        Ok(right? && ended)
     })
+}
+
+/// Node 1 of four, whose other nodes are absent, is put through a trial and stopped. Whether all is well.
+fn is_fit<R>(rt: &R, alloc: Global, trial: Trial) -> Result<bool, Fail>
+where
+    R: Net<Listener = TcpListener, Stream = TcpStream> + Threads + Wait + Clock + Sync,
+{
+    let (text, ports) = setup(rt, alloc)?;
+    is_fit_at(rt, alloc, trial, text.as_str(), ports)
 }
 
 #[test]
