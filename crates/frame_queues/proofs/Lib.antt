@@ -3,3 +3,8 @@ pub mod Counts
 pub mod FrameBytes
 pub mod UnsentLemmas
 pub mod BlockLemmas
+pub mod SlotLemmas
+pub mod TableLemmas
+pub mod MomentLemmas
+pub mod EndingLemmas
+pub mod LeastLemmas

@@ -10,6 +10,7 @@ mod first_packets;
 mod frame_block;
 mod keys;
 pub mod laws;
+mod limits;
 mod parked_packets;
 mod slots;
 mod stream_packets;
@@ -20,7 +21,8 @@ pub use caller::{CLIENT_NUMBERS, Caller, MOST_CLIENTS, MOST_LINES, MOST_PEERS, N
 pub use first_packets::FirstPackets;
 pub use frame_block::{BLOCK_FRAMES, Came, FrameBlock};
 pub use keys::{ClusterKeys, FrameKeys, PeerName};
+pub use limits::Limits;
 pub use parked_packets::{MOST_PARKED, ParkedPackets};
-pub use slots::{Connected, MOST_OF_ONE, slot_for, third_of};
+pub use slots::{Connected, Place, Slots, Standing};
 pub use turns::{TURN_FRAMES, Turn, Turns};
 pub use unsent_frames::{MOST_FRAMES, UnsentFrames};

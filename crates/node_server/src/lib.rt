@@ -23,13 +23,13 @@ mod server;
 mod workers;
 
 use clients::answer_client;
-use crew::Crew;
+use crew::{Credit, Crew, News};
 pub use fault::ServerFault;
-use frame_queues::MOST_CLIENTS;
-pub use frame_queues::{ClusterKeys, FrameKeys, PeerName};
+pub use frame_queues::{ClusterKeys, FrameKeys, Limits, PeerName};
+use frame_queues::{MOST_CLIENTS, MOST_PEERS};
 use mio::Waker;
 use node_lock::{Inbox, Seat};
-use peers::{Peers, SLOTS};
+use peers::Peers;
 use ports::{Ports, poll_of};
 use served_node::{Heard, SyncTally, millis};
 pub use served_node::{HeldNode, NotKept, Said};
@@ -61,6 +61,8 @@ pub struct Site {
     pub clients: TcpListener,
     /// Where each node takes frames, by its index; the node's own address is not used.
     pub addresses: Vec<SocketAddr>,
+    /// How many connections of peers there may be.
+    pub limits: Limits,
     /// After so long a client that sends nothing is closed.
     pub idle: Duration,
     /// Whether the lines of operators are answered, beside those of clients.
@@ -118,7 +120,7 @@ where
     let outboxes = outboxes(alloc, &keys, &site.addresses)?;
     let (poll, waker) = poll_of(rt).map_err(fault_of)?;
     let server = server_of(rt, alloc, node, seats, keys, queues, outboxes, waker, &site)?;
-    let peers = Peers::new(&server, queue)?;
+    let peers = Peers::new(&server, queue, site.limits)?;
     let listeners = (site.peers, site.clients);
     run(Ports::new(&server, poll, listeners, peers).map_err(fault_of)?)?;
     if server.crew.lock(rt).failed {
@@ -208,12 +210,17 @@ fn crew_of<'a, N: HeldNode>(
         let queue = queues.pop().ok_or(AllocError)?;
         idle.push(Worker::new(alloc, queue, seat, nodes)?)?;
     }
+    let nothing = Credit {
+        connection: 0,
+        news: News::Nothing,
+    };
     Ok(Crew {
         idle,
         front: Some(front),
         jobs: false,
         connected: Vec::with_capacity(alloc, usize::from(nodes))?,
-        counted: Vec::from_elem(alloc, 0, SLOTS)?,
+        credits: Vec::from_elem(alloc, nothing, MOST_PEERS as usize)?,
+        has_credit: false,
         alarm: Alarm::new(),
         failed: false,
         ended: false,

@@ -189,7 +189,8 @@ where
     Ok(is_closed(&silent) && is_closed(&wrong) && opens(rt, alloc, place.client)?)
 }
 
-/// Whether of three connections of a peer that is closed which has brought nothing new, the older of two of these.
+/// Whether of three connections of a peer that is closed, after a while, which has no slot: the last, since it has brought
+/// nothing new.
 fn third_connection<R>(rt: &R, alloc: Global, place: &Place) -> Result<bool, Fail>
 where
     R: Net<Listener = TcpListener, Stream = TcpStream> + Clock,
@@ -208,11 +209,11 @@ where
     thread::sleep(rt, Duration::from_millis(20));
     let mut third = connected(rt, place.peers)?;
     third.write_all(&FRAME)?;
-    let closed = is_closed(&second);
-    for kept in [&first, &third] {
+    let closed = is_closed(&third);
+    for kept in [&first, &second] {
         kept.set_read_timeout(Some(Duration::from_millis(1)))?;
     }
-    Ok(closed && !is_closed(&first) && !is_closed(&third))
+    Ok(closed && !is_closed(&first) && !is_closed(&second))
 }
 
 /// Whether frames do no harm whose connections are closed before they are taken.

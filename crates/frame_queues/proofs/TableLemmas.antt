@@ -1,0 +1,533 @@
+-- Places of connections stay a table: no peer has more slots, no more newcomers are there, and there is room.
+use Rattle.std.proofs.Common.{◌≡◌, ◌≢◌, ◌⊎◌, inl, inr, ⊎_elim, refl, sym, ap, subst, ◌∙◌, ℕ, zero, suc, ◌+◌, ◌-◌, ◌*◌, ◌<◌, ◌≤◌, arith}
+use Rattle.std.proofs.Common.{Bool, true, false, ◌&&◌, not, List, [], ◌∷◌, length, get_or, map, Option, Some, None, cond}
+use Rattle.std.specs.Prelude.{slice_set, position, count_by, if◌then◌else◌, nat_lt, ◌==◌, MatchBool, is_none, replicate}
+use Rattle.std.specs.List.{position_or_len}
+use Rattle.std.proofs.lemmas.Bool.{cases_lt, cases_eq, cases_Bool, and_parts, and_left, and_right, and_from, not_from_true}
+use Rattle.std.proofs.lemmas.Bool.{ltb-true, ltb-false, lt-ltb, le-ltb, eq-eqb, eqb-true, eqb-false, cond_both, cond-true, cond-false, not-true, false≢true}
+use Rattle.std.proofs.lemmas.Bool.Decides.{nat_tests}
+use Rattle.std.proofs.lemmas.List.{length-set, get_or-set_same, get_or-set_other, get_or_past}
+use Rattle.std.proofs.lemmas.List.{length-replicate, length-map}
+use Rattle.std.proofs.lemmas.List.Sums.{sum_by-cons, sum_by-set, get_or-le-sum_by, fails_before_first, count_by-le-length}
+use Rattle.std.proofs.lemmas.List.Quantifiers.{position-Some}
+use Rattle.frame_queues.specs.declared.slots.Standing.{Standing}
+use Rattle.frame_queues.specs.declared.slots.Standing.TheVariants.{Unnamed, Named, Slot}
+use Rattle.frame_queues.specs.declared.slots.Connected.{Connected}
+use Rattle.frame_queues.specs.declared.slots.Place.{Place}
+use Rattle.frame_queues.specs.declared.slots.Way.{Way}
+use Rattle.frame_queues.specs.declared.slots.Way.TheVariants.{Stays, Free, Ends}
+use Rattle.frame_queues.specs.Slots.{SlotsValue, IsTable, IsDrawn, IsPlaceFor, no_place, place_at, held_at, has_slot_of}
+use Rattle.frame_queues.specs.Slots.{holds_slot, is_slot, gives_way, is_free, is_newcomer, has_none, waits, slots_for, way, others}
+use Rattle.frame_queues.specs.Slots.{settled, with_slot, in_slot, opened_by, name_of, counted_now, is_over, after_time, freed}
+use Rattle.frame_queues.specs.Slots.{came_after, with_newcomer, none_yet, passed, is_least, ends_or_stays, held_by}
+use Rattle.frame_queues.proofs.SlotLemmas.{held_there, held_at_same, held_at_other, ends_is_of}
+
+-- one where the test holds
+abbrev pub one_if : Bool → ℕ
+one_if b = cond b 1 0
+
+pub count_set : {A : Type 0} → (p : A → Bool) (xs : List A) (i : ℕ) (y d : A) → i < length xs →
+    count_by p (slice_set xs i y) + one_if (p (get_or xs i d)) ≡ count_by p xs + one_if (p y)
+count_set p xs i y d there = sum_by-set (λ x. one_if (p x)) xs i y d there
+
+pub counted_one : {A : Type 0} → (p : A → Bool) (xs : List A) (i : ℕ) (d : A) → i < length xs →
+    p (get_or xs i d) ≡ true → 0 < count_by p xs
+counted_one p xs i d there is =
+    let one : one_if (p (get_or xs i d)) ≡ 1 = ap one_if is in
+    omega (arith, one, get_or-le-sum_by (λ x. one_if (p x)) xs i d there)
+
+-- where some are counted there is one
+pub some_counted : {A : Type 0} → (p : A → Bool) (xs : List A) (d : A) → 0 < count_by p xs →
+    (i : ℕ) × (i < length xs) × (p (get_or xs i d) ≡ true)
+some_counted p [] d some = absurd (omega (arith, some))
+some_counted p (x ∷ xs) d some =
+    ⊎_elim (λ (is : p x ≡ true). (zero, omega arith, is))
+    (λ (not_first : p x ≡ false).
+    let none : one_if (p x) ≡ 0 = ap one_if not_first in
+    let rest = some_counted p xs d (omega (arith, some, none, sum_by-cons (λ y. one_if (p y)) x xs)) in
+    (suc rest.0, omega (arith, rest.1), rest.2))
+    (cases_Bool (p x))
+
+-- what one test or another counts
+pub count_of_two : {A : Type 0} → (p q r : A → Bool) (xs : List A) →
+    ((x : A) → one_if (r x) ≤ one_if (p x) + one_if (q x)) →
+    count_by r xs ≤ count_by p xs + count_by q xs
+count_of_two p q r [] each = omega arith
+count_of_two p q r (x ∷ xs) each =
+    omega (
+      arith,
+      each x,
+      count_of_two p q r xs each,
+      sum_by-cons (λ y. one_if (p y)) x xs,
+      sum_by-cons (λ y. one_if (q y)) x xs,
+      sum_by-cons (λ y. one_if (r y)) x xs,
+    )
+
+-- as many where nothing that is counted comes by a change
+pub count_map : {A : Type 0} → (p : A → Bool) (f : A → A) (xs : List A) →
+    ((x : A) → one_if (p (f x)) ≤ one_if (p x)) → count_by p (map f xs) ≤ count_by p xs
+count_map p f [] each = omega arith
+count_map p f (x ∷ xs) each =
+    omega (
+      arith,
+      each x,
+      count_map p f xs each,
+      sum_by-cons (λ y. one_if (p y)) x xs,
+      sum_by-cons (λ y. one_if (p y)) (f x) (map f xs),
+    )
+
+-- of places with slots those of the peers below an index, and of any peer
+abbrev below : ℕ → Standing → Bool
+below n Unnamed = false
+below n (Named peer) = false
+below n (Slot peer) = nat_lt peer n
+
+abbrev held_below : ℕ → Option Connected → Bool
+held_below n None = false
+held_below n (Some c) = below n c.standing
+
+abbrev slot_below : ℕ → Place → Bool
+slot_below n p = held_below n p.held
+
+abbrev holds_any : Option Connected → Bool
+holds_any None = false
+holds_any (Some c) = not (has_none c.standing)
+
+abbrev any_slot : Place → Bool
+any_slot p = holds_any p.held
+
+abbrev held_beyond : ℕ → Option Connected → Bool
+held_beyond n held = holds_any held && not (held_below n held)
+
+-- one of no peer below the index
+abbrev slot_beyond : ℕ → Place → Bool
+slot_beyond n p = held_beyond n p.held
+
+none_counted : {A : Type 0} → (p : A → Bool) (xs : List A) → ((x : A) → p x ≡ false) → count_by p xs ≡ 0
+none_counted p [] none = refl
+none_counted p (x ∷ xs) none =
+    let first : one_if (p x) ≡ 0 = ap one_if (none x) in
+    omega (arith, first, none_counted p xs none, sum_by-cons (λ y. one_if (p y)) x xs)
+
+none_of_zero : (standing : Standing) → below zero standing ≡ false
+none_of_zero Unnamed = refl
+none_of_zero (Named peer) = refl
+none_of_zero (Slot peer) = le-ltb peer zero (omega arith)
+
+standing_below : (n : ℕ) (standing : Standing) →
+    one_if (below (suc n) standing) ≤ one_if (below n standing) + one_if (is_slot n standing)
+standing_below n Unnamed = omega arith
+standing_below n (Named peer) = omega arith
+standing_below n (Slot peer) = grind (arith, nat_tests)
+
+standing_beyond : (n : ℕ) (standing : Standing) → (not (has_none standing) && not (below n standing)) ≡ true →
+    (peer : ℕ) × (n ≤ peer) × (is_slot peer standing ≡ true)
+standing_beyond n Unnamed is = absurd (cc)
+standing_beyond n (Named peer) is = absurd (cc)
+standing_beyond n (Slot peer) is = (peer, ltb-false peer n (not-true (nat_lt peer n) is), eq-eqb peer peer refl)
+
+one_or_other : (a b : Bool) → one_if a ≤ one_if b + one_if (a && not b)
+one_or_other true true = omega arith
+one_or_other true false = omega arith
+one_or_other false b = omega arith
+
+one_of_two : (a : Bool) → 1 ≤ one_if false + one_if a + one_if (not a)
+one_of_two true = omega arith
+one_of_two false = omega arith
+
+none_below : (held : Option Connected) → held_below zero held ≡ false
+none_below None = refl
+none_below (Some c) = none_of_zero c.standing
+
+held_one_below : (n : ℕ) (held : Option Connected) →
+    one_if (held_below (suc n) held) ≤ one_if (held_below n held) + one_if (holds_slot n held)
+held_one_below n None = omega arith
+held_one_below n (Some c) = standing_below n c.standing
+
+beyond_is_of : (n : ℕ) (held : Option Connected) → held_beyond n held ≡ true →
+    (peer : ℕ) × (n ≤ peer) × (holds_slot peer held ≡ true)
+beyond_is_of n None is = absurd (cc)
+beyond_is_of n (Some c) is = standing_beyond n c.standing is
+
+one_of_all : (n : ℕ) (p : Place) → one_if (any_slot p) ≤ one_if (slot_below n p) + one_if (slot_beyond n p)
+one_of_all n p = one_or_other (any_slot p) (slot_below n p)
+
+one_of_three : (held : Option Connected) →
+    1 ≤ one_if (is_none held) + one_if (waits held) + one_if (holds_any held)
+one_of_three None = omega arith
+one_of_three (Some c) = one_of_two (has_none c.standing)
+
+pub found_where_one : {A : Type 0} → (p : A → Bool) (xs : List A) (i : ℕ) (d : A) → i < length xs →
+    p (get_or xs i d) ≡ true → position p xs ≡ None → ⊥
+found_where_one p xs i d there is none =
+    ⊎_elim (λ (within : position_or_len p xs < length xs).
+    let found : position p xs ≡ Some (position_or_len p xs) =
+    cond-true (nat_lt (position_or_len p xs) (length xs)) _ _ (lt-ltb _ _ within) in
+    let e : Some (position_or_len p xs) ≡ None = sym found ∙ none in
+    cc)
+    (λ (past : length xs ≤ position_or_len p xs).
+    false≢true (sym (fails_before_first p xs i d (omega (arith, there, past))) ∙ is))
+    (cases_lt (position_or_len p xs) (length xs))
+
+-- how many slots there are of the peers below an index
+room_below : SlotsValue → ℕ → ℕ
+room_below t zero = 0
+room_below t (suc n) = room_below t n + slots_for t n
+
+few_for : (t : SlotsValue) (peer : ℕ) → slots_for t peer ≤ t.each
+few_for t peer =
+    cond_both (nat_lt peer t.nodes && not (peer == t.me)) t.each 0 (λ n. n ≤ t.each) (λ _. omega arith) (λ _. omega arith)
+
+none_for_itself : (t : SlotsValue) → slots_for t t.me ≡ 0
+none_for_itself t =
+    cond-false (nat_lt t.me t.nodes && not (t.me == t.me)) t.each 0
+    (and_right (nat_lt t.me t.nodes) (not (t.me == t.me)) (not_from_true (t.me == t.me) (eq-eqb t.me t.me refl)))
+
+none_for_strangers : (t : SlotsValue) (peer : ℕ) → t.nodes ≤ peer → slots_for t peer ≡ 0
+none_for_strangers t peer past =
+    cond-false (nat_lt peer t.nodes && not (peer == t.me)) t.each 0
+    (and_left (nat_lt peer t.nodes) (not (peer == t.me)) (le-ltb peer t.nodes past))
+
+room_before : (t : SlotsValue) (n : ℕ) → n ≤ t.me → room_below t n ≤ t.each * n
+unfolding room_below
+room_before t zero least = omega arith
+room_before t (suc n) least = omega (arith, room_before t n (omega arith), few_for t n)
+
+room_behind : (t : SlotsValue) (n : ℕ) → t.me < n → room_below t n + t.each ≤ t.each * n
+unfolding room_below
+room_behind t zero less = absurd (omega arith)
+room_behind t (suc n) less =
+    ⊎_elim (λ (before : t.me < n). omega (arith, room_behind t n before, few_for t n))
+    (λ (past : n ≤ t.me).
+    let same : t.me ≡ n = omega (arith, less, past) in
+    let none : slots_for t n ≡ 0 = ap (slots_for t) (sym same) ∙ none_for_itself t in
+    omega (arith, none, room_before t n past))
+    (cases_lt t.me n)
+
+room_of_others : (t : SlotsValue) (n : ℕ) → room_below t t.nodes + t.each ≤ t.each * n →
+    room_below t t.nodes ≤ t.each * (n - 1)
+room_of_others t zero room = omega arith
+room_of_others t (suc n) room =
+    let e : suc n - 1 ≡ n = omega arith in
+    rw e (omega (arith, room))
+
+room_for_all : (t : SlotsValue) → room_below t t.nodes ≤ t.each * others t.nodes t.me
+room_for_all t =
+    cond_both (nat_lt t.me t.nodes) (t.nodes - 1) t.nodes (λ n. room_below t t.nodes ≤ t.each * n)
+    (λ less. room_of_others t t.nodes (room_behind t t.nodes (ltb-true t.me t.nodes less)))
+    (λ past. room_before t t.nodes (ltb-false t.me t.nodes past))
+
+-- the slots below an index are no more than there are for these peers
+one_below : (n : ℕ) (p : Place) → one_if (slot_below (suc n) p) ≤ one_if (slot_below n p) + one_if (has_slot_of n p)
+one_below n p = held_one_below n p.held
+
+slots_below : (t : SlotsValue) → IsTable t → (n : ℕ) → count_by (slot_below n) t.places ≤ room_below t n
+unfolding room_below
+slots_below t is zero = omega (arith, none_counted (slot_below zero) t.places (λ p. none_below p.held))
+slots_below t is (suc n) =
+    omega (
+      arith,
+      count_of_two (slot_below n) (has_slot_of n) (slot_below (suc n)) t.places (one_below n),
+      slots_below t is n,
+      is.each n,
+    )
+
+-- and no slot is of a stranger
+none_beyond : (t : SlotsValue) → IsTable t → count_by (slot_beyond t.nodes) t.places ≡ 0
+none_beyond t is =
+    ⊎_elim (λ (some : 0 < count_by (slot_beyond t.nodes) t.places).
+    let one = some_counted (slot_beyond t.nodes) t.places no_place some in
+    let whose = beyond_is_of t.nodes (place_at t.places one.0).held one.2 in
+    let counted = counted_one (has_slot_of whose.0) t.places one.0 no_place one.1 whose.2 in
+    absurd (omega (arith, counted, is.each whose.0, none_for_strangers t whose.0 whose.1)))
+    (λ (none : count_by (slot_beyond t.nodes) t.places ≤ 0). omega (arith, none))
+    (cases_lt 0 (count_by (slot_beyond t.nodes) t.places))
+
+slots_in_all : (t : SlotsValue) → IsTable t → count_by any_slot t.places ≤ t.each * others t.nodes t.me
+slots_in_all t is =
+    omega (
+      arith,
+      count_of_two (slot_below t.nodes) (slot_beyond t.nodes) any_slot t.places (one_of_all t.nodes),
+      slots_below t is t.nodes,
+      none_beyond t is,
+      room_for_all t,
+    )
+
+-- each place is free, a newcomer's or a slot's
+length_of_three : (places : List Place) →
+    length places ≤ count_by is_free places + count_by is_newcomer places + count_by any_slot places
+length_of_three [] = omega arith
+length_of_three (p ∷ places) =
+    omega (
+      arith,
+      length_of_three places,
+      one_of_three p.held,
+      sum_by-cons (λ q. one_if (is_free q)) p places,
+      sum_by-cons (λ q. one_if (is_newcomer q)) p places,
+      sum_by-cons (λ q. one_if (any_slot q)) p places,
+    )
+
+-- where fewer newcomers are there than may be, a place is free
+pub one_is_free : (t : SlotsValue) → IsTable t → count_by is_newcomer t.places < t.newcomers →
+    position is_free t.places ≡ None → ⊥
+one_is_free t is few none =
+    let some : 0 < count_by is_free t.places =
+    omega (arith, few, is.size, slots_in_all t is, length_of_three t.places) in
+    let one = some_counted is_free t.places no_place some in
+    found_where_one is_free t.places one.0 no_place one.1 one.2 none
+
+-- A place changes, where no peer comes to have a slot more than before, but of one that has fewer than it may have.
+-- (`with_place` is the table with this place so.)
+abbrev with_place : SlotsValue → ℕ → Place → SlotsValue
+with_place t at p = record t { places = slice_set t.places at p }
+
+-- fewer newcomers, or room for one
+pub table_with : (t : SlotsValue) (at : ℕ) (p : Place) → IsTable t → at < length t.places →
+    ((peer : ℕ) → count_by (has_slot_of peer) t.places + one_if (has_slot_of peer p)
+      ≤ slots_for t peer + one_if (has_slot_of peer (place_at t.places at))) →
+    count_by is_newcomer t.places + one_if (is_newcomer p)
+      ≤ t.newcomers + one_if (is_newcomer (place_at t.places at)) →
+    IsTable (with_place t at p)
+table_with t at p is there each newcomers = record {
+  size = length-set t.places at p ∙ is.size;
+  some = is.some;
+  each = λ peer. omega (arith, each peer, count_set (has_slot_of peer) t.places at p no_place there);
+  newcomers = omega (arith, newcomers, count_set is_newcomer t.places at p no_place there);
+}
+
+-- the change of a place takes no slot and no newcomer's room
+pub table_with_less : (t : SlotsValue) (at : ℕ) (p : Place) → IsTable t → at < length t.places →
+    ((peer : ℕ) → one_if (has_slot_of peer p) ≤ one_if (has_slot_of peer (place_at t.places at))) →
+    one_if (is_newcomer p) ≤ one_if (is_newcomer (place_at t.places at)) →
+    IsTable (with_place t at p)
+table_with_less t at p is there each newcomers =
+    table_with t at p is there (λ peer. omega (arith, each peer, is.each peer)) (omega (arith, newcomers, is.newcomers))
+
+-- whether it has a slot, and whose, stays
+pub record IsLike (old new : Standing) : Type 0 where
+  pub slot : (peer : ℕ) → is_slot peer new ≡ is_slot peer old
+  pub none : has_none new ≡ has_none old
+
+pub slot_waits : (peer : ℕ) (standing : Standing) → has_none standing ≡ true → is_slot peer standing ≡ true → ⊥
+slot_waits peer Unnamed none slot = false≢true slot
+slot_waits peer (Named by) none slot = false≢true slot
+slot_waits peer (Slot by) none slot = false≢true none
+
+slot_there : (places : List Place) (at peer : ℕ) → has_slot_of peer (place_at places at) ≡ true → at < length places
+slot_there places at peer slot =
+    ⊎_elim (λ (less : at < length places). less)
+    (λ (past : length places ≤ at).
+    absurd (false≢true (sym (ap (has_slot_of peer) (get_or_past places at no_place past)) ∙ slot)))
+    (cases_lt at (length places))
+
+newcomer_is_there : (places : List Place) (at : ℕ) → is_newcomer (place_at places at) ≡ true → at < length places
+newcomer_is_there places at newcomer =
+    ⊎_elim (λ (less : at < length places). less)
+    (λ (past : length places ≤ at).
+    absurd (false≢true (sym (ap is_newcomer (get_or_past places at no_place past)) ∙ newcomer)))
+    (cases_lt at (length places))
+
+free_chosen : (b : Bool) (found : Option ℕ) → (if b then Free else ends_or_stays found) ≡ Free → b ≡ true
+free_chosen true found is = refl
+free_chosen false None is = absurd (cc)
+free_chosen false (Some at) is = absurd (cc)
+
+pub free_is_named : (t : SlotsValue) (standing : Standing) (brings : Bool) (now : ℕ) → way t standing brings now ≡ Free →
+    (peer : ℕ) × (standing ≡ Named peer) × (count_by (has_slot_of peer) t.places < slots_for t peer)
+free_is_named t Unnamed brings now is = absurd (cc)
+free_is_named t (Slot peer) brings now is = absurd (cc)
+free_is_named t (Named peer) brings now is =
+    (peer, refl, ltb-true _ _ (free_chosen (nat_lt (count_by (has_slot_of peer) t.places) (slots_for t peer))
+    (position (is_least t.places peer brings now) t.places) is))
+
+one_more : (t : SlotsValue) (other peer : ℕ) → IsTable t → count_by (has_slot_of peer) t.places < slots_for t peer →
+    count_by (has_slot_of other) t.places + one_if (peer == other) ≤ slots_for t other
+one_more t other peer is fewer =
+    ⊎_elim (λ (same : (peer == other) ≡ true).
+    let e : peer ≡ other = eqb-true peer other same in
+    let one : one_if (peer == other) ≡ 1 = ap one_if same in
+    subst (λ k. count_by (has_slot_of k) t.places + one_if (peer == other) ≤ slots_for t k) e
+    (omega (arith, fewer, one)))
+    (λ (apart : (peer == other) ≡ false).
+    let none : one_if (peer == other) ≡ 0 = ap one_if apart in
+    omega (arith, none, is.each other))
+    (cases_Bool (peer == other))
+
+none_in_replicate : (p : Place → Bool) (n : ℕ) → p no_place ≡ false → count_by p (replicate n no_place) ≡ 0
+none_in_replicate p zero none = refl
+none_in_replicate p (suc n) none =
+    let first : one_if (p no_place) ≡ 0 = ap one_if none in
+    omega (
+      arith,
+      first,
+      none_in_replicate p n none,
+      sum_by-cons (λ y. one_if (p y)) no_place (replicate n no_place),
+    )
+
+newcomer_fits : (t : SlotsValue) (lot now at : ℕ) → IsTable t → (few : Bool) →
+    nat_lt (count_by is_newcomer t.places) t.newcomers ≡ few →
+    MatchBool few (position is_free t.places ≡ Some at) (IsDrawn t.places lot at) →
+    IsTable (with_newcomer t now at)
+newcomer_fits t lot now at is true few place =
+    let there = (position-Some is_free t.places at no_place place).0 in
+    let less = ltb-true (count_by is_newcomer t.places) t.newcomers few in
+    table_with t at (came_after (place_at t.places at).number now) is there
+    (λ peer. omega (arith, is.each peer)) (omega (arith, less))
+newcomer_fits t lot now at is false few drawn =
+    let one : one_if (is_newcomer (place_at t.places at)) ≡ 1 = ap one_if drawn.newcomer in
+    table_with_less t at (came_after (place_at t.places at).number now) is drawn.there
+    (λ peer. omega arith) (omega (arith, one))
+
+newcomer_within : (t : SlotsValue) (lot at : ℕ) → (few : Bool) →
+    MatchBool few (position is_free t.places ≡ Some at) (IsDrawn t.places lot at) → at < length t.places
+newcomer_within t lot at true place = (position-Some is_free t.places at no_place place).0
+newcomer_within t lot at false drawn = drawn.there
+
+less_after_time : (p : Place → Bool) (now : ℕ) (place : Place) → p (freed place) ≡ false →
+    one_if (p (after_time now place)) ≤ one_if (p place)
+less_after_time p now place none =
+    ⊎_elim (λ (over : is_over now place ≡ true).
+    let gone : one_if (p (after_time now place)) ≡ 0 =
+    ap (λ (b : Bool). one_if (p (if b then freed place else place))) over ∙ ap one_if none in
+    omega (arith, gone))
+    (λ (left : is_over now place ≡ false).
+    let same : one_if (p (after_time now place)) ≡ one_if (p place) =
+    ap (λ (b : Bool). one_if (p (if b then freed place else place))) left in
+    omega (arith, same))
+    (cases_Bool (is_over now place))
+
+-- a newcomer comes
+pub table_with_newcomer : (t : SlotsValue) (lot now at : ℕ) → IsTable t → IsPlaceFor t lot at →
+    IsTable (with_newcomer t now at)
+table_with_newcomer t lot now at is place =
+    newcomer_fits t lot now at is (nat_lt (count_by is_newcomer t.places) t.newcomers) refl place
+
+pub newcomer_there : (t : SlotsValue) (lot at : ℕ) → IsPlaceFor t lot at → at < length t.places
+newcomer_there t lot at place =
+    newcomer_within t lot at (nat_lt (count_by is_newcomer t.places) t.newcomers) place
+
+-- the time passes
+pub table_passed : (t : SlotsValue) (now : ℕ) → IsTable t → IsTable (passed t now)
+table_passed t now is = record {
+  size = length-map t.places (after_time now) ∙ is.size;
+  some = is.some;
+  each = λ peer.
+      omega (
+        arith,
+        is.each peer,
+        count_map (has_slot_of peer) (after_time now) t.places (λ p. less_after_time (has_slot_of peer) now p refl),
+      );
+  newcomers =
+      omega (
+        arith,
+        is.newcomers,
+        count_map is_newcomer (after_time now) t.places (λ p. less_after_time is_newcomer now p refl),
+      );
+}
+
+-- a newcomer takes a slot of its peer, which has fewer than it may have
+table_takes : (t : SlotsValue) (at peer : ℕ) (old c : Connected) → IsTable t →
+    (place_at t.places at).held ≡ Some old → IsLike old.standing c.standing → c.standing ≡ Named peer →
+    count_by (has_slot_of peer) t.places < slots_for t peer →
+    IsTable (with_place t at (record (place_at t.places at) { held = Some (with_slot c) }))
+table_takes t at peer old c is held like named fewer =
+    let slot : in_slot c.standing ≡ Slot peer = ap in_slot named in
+    let was : one_if (is_newcomer (place_at t.places at)) ≡ 1 =
+    ap (λ h. one_if (waits h)) held ∙ ap one_if (sym like.none ∙ ap has_none named) in
+    let has : one_if (has_none (in_slot c.standing)) ≡ 0 = ap (λ s. one_if (has_none s)) slot in
+    table_with t at (record (place_at t.places at) { held = Some (with_slot c) }) is (held_there t.places at old held)
+    (λ other.
+    let more = one_more t other peer is fewer in
+    let same : one_if (is_slot other (in_slot c.standing)) ≡ one_if (peer == other) =
+    ap (λ s. one_if (is_slot other s)) slot in
+    omega (arith, more, same))
+    (omega (arith, is.newcomers, was, has))
+
+-- a connection goes its way
+pub table_settled : (t : SlotsValue) (at : ℕ) (old c : Connected) (brings : Bool) (now : ℕ) (w : Way) → IsTable t →
+    (place_at t.places at).held ≡ Some old → IsLike old.standing c.standing → w ≡ way t c.standing brings now →
+    IsTable (record t { places = settled t.places at c w })
+table_settled t at old c brings now Stays is held like w =
+    table_with_less t at (record (place_at t.places at) { held = Some c }) is (held_there t.places at old held)
+    (λ peer.
+    let before : one_if (has_slot_of peer (place_at t.places at)) ≡ one_if (is_slot peer old.standing) =
+    ap (λ h. one_if (holds_slot peer h)) held in
+    let same : one_if (is_slot peer c.standing) ≡ one_if (is_slot peer old.standing) = ap one_if (like.slot peer) in
+    omega (arith, before, same))
+    (let before : one_if (is_newcomer (place_at t.places at)) ≡ one_if (has_none old.standing) =
+    ap (λ h. one_if (waits h)) held in
+    let same : one_if (has_none c.standing) ≡ one_if (has_none old.standing) = ap one_if like.none in
+    omega (arith, before, same))
+table_settled t at old c brings now Free is held like w =
+    let free = free_is_named t c.standing brings now (sym w) in
+    table_takes t at free.0 old c is held like free.1 free.2
+table_settled t at old c brings now (Ends other) is held like w =
+    let ends = ends_is_of t c.standing brings now other (sym w) in
+    let gives = (and_parts (has_slot_of ends.0 (place_at t.places other)) _ ends.2).0 in
+    let there = slot_there t.places other ends.0 gives in
+    let gone = record (place_at t.places other) { held = None } in
+    let less : IsTable (with_place t other gone) =
+    table_with_less t other gone is there (λ peer. omega arith) (omega arith) in
+    let apart : at ≢ other =
+    λ same.
+        slot_waits ends.0 old.standing (sym like.none ∙ ap has_none ends.1)
+        (ap (holds_slot ends.0) (sym held) ∙ ap (λ k. has_slot_of ends.0 (place_at t.places k)) same ∙ gives) in
+    let stays : place_at (slice_set t.places other gone) at ≡ place_at t.places at =
+    get_or-set_other t.places other at gone no_place apart in
+    let one : one_if (has_slot_of ends.0 (place_at t.places other)) ≡ 1 = ap one_if gives in
+    let fewer : count_by (has_slot_of ends.0) (slice_set t.places other gone) < slots_for t ends.0 =
+    omega (arith, one, is.each ends.0, count_set (has_slot_of ends.0) t.places other gone no_place there) in
+    table_takes (with_place t other gone) at ends.0 old c less (ap (λ (p : Place). p.held) stays ∙ held) like ends.1 fewer
+
+-- by a frame of a peer, or a packet that counts
+pub opened_is_like : (peer : ℕ) (standing : Standing) → IsLike standing (name_of peer standing)
+opened_is_like peer Unnamed = record { slot = λ other. refl; none = refl }
+opened_is_like peer (Named by) = record { slot = λ other. refl; none = refl }
+opened_is_like peer (Slot by) = record { slot = λ other. refl; none = refl }
+
+pub same_is_like : (standing : Standing) → IsLike standing standing
+same_is_like standing = record { slot = λ other. refl; none = refl }
+
+-- none yet
+pub table_none_yet : (nodes me each newcomers : ℕ) → 0 < newcomers → IsTable (none_yet nodes me each newcomers)
+table_none_yet nodes me each newcomers some = record {
+  size = length-replicate (each * others nodes me + newcomers) no_place;
+  some = some;
+  each = λ peer. omega (arith, none_in_replicate (has_slot_of peer) (each * others nodes me + newcomers) refl);
+  newcomers = omega (arith, none_in_replicate is_newcomer (each * others nodes me + newcomers) refl);
+}
+
+-- one ends
+pub table_gone : (t : SlotsValue) (at : ℕ) → IsTable t → at < length t.places →
+    IsTable (record t { places = held_at t.places at None })
+table_gone t at is there =
+    table_with_less t at (record (place_at t.places at) { held = None }) is there (λ peer. omega arith) (omega arith)
+
+held_there_by : (p : Place) (number : ℕ) (old : Connected) → held_by p number ≡ Some old → p.held ≡ Some old
+held_there_by p number old held =
+    ⊎_elim (λ (same : (p.number == number) ≡ true). sym (ap (λ (b : Bool). if b then p.held else None) same) ∙ held)
+    (λ (apart : (p.number == number) ≡ false).
+    let none : held_by p number ≡ None = ap (λ (b : Bool). if b then p.held else None) apart in
+    absurd (cc))
+    (cases_Bool (p.number == number))
+
+-- as the calls leave it
+pub table_named : (t : SlotsValue) (at peer now : ℕ) (old c : Connected) (w : Way) (places : List Place) → IsTable t →
+    (place_at t.places at).held ≡ Some old → c ≡ opened_by peer now old → w ≡ way t c.standing false now →
+    places ≡ settled t.places at c w → IsTable (record t { places = places })
+table_named t at peer now old c w places is held opened goes settle =
+    subst (λ ps. IsTable (record t { places = ps })) (sym settle)
+    (table_settled t at old c false now w is held
+    (subst (λ (k : Connected). IsLike old.standing k.standing) (sym opened) (opened_is_like peer old.standing)) goes)
+
+pub table_counted : (t : SlotsValue) (at number now : ℕ) (old c : Connected) (w : Way) (places : List Place) →
+    IsTable t → held_by (place_at t.places at) number ≡ Some old → c ≡ counted_now now old →
+    w ≡ way t c.standing true now → places ≡ settled t.places at c w → IsTable (record t { places = places })
+table_counted t at number now old c w places is held counts goes settle =
+    subst (λ ps. IsTable (record t { places = ps })) (sym settle)
+    (table_settled t at old c true now w is (held_there_by (place_at t.places at) number old held)
+    (subst (λ (k : Connected). IsLike old.standing k.standing) (sym counts) (same_is_like old.standing)) goes)
+
+pub table_over : (t : SlotsValue) (now : ℕ) (places : List Place) → IsTable t →
+    places ≡ map (after_time now) t.places → IsTable (record t { places = places })
+table_over t now places is over = subst (λ ps. IsTable (record t { places = ps })) (sym over) (table_passed t now is)

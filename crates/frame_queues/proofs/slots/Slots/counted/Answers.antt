@@ -1,0 +1,13 @@
+use Rattle.std.proofs.Common.{◌≡◌, length, drop, arith}
+use Rattle.std.proofs.lemmas.List.{take_at}
+use Rattle.frame_queues.proofs.TableLemmas.{table_counted}
+use Rattle.frame_queues.proofs.slots.Slots.counted.Goals as goal
+
+pub invariant_of-self : goal.invariant_of-self
+invariant_of-self c =
+    let len : length c.settle.new.places ≡ c.self.inside.places.len =
+    omega (arith, c.settle.auto.places, c.deref_mut.ensures.len) in
+    rw (take_at c.settle.new.places (drop (length c.settle.new.places) c.self.inside.places.items)
+    c.self.inside.places.len len)
+    (table_counted _ c.args.place c.args.number c.args.now c.in_ok-old.old c.counted_now-connected.result
+    c.way-way.result c.settle.new.places c.self.invariant (cc) c.counted_now-connected.ensures (cc) (cc))
