@@ -17,7 +17,8 @@ use Rattle.frame_queues.specs.declared.slots.Place.{Place}
 use Rattle.frame_queues.specs.declared.slots.Way.{Way}
 use Rattle.frame_queues.specs.declared.slots.Way.TheVariants.{Stays, Free, Ends}
 use Rattle.frame_queues.specs.Slots.{SlotsValue, IsTable, IsDrawn, IsPlaceFor, no_place, place_at, held_at, has_slot_of}
-use Rattle.frame_queues.specs.Slots.{holds_slot, is_slot, gives_way, is_free, is_newcomer, has_none, waits, slots_for, way, others}
+use Rattle.frame_queues.specs.Slots.{holds_slot, is_slot, gives_way, is_free, is_newcomer, has_none, waits, slots_for, way}
+use Rattle.frame_queues.specs.Limits.{others, places_for}
 use Rattle.frame_queues.specs.Slots.{settled, with_slot, in_slot, opened_by, name_of, counted_now, is_over, after_time, freed}
 use Rattle.frame_queues.specs.Slots.{came_after, with_newcomer, none_yet, passed, is_least, ends_or_stays, held_by}
 use Rattle.frame_queues.proofs.SlotLemmas.{held_there, held_at_same, held_at_other, ends_is_of}
@@ -491,10 +492,10 @@ same_is_like standing = record { slot = λ other. refl; none = refl }
 -- none yet
 pub table_none_yet : (nodes me each newcomers : ℕ) → 0 < newcomers → IsTable (none_yet nodes me each newcomers)
 table_none_yet nodes me each newcomers some = record {
-  size = length-replicate (each * others nodes me + newcomers) no_place;
+  size = length-replicate (places_for nodes me each newcomers) no_place;
   some = some;
-  each = λ peer. omega (arith, none_in_replicate (has_slot_of peer) (each * others nodes me + newcomers) refl);
-  newcomers = omega (arith, none_in_replicate is_newcomer (each * others nodes me + newcomers) refl);
+  each = λ peer. omega (arith, none_in_replicate (has_slot_of peer) (places_for nodes me each newcomers) refl);
+  newcomers = omega (arith, none_in_replicate is_newcomer (places_for nodes me each newcomers) refl);
 }
 
 -- one ends
@@ -511,22 +512,32 @@ held_there_by p number old held =
     absurd (cc))
     (cases_Bool (p.number == number))
 
--- as the calls leave it
-pub table_named : (t : SlotsValue) (at peer now : ℕ) (old c : Connected) (w : Way) (places : List Place) → IsTable t →
-    (place_at t.places at).held ≡ Some old → c ≡ opened_by peer now old → w ≡ way t c.standing false now →
-    places ≡ settled t.places at c w → IsTable (record t { places = places })
-table_named t at peer now old c w places is held opened goes settle =
-    subst (λ ps. IsTable (record t { places = ps })) (sym settle)
-    (table_settled t at old c false now w is held
-    (subst (λ (k : Connected). IsLike old.standing k.standing) (sym opened) (opened_is_like peer old.standing)) goes)
+-- as the calls leave it, which read these lists and this value
+pub table_named : (t u : SlotsValue) (at peer now : ℕ) (p : Place) (old c : Connected) (w : Way)
+    (read wrote places : List Place) → IsTable t → p ≡ place_at read at → p.held ≡ Some old →
+    c ≡ opened_by peer now old → w ≡ way u c.standing false now → places ≡ settled wrote at c w →
+    read ≡ t.places → wrote ≡ t.places → u ≡ t → IsTable (record t { places = places })
+table_named t u at peer now p old c w read wrote places is looked held opened goes settle same_read same_wrote same =
+    subst (λ ps. IsTable (record t { places = ps }))
+    (sym (settle ∙ ap (λ ps. settled ps at c w) same_wrote))
+    (table_settled t at old c false now w is
+    (ap (λ ps. (place_at ps at).held) (sym same_read) ∙ ap (λ (q : Place). q.held) (sym looked) ∙ held)
+    (subst (λ (k : Connected). IsLike old.standing k.standing) (sym opened) (opened_is_like peer old.standing))
+    (goes ∙ ap (λ v. way v c.standing false now) same))
 
-pub table_counted : (t : SlotsValue) (at number now : ℕ) (old c : Connected) (w : Way) (places : List Place) →
-    IsTable t → held_by (place_at t.places at) number ≡ Some old → c ≡ counted_now now old →
-    w ≡ way t c.standing true now → places ≡ settled t.places at c w → IsTable (record t { places = places })
-table_counted t at number now old c w places is held counts goes settle =
-    subst (λ ps. IsTable (record t { places = ps })) (sym settle)
-    (table_settled t at old c true now w is (held_there_by (place_at t.places at) number old held)
-    (subst (λ (k : Connected). IsLike old.standing k.standing) (sym counts) (same_is_like old.standing)) goes)
+pub table_counted : (t u : SlotsValue) (at number now : ℕ) (p : Place) (found : Option Connected) (old c : Connected)
+    (w : Way) (read wrote places : List Place) → IsTable t → p ≡ place_at read at → found ≡ held_by p number →
+    found ≡ Some old → c ≡ counted_now now old → w ≡ way u c.standing true now → places ≡ settled wrote at c w →
+    read ≡ t.places → wrote ≡ t.places → u ≡ t → IsTable (record t { places = places })
+table_counted t u at number now p found old c w read wrote places is looked finds held counts goes settle same_read
+    same_wrote same =
+    subst (λ ps. IsTable (record t { places = ps }))
+    (sym (settle ∙ ap (λ ps. settled ps at c w) same_wrote))
+    (table_settled t at old c true now w is
+    (ap (λ ps. (place_at ps at).held) (sym same_read) ∙ ap (λ (q : Place). q.held) (sym looked)
+    ∙ held_there_by p number old (sym finds ∙ held))
+    (subst (λ (k : Connected). IsLike old.standing k.standing) (sym counts) (same_is_like old.standing))
+    (goes ∙ ap (λ v. way v c.standing true now) same))
 
 pub table_over : (t : SlotsValue) (now : ℕ) (places : List Place) → IsTable t →
     places ≡ map (after_time now) t.places → IsTable (record t { places = places })

@@ -3,6 +3,7 @@ use Rattle.std.specs.Prelude.{◌≡◌, ⊤, ℕ, ◌+◌, ◌-◌, ◌*◌, �
 use Rattle.std.specs.Prelude.{Bool, true, false, not, ◌&&◌, ◌||◌, if◌then◌else◌, MatchBool}
 use Rattle.std.specs.Prelude.{List, length, take, map, fold, slice_index_or, slice_set, count_by, position, replicate}
 use Rattle.std.specs.Prelude.{Option, Some, None, is_none, option_and_then}
+use Rattle.frame_queues.specs.Limits.{places_for}
 use Rattle.frame_queues.specs.declared.slots.Standing.{Standing}
 use Rattle.frame_queues.specs.declared.slots.Standing.TheVariants.{Unnamed, Named, Slot}
 use Rattle.frame_queues.specs.declared.slots.Connected.{Connected}
@@ -39,14 +40,10 @@ no_place = record { number = 0; held = None }
 abbrev pub place_at : List Place → ℕ → Place
 place_at places at = slice_index_or places at no_place
 
--- how many other nodes there are
-abbrev pub others : ℕ → ℕ → ℕ
-others nodes me = if nat_lt me nodes then nodes - 1 else nodes
-
 -- no connection yet
 abbrev pub none_yet : ℕ → ℕ → ℕ → ℕ → SlotsValue
 none_yet nodes me each newcomers = record {
-  places = replicate (each * others nodes me + newcomers) no_place;
+  places = replicate (places_for nodes me each newcomers) no_place;
   nodes = nodes;
   me = me;
   each = each;
@@ -87,7 +84,7 @@ slots_for t peer = if nat_lt peer t.nodes && not (peer == t.me) then t.each else
 
 -- at most so many slots of each peer, and so many newcomers, with a place for each of these
 pub record IsTable (t : SlotsValue) : Type 0 where
-  pub size : length t.places ≡ t.each * others t.nodes t.me + t.newcomers
+  pub size : length t.places ≡ places_for t.nodes t.me t.each t.newcomers
   pub some : 0 < t.newcomers
   pub each : (peer : ℕ) → count_by (has_slot_of peer) t.places ≤ slots_for t peer
   pub newcomers : count_by is_newcomer t.places ≤ t.newcomers

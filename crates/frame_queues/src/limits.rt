@@ -1,7 +1,7 @@
 //! How many connections of peers there may be.
 
 ghost use Rattle.std.specs.Prelude.{◌≡◌, ◌-◌, ◌*◌, ◌<◌, ◌≤◌, max, min};
-ghost use Rattle.frame_queues.specs.Limits.{each_within, most_each, most_newcomers, newcomers};
+ghost use Rattle.frame_queues.specs.Limits.{each_within, most_each, most_newcomers, newcomers, others, places_for};
 
 /// The newcomers for which there is room beside two slots of each peer.
 const NEWCOMERS: u8 = 32;
@@ -60,5 +60,23 @@ impl Limits {
         ensures { result ≡ self.now.newcomers }
     {
         self.newcomers
+    }
+
+    /// How many connections there are at most, at the node of this index among so many.
+    pub fn places(&self, nodes: u8, me: u8) -> usize
+        ensures { result ≡ places_for nodes me self.now.each self.now.newcomers }
+    {
+        usize::from(self.each) * others(nodes, me) + usize::from(self.newcomers)
+    }
+}
+
+/// How many other nodes there are.
+fn others(nodes: u8, me: u8) -> usize
+    ensures { result ≡ others nodes me }
+{
+    if me < nodes {
+        usize::from(nodes) - 1
+    } else {
+        usize::from(nodes)
     }
 }

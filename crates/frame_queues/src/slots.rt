@@ -101,14 +101,12 @@ impl Slots {
     pub fn new(alloc: Global, nodes: u8, me: u8, limits: Limits) -> Result<Slots, AllocError>
         ensures { IfOk result (λ made. made ≡ due.none_yet nodes me limits.each limits.newcomers) }
     {
-        let count =
-            usize::from(limits.each()) * others(nodes, me) + usize::from(limits.newcomers());
         let none = Place {
             number: 0,
             held: None,
         };
         Ok(Slots {
-            places: Vec::from_elem(alloc, none, count)?,
+            places: Vec::from_elem(alloc, none, limits.places(nodes, me))?,
             nodes,
             me,
             each: limits.each(),
@@ -234,17 +232,6 @@ impl Slots {
         } else {
             0
         }
-    }
-}
-
-/// How many other nodes there are.
-fn others(nodes: u8, me: u8) -> usize
-    ensures { result ≡ due.others nodes me }
-{
-    if me < nodes {
-        usize::from(nodes) - 1
-    } else {
-        usize::from(nodes)
     }
 }
 

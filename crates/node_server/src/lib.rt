@@ -25,8 +25,8 @@ mod workers;
 use clients::answer_client;
 use crew::{Credit, Crew, News};
 pub use fault::ServerFault;
+use frame_queues::MOST_CLIENTS;
 pub use frame_queues::{ClusterKeys, FrameKeys, Limits, PeerName};
-use frame_queues::{MOST_CLIENTS, MOST_PEERS};
 use mio::Waker;
 use node_lock::{Inbox, Seat};
 use peers::Peers;
@@ -171,7 +171,8 @@ fn server_of<'a, N: HeldNode + Drop, K: FrameKeys + Drop, R: Clock>(
     }
     let (most, now) = (most_batch::<N>(), millis(rt));
     let front = Front::new(alloc, keys.sizes(), keys.me(), most, now)?;
-    let crew = crew_of(alloc, seats, queues, front, keys.sizes().n())?;
+    let places = site.limits.places(keys.sizes().n(), keys.me().index());
+    let crew = crew_of(alloc, seats, queues, front, keys.sizes().n(), places)?;
     let heard = Heard::new(alloc, keys.sizes().n())?;
     Ok(Server {
         rt,
@@ -193,7 +194,8 @@ fn server_of<'a, N: HeldNode + Drop, K: FrameKeys + Drop, R: Clock>(
     })
 }
 
-/// An idle worker for each seat, with a queue of its own, and what comes before these.
+/// An idle worker for each seat, with a queue of its own, and what comes before these, beside so many connections of
+/// peers.
 ///
 /// # Errors
 ///
@@ -204,6 +206,7 @@ fn crew_of<'a, N: HeldNode>(
     mut queues: Vec<JobQueue<'a>>,
     front: Front<N::Untold>,
     nodes: u8,
+    places: usize,
 ) -> Result<Crew<'a, N>, AllocError> {
     let mut idle = Vec::new(alloc);
     for seat in seats {
@@ -219,7 +222,7 @@ fn crew_of<'a, N: HeldNode>(
         front: Some(front),
         jobs: false,
         connected: Vec::with_capacity(alloc, usize::from(nodes))?,
-        credits: Vec::from_elem(alloc, nothing, MOST_PEERS as usize)?,
+        credits: Vec::from_elem(alloc, nothing, places)?,
         has_credit: false,
         alarm: Alarm::new(),
         failed: false,

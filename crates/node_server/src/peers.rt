@@ -65,6 +65,8 @@ pub struct Peers<'a, 'b, N: HeldNode, K: FrameKeys, R> {
     queue: JobQueue<'a>,
     slots: Slots,
     connections: Vec<Option<Connection>>,
+    /// Before this no newcomer's time is over, in milliseconds.
+    next_end: u64,
     /// The places of the connections that may have bytes.
     ready: Vec<usize>,
     /// The turns in which the frames of their blocks are put, and room for the packets of a turn.
@@ -101,6 +103,7 @@ impl<'a, 'b, N: HeldNode, K: FrameKeys, R: Wait + Clock> Peers<'a, 'b, N, K, R> 
             queue,
             slots,
             connections,
+            next_end: 0,
             ready: Vec::with_capacity(alloc, places)?,
             turns: Turns::new(alloc, places)?,
             packets: Vec::with_capacity(alloc, TURN_FRAMES)?,
@@ -114,12 +117,15 @@ impl<'a, 'b, N: HeldNode, K: FrameKeys, R: Wait + Clock> Peers<'a, 'b, N, K, R> 
     /// which a packet found no memory. What is heard is told.
     pub fn wait_until(&mut self, now: u64) -> u64 {
         self.take_credit();
-        if self.slots.passes(now) > 0 {
-            self.close_ended();
+        if self.next_end <= now {
+            if self.slots.passes(now) > 0 {
+                self.close_ended();
+            }
+            self.next_end = self.slots.next_end();
         }
         self.tell_heard();
         if self.ready.is_empty() {
-            self.slots.next_end()
+            self.next_end
         } else {
             now
         }
@@ -153,11 +159,17 @@ impl<'a, 'b, N: HeldNode, K: FrameKeys, R: Wait + Clock> Peers<'a, 'b, N, K, R> 
 
     /// Closes the connections that have no place any more.
     fn close_ended(&mut self) {
-        for (place, room) in self.slots.places().iter().zip(self.connections.iter_mut()) {
-            if place.held.is_none() && room.is_some() {
-                *room = None;
-                self.is_news = true;
+        for place in 0..self.connections.len() {
+            if !self.is_held(place) {
+                self.close(place);
             }
+        }
+    }
+
+    fn is_held(&self, place: usize) -> bool {
+        match self.slots.places().get(place) {
+            Some(place) => place.held.is_some(),
+            None => false,
         }
     }
 
@@ -195,6 +207,7 @@ impl<'a, 'b, N: HeldNode, K: FrameKeys, R: Wait + Clock> Peers<'a, 'b, N, K, R> 
         };
         self.lot = self.lot.wrapping_mul(LOT_FACTOR).wrapping_add(1);
         let place = self.slots.comes(now, (self.lot >> 32) as usize);
+        self.next_end = 0;
         let number = self.number_at(place);
         self.close(place);
         self.server.begin_credit(place, number);
@@ -285,8 +298,12 @@ impl<'a, 'b, N: HeldNode, K: FrameKeys, R: Wait + Clock> Peers<'a, 'b, N, K, R> 
         let Ok(Opened { peer, unopened }) = opened else {
             return 0;
         };
-        self.is_news |= unopened > 0 || connection.opened != peer;
-        connection.opened = peer;
+        if connection.opened != peer {
+            connection.opened = peer;
+            self.next_end = 0;
+            self.is_news = true;
+        }
+        self.is_news |= unopened > 0;
         let caller = Caller::Peer {
             place,
             connection: connection.number,
