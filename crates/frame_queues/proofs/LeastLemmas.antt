@@ -19,7 +19,7 @@ use Rattle.frame_queues.specs.Slots.{has_none, waits, held_by, held_counted, cou
 use Rattle.frame_queues.specs.Moments.{after, is_spoken, is_spoken_by, Stands, IsWaiting, WhoBringsNewGetsIn}
 use Rattle.frame_queues.specs.Moments.Act.{Counts}
 use Rattle.frame_queues.proofs.SlotLemmas.{held_there, held_at_same, held_at_other}
-use Rattle.frame_queues.proofs.TableLemmas.{one_if, some_counted, found_where_one}
+use Rattle.frame_queues.proofs.RoomLemmas.{one_if, some_counted, found_where_one}
 
 -- less by the first of two numbers, or by the second where the first are equal
 abbrev less_two : ℕ → ℕ → ℕ → ℕ → Bool

@@ -4,6 +4,7 @@ pub mod FrameBytes
 pub mod UnsentLemmas
 pub mod BlockLemmas
 pub mod SlotLemmas
+pub mod RoomLemmas
 pub mod TableLemmas
 pub mod MomentLemmas
 pub mod EndingLemmas

@@ -12,6 +12,7 @@ mod keys;
 pub mod laws;
 mod limits;
 mod parked_packets;
+mod places;
 mod slots;
 mod stream_packets;
 mod turns;

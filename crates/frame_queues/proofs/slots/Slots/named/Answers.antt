@@ -9,7 +9,8 @@ invariant_of-self c =
     omega (arith, c.settle.auto.places, c.deref_mut.ensures.len) in
     rw (take_at c.settle.new.places (drop (length c.settle.new.places) c.self.inside.places.items)
     c.self.inside.places.len len)
-    (table_named _ _ c.args.place c.args.peer c.args.now c.place_of-at.result c.in_ok-old.old
+    (table_named _ _ _ _ _ c.args.place c.args.peer c.args.now c.place_of-at.result c.in_ok-old.old
     c.opened_by-connected.result c.way-way.result c.deref.result.now c.deref_mut.result.now c.settle.new.places
     c.self.invariant c.place_of-at.ensures c.in_ok-old.was c.opened_by-connected.ensures c.way-way.ensures
-    c.settle.ensures.new c.deref.ensures.value c.deref_mut.ensures.value (cc))
+    c.settle.ensures.new c.deref.ensures.value c.deref_mut.ensures.value (cc) (cc) (cc)
+    (cc))

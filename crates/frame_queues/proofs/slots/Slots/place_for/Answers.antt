@@ -1,7 +1,7 @@
 use Rattle.std.proofs.Common.{◌≡◌, ◌<◌, ◌∙◌, ap, sym, arith, None}
 use Rattle.std.specs.Prelude.{count_by, position}
 use Rattle.frame_queues.specs.Slots.{is_free, is_newcomer}
-use Rattle.frame_queues.proofs.TableLemmas.{one_is_free}
+use Rattle.frame_queues.proofs.RoomLemmas.{one_is_free}
 use Rattle.frame_queues.proofs.slots.Slots.place_for.Goals as goal
 
 pub unreachable-requires : goal.unreachable-requires
