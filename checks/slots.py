@@ -259,5 +259,5 @@ def linked(stack, cluster, frames):
     return link
 
 
-CASES = [("slots", crowded, 98), ("slots", crowded, 128), ("slots power", power, 4), ("slots kept power", kept_power, 4),
-         ("slots credit", credit, 4)]
+CASES = [("slots", crowded, 98), ("slots", crowded, 128), ("slots power", power, 4),
+         ("slots kept power", kept_power, 4), ("slots credit", credit, 4)]
