@@ -1,15 +1,15 @@
 #!/usr/bin/env python3
 """Whether a cluster comes through by itself: heal [CHECKOUT] [--only CASE]
 
-Nodes of `role_daemon serve`, and of `tundelca`, are brought to where frames are lost, and then every correct node has to have all that the
-owners published, though nobody helps it: no client sends `again` for what is missing. CHECKOUT is where the program was
-built, or the program; this checkout if it is left out. --only runs the cases whose name begins so, as in --only flood,
-or one of them with so many nodes, as in --only "burst 7".
+Nodes of `role_daemon serve` are brought to where frames are lost, and then every correct node has to have all that the
+owners published, though nobody helps it: no client sends `again` for what is missing. The cases slots do so to
+`tundelca`, and are told in slots.py. CHECKOUT is where both were built, or the program that a case takes; this checkout
+if it is left out. --only runs the cases whose name begins so, as in --only flood, or one of them with so many nodes, as
+in --only "burst 7".
 
 In burst, blocks, flood and again frames arrive, more at once than a node takes. In the others forwarders between the
 nodes lose, double, delay or cut, or a node stands still. A case fails where a node lacks something SOON seconds after
 the last loss or the end of a flood; burst and blocks where STILL seconds pass in which nothing moves, or MOST in all.
-The cases slots are of `tundelca`, and told in slots.py.
 Each case prints a line: its name, how many nodes there are, what came, and the seconds that it took.
 
 Ends by itself, in less than four minutes if all goes well; all traffic is on 127.0.0.1, and only processes that were

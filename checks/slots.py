@@ -103,7 +103,7 @@ class Peer:
 
 
 def hold(is_over, port, frames, pause):
-    """Keeps a connection for each of these blocks of frames, which it repeats there. How often it dialled, as a text."""
+    """Keeps a connection for each of these blocks of frames, which it repeats there. How often it dialled."""
     links, dials, at = {}, 0, 0.0
     while not is_over():
         for number, block in enumerate(frames):
@@ -202,7 +202,7 @@ def cut_power(program, nodes, is_kept):
 
 
 def arrives(cluster, owner, place):
-    """The owner's next command is at all nodes, where owner 1 is one that was just started. How many seconds it took."""
+    """The owner's next command is at all nodes, owner 1 apart, which was just started. How many seconds it took."""
     begun = time.monotonic()
     with contextlib.ExitStack() as stack:
         nodes = {me: stack.enter_context(cluster.client(me)) for me in cluster.running}
@@ -230,7 +230,7 @@ def kept_power(program, nodes):
 
 
 def credit(program, nodes):
-    """A connection's place is another's before its packets count. Then it is that one which gives way, not the first."""
+    """A connection's place is another's before its packets count. It is that one which gives way, not the first."""
     with tempfile.TemporaryDirectory(prefix="tundelca-") as folder:
         slow = ["env", f"LD_PRELOAD={compiled('bench/slow_sync.c', folder)}", f"SLOW_SYNC={int(SYNC * 1_000_000)}"]
         with contextlib.ExitStack() as stack:
