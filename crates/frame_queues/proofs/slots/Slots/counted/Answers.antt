@@ -10,8 +10,10 @@ invariant_of-self c =
     omega (arith, c.settle.auto.places, c.deref_mut.ensures.len) in
     rw (take_at c.settle.new.places (drop (length c.settle.new.places) c.self.inside.places.items)
     c.self.inside.places.len len)
-    (table_counted _ c.self.inside.places.items c.self.inside.nodes c.self.inside.me c.self.inside.each
+    (table_counted _ c.args.self.now.places c.args.self.now.nodes c.args.self.now.me c.args.self.now.each
     c.args.place c.args.number c.args.now c.place_of-at.result c.held_by.result c.in_ok-old.old
     c.counted_now-connected.result c.way-way.result c.deref.result.now c.deref_mut.result.now c.settle.new.places
     c.self.invariant c.place_of-at.ensures c.held_by.ensures c.in_ok-old.was c.counted_now-connected.ensures c.way-way.ensures
-    c.settle.ensures.new c.deref.ensures.value c.deref_mut.ensures.value refl refl refl refl)
+    c.settle.ensures.new c.deref.ensures.value c.deref_mut.ensures.value 
+    (ap (λ (v : SlotsValue). v.places) (sym c.self.view_is)) (ap (λ (v : SlotsValue). v.nodes) (sym c.self.view_is))
+    (ap (λ (v : SlotsValue). v.me) (sym c.self.view_is)) (ap (λ (v : SlotsValue). v.each) (sym c.self.view_is)))
