@@ -1,5 +1,6 @@
 -- Why a connection in a slot ends, and that a newcomer gets in that brings something new.
-use Rattle.std.proofs.Common.{◌≡◌, ◌≢◌, ◌⊎◌, inl, inr, ⊎_elim, refl, sym, ap, subst, ◌∙◌, ℕ, zero, suc, ◌+◌, ◌<◌, ◌≤◌, arith}
+use Rattle.std.proofs.Common.{◌≡◌, ◌≢◌, ◌⊎◌, inl, inr, ⊎_elim, refl, sym, ap, subst, ◌∙◌, ℕ, zero, suc, ◌+◌, ◌<◌, ◌≤◌}
+use Rattle.std.proofs.Common.{arith}
 use Rattle.std.proofs.Common.{Bool, true, false, ◌&&◌, ◌||◌, List, [], ◌∷◌, length, get_or, map, Option, Some, None}
 use Rattle.std.specs.Prelude.{slice_set, position, count_by, if◌then◌else◌, nat_lt, ◌==◌, option_map}
 use Rattle.std.proofs.lemmas.Bool.{cases_lt, cases_eq, cases_Bool, and_parts, false≢true, true≢false, eqb-true, eq-eqb}
@@ -10,9 +11,12 @@ use Rattle.frame_queues.specs.declared.slots.Connected.{Connected}
 use Rattle.frame_queues.specs.declared.slots.Place.{Place}
 use Rattle.frame_queues.specs.declared.slots.Way.{Way}
 use Rattle.frame_queues.specs.declared.slots.Way.TheVariants.{Stays, Free, Ends}
-use Rattle.frame_queues.specs.Slots.{SlotsValue, no_place, place_at, held_at, has_slot_of, holds_slot, is_slot, gives_way}
-use Rattle.frame_queues.specs.Slots.{way, settled, has_silence, with_slot, opened_by, name_of, counted_now, has_none, waits}
-use Rattle.frame_queues.specs.Slots.{is_newcomer, is_over, after_time, freed, held_named, held_counted, held_by, without}
+use Rattle.frame_queues.specs.Slots.{SlotsValue, no_place, place_at, held_at, has_slot_of, holds_slot, is_slot}
+use Rattle.frame_queues.specs.Slots.{gives_way}
+use Rattle.frame_queues.specs.Slots.{way, settled, has_silence, with_slot, opened_by, name_of, counted_now, has_none}
+use Rattle.frame_queues.specs.Slots.{waits}
+use Rattle.frame_queues.specs.Slots.{is_newcomer, is_over, after_time, freed, held_named, held_counted, held_by}
+use Rattle.frame_queues.specs.Slots.{without}
 use Rattle.frame_queues.specs.Moments.{Act, after, after_all, May, MayAll, is_spoken, is_spoken_by, is_of, Stands}
 use Rattle.frame_queues.specs.Moments.{IsWaiting, EndsBy, EndsIn, SlotsEndRightly}
 use Rattle.frame_queues.specs.Moments.Act.{Comes, Opens, Counts, Ends as EndsAt, Passes}
@@ -55,7 +59,7 @@ stands_or_ends peer at number t other old c brings now Stays stands held like is
     inl (⊎_elim (λ (same : at ≡ other).
     let new : place_at (held_at t.places other (Some c)) at ≡ record (place_at t.places at) { held = Some c } =
     subst (λ k. place_at (held_at t.places other (Some c)) k ≡ record (place_at t.places k) { held = Some c })
-        (sym same) (held_at_same t.places other (Some c) (held_there t.places other old held)) in
+    (sym same) (held_at_same t.places other (Some c) (held_there t.places other old held)) in
     let here : (place_at t.places at).held ≡ Some old = ap (λ k. (place_at t.places k).held) same ∙ held in
     record {
       slot =
@@ -97,7 +101,8 @@ opens_ends : (peer at number : ℕ) (t : SlotsValue) (other by now : ℕ) (held 
 opens_ends peer at number t other by now None is stands = inl stands
 opens_ends peer at number t other by now (Some c) is stands =
     let new = opened_by by now c in
-    ⊎_elim (λ (still : Stands peer at number (record t { places = settled t.places other new (way t new.standing false now) })).
+    let left : SlotsValue = record t { places = settled t.places other new (way t new.standing false now) } in
+    ⊎_elim (λ (still : Stands peer at number left).
     inl still)
     (λ (gone : way t new.standing false now ≡ Ends at).
     let ends = ends_is_of t new.standing false now at gone in
@@ -118,7 +123,8 @@ counts_ends peer at number t other by now (Some c) is stands =
     ⊎_elim (λ (none : Some c ≡ None). absurd (cc))
     (λ (there : (Some c ≡ (place_at t.places other).held) × ((place_at t.places other).number ≡ by)).
     let new = counted_now now c in
-    ⊎_elim (λ (still : Stands peer at number (record t { places = settled t.places other new (way t c.standing true now) })).
+    let left : SlotsValue = record t { places = settled t.places other new (way t c.standing true now) } in
+    ⊎_elim (λ (still : Stands peer at number left).
     inl still)
     (λ (gone : way t c.standing true now ≡ Ends at).
     let ends = ends_is_of t c.standing true now at gone in
@@ -163,8 +169,8 @@ step_ends : (peer at number : ℕ) (t : SlotsValue) (act : Act) → May t act �
 step_ends peer at number t (Comes lot now other) may stands =
     let apart : at ≢ other =
     λ same.
-        true≢false (sym stands.slot ∙ ap (λ k. has_slot_of peer (place_at t.places k)) same
-        ∙ place_is_no_slot peer t lot other may) in
+    true≢false (sym stands.slot ∙ ap (λ k. has_slot_of peer (place_at t.places k)) same
+    ∙ place_is_no_slot peer t lot other may) in
     inl (stands_same peer at number t (after t (Comes lot now other))
     (get_or-set_other t.places other at _ no_place apart) stands)
 step_ends peer at number t (Opens other by now) may stands = opens_ends peer at number t other by now _ refl stands

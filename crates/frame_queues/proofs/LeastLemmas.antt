@@ -1,9 +1,12 @@
 -- Where a peer's slots give way there is one that does: a newcomer that brings something new gets in.
-use Rattle.std.proofs.Common.{◌≡◌, ◌≢◌, ◌⊎◌, inl, inr, ⊎_elim, refl, sym, ap, subst, ◌∙◌, ℕ, zero, suc, ◌+◌, ◌<◌, ◌≤◌, arith}
+use Rattle.std.proofs.Common.{◌≡◌, ◌≢◌, ◌⊎◌, inl, inr, ⊎_elim, refl, sym, ap, subst, ◌∙◌, ℕ, zero, suc, ◌+◌, ◌<◌, ◌≤◌}
+use Rattle.std.proofs.Common.{arith}
 use Rattle.std.proofs.Common.{Bool, true, false, ◌&&◌, ◌||◌, List, [], ◌∷◌, length, get_or, Option, Some, None}
 use Rattle.std.specs.Prelude.{slice_set, position, count_by, if◌then◌else◌, nat_lt, ◌==◌}
-use Rattle.std.proofs.lemmas.Bool.{cases_lt, cases_eq, cases_Bool, and_parts, and_right, and_from, or_cases, or_left, or_right}
-use Rattle.std.proofs.lemmas.Bool.{false≢true, ltb-true, ltb-false, lt-ltb, eqb-true, eq-eqb, le-ltb, cond-true, cond-false}
+use Rattle.std.proofs.lemmas.Bool.{cases_lt, cases_eq, cases_Bool, and_parts, and_right, and_from, or_cases, or_left}
+use Rattle.std.proofs.lemmas.Bool.{or_right}
+use Rattle.std.proofs.lemmas.Bool.{false≢true, ltb-true, ltb-false, lt-ltb, eqb-true, eq-eqb, le-ltb, cond-true}
+use Rattle.std.proofs.lemmas.Bool.{cond-false}
 use Rattle.std.proofs.lemmas.Bool.{false_from_ne_true}
 use Rattle.std.proofs.lemmas.List.{get_or-set_same, length-set, set_past}
 use Rattle.std.proofs.lemmas.List.Sums.{sum_by-cons, sum_by-le-sum_by}
@@ -13,8 +16,10 @@ use Rattle.frame_queues.specs.declared.slots.Connected.{Connected}
 use Rattle.frame_queues.specs.declared.slots.Place.{Place}
 use Rattle.frame_queues.specs.declared.slots.Way.{Way}
 use Rattle.frame_queues.specs.declared.slots.Way.TheVariants.{Stays, Free, Ends}
-use Rattle.frame_queues.specs.Slots.{SlotsValue, IsTable, no_place, place_at, held_at, has_slot_of, is_slot, gives_way, is_least}
-use Rattle.frame_queues.specs.Slots.{comes_before, is_before, slots_for, ends_or_stays, way, settled, with_slot, in_slot}
+use Rattle.frame_queues.specs.Slots.{SlotsValue, IsTable, no_place, place_at, held_at, has_slot_of, is_slot}
+use Rattle.frame_queues.specs.Slots.{gives_way, is_least}
+use Rattle.frame_queues.specs.Slots.{comes_before, is_before, slots_for, ends_or_stays, way, settled, with_slot}
+use Rattle.frame_queues.specs.Slots.{in_slot}
 use Rattle.frame_queues.specs.Slots.{has_none, waits, held_by, held_counted, counted_now}
 use Rattle.frame_queues.specs.Moments.{after, is_spoken, is_spoken_by, Stands, IsWaiting, WhoBringsNewGetsIn}
 use Rattle.frame_queues.specs.Moments.Act.{Counts}
@@ -122,7 +127,7 @@ fewer_before gives p q places less =
     sum_by-le-sum_by (λ other. one_if (gives other && is_before other q))
     (λ other. one_if (gives other && is_before other p)) places
     (λ other. one_before (gives other) (is_before other q) (is_before other p)
-        (λ is. before_before other.held q.held p.held is less))
+    (λ is. before_before other.held q.held p.held is less))
 
 least_of : (gives : Place → Bool) (places : List Place) → 0 < count_by gives places →
     (i : ℕ) × (i < length places) × (gives (place_at places i) ≡ true)
@@ -133,9 +138,12 @@ least_of gives (x ∷ places) some =
     let found = least_of gives places rest in
     let m = place_at places found.0 in
     ⊎_elim (λ (first : (gives x && is_before x m) ≡ true).
-    let parts = and_parts (gives x) (is_before x m) first in
-    (zero, omega arith, parts.0,
-      least_first gives x places (omega (arith, found.3, fewer_before gives m x places parts.1))))
+    let parts = and_parts (gives x) (is_before x m) first in (
+      zero,
+      omega arith,
+      parts.0,
+      least_first gives x places (omega (arith, found.3, fewer_before gives m x places parts.1)),
+    ))
     (λ (later : (gives x && is_before x m) ≡ false).
     let none : one_if (gives x && is_before x m) ≡ 0 = ap one_if later in
     (suc found.0, omega (arith, found.1), found.2, omega (arith, none, found.3, before_more gives m x places)))
@@ -202,8 +210,8 @@ in_slot_now peer at number t c Free there same named goes = record {
 in_slot_now peer at number t c (Ends other) there same named goes = record {
   slot =
       ap (has_slot_of peer)
-          (held_at_same (held_at t.places other None) at (Some (with_slot c))
-          (rw length-set there))
+      (held_at_same (held_at t.places other None) at (Some (with_slot c))
+      (rw length-set there))
       ∙ ap (λ s. is_slot peer (in_slot s)) named ∙ eq-eqb peer peer refl;
   numbered =
       number_stays (held_at t.places other None) at at (Some (with_slot c))
@@ -223,7 +231,7 @@ gets_in peer at number now t None is some waiting held =
     absurd (false≢true (ap waits held ∙ waiting.newcomer))
 gets_in peer at number now t (Some c) is some waiting held =
     let named = waiting_is_named peer c.standing (ap waits held ∙ waiting.newcomer)
-        (ap (is_spoken_by peer) held ∙ waiting.spoken) in
+    (ap (is_spoken_by peer) held ∙ waiting.spoken) in
     let few = nat_lt (count_by (has_slot_of peer) t.places) (slots_for t peer) in
     in_slot_now peer at number t (counted_now now c) (way t c.standing true now)
     (held_there t.places at c (sym held)) waiting.numbered named

@@ -1,7 +1,8 @@
 -- What happens to connections of frames changes no slot of a peer that it isn't of.
 use Rattle.std.proofs.Common.{◌≡◌, ◌≢◌, ◌⊎◌, inl, inr, ⊎_elim, refl, sym, ap, subst, ◌∙◌, ℕ, ◌+◌, ◌<◌, ◌≤◌, arith}
 use Rattle.std.proofs.Common.{Bool, true, false, ◌&&◌, List, [], ◌∷◌, length, get_or, map, Option, Some, None}
-use Rattle.std.specs.Prelude.{⊤, slice_set, position, count_by, if◌then◌else◌, nat_lt, ◌==◌, MatchBool, is_none, option_map}
+use Rattle.std.specs.Prelude.{⊤, slice_set, position, count_by, if◌then◌else◌, nat_lt, ◌==◌, MatchBool, is_none}
+use Rattle.std.specs.Prelude.{option_map}
 use Rattle.std.proofs.lemmas.Bool.{cases_lt, cases_eq, cases_Bool, and_parts, and_left, false≢true, true≢false}
 use Rattle.std.proofs.lemmas.Bool.{eqb-true, eq-eqb}
 use Rattle.std.proofs.lemmas.List.{set_past, get_or-set_same, get_or-set_other}
@@ -13,9 +14,12 @@ use Rattle.frame_queues.specs.declared.slots.Connected.{Connected}
 use Rattle.frame_queues.specs.declared.slots.Place.{Place}
 use Rattle.frame_queues.specs.declared.slots.Way.{Way}
 use Rattle.frame_queues.specs.declared.slots.Way.TheVariants.{Stays, Free, Ends}
-use Rattle.frame_queues.specs.Slots.{SlotsValue, no_place, place_at, held_at, has_slot_of, holds_slot, is_slot, gives_way}
-use Rattle.frame_queues.specs.Slots.{way, settled, has_silence, with_slot, in_slot, opened_by, name_of, counted_now, moved}
-use Rattle.frame_queues.specs.Slots.{IsPlaceFor, IsDrawn, is_free, is_newcomer, has_none, waits, is_over, after_time, freed}
+use Rattle.frame_queues.specs.Slots.{SlotsValue, no_place, place_at, held_at, has_slot_of, holds_slot, is_slot}
+use Rattle.frame_queues.specs.Slots.{gives_way}
+use Rattle.frame_queues.specs.Slots.{way, settled, has_silence, with_slot, in_slot, opened_by, name_of, counted_now}
+use Rattle.frame_queues.specs.Slots.{moved}
+use Rattle.frame_queues.specs.Slots.{IsPlaceFor, IsDrawn, is_free, is_newcomer, has_none, waits, is_over, after_time}
+use Rattle.frame_queues.specs.Slots.{freed}
 use Rattle.frame_queues.specs.Slots.{came_after, named, held_named, counted, held_counted, held_by, without, passed}
 use Rattle.frame_queues.specs.Slots.{with_newcomer}
 use Rattle.frame_queues.specs.Moments.{Act, after, after_all, May, MayAll, is_spoken, is_spoken_by, is_at, is_of}
@@ -98,9 +102,10 @@ settled_by_another peer t at c brings now (Ends ended) is other before k =
     let apart : (way_is.0 == peer) ≡ false = ap (is_spoken peer) (sym way_is.1) ∙ other in
     let without : (n : ℕ) → slot_of peer (held_at t.places ended None) n ≡ slot_of peer t.places n =
     λ n. changed_without peer t.places ended None n
-        (slot_held_of_one peer way_is.0 (place_at t.places ended).held gives apart) refl in
+    (slot_held_of_one peer way_is.0 (place_at t.places ended).held gives apart) refl in
     changed_without peer (held_at t.places ended None) at (Some (with_slot c)) k
-    (slot_gone peer (place_at (held_at t.places ended None) at) (without at ∙ no_slot peer (place_at t.places at) before))
+    (slot_gone peer (place_at (held_at t.places ended None) at)
+    (without at ∙ no_slot peer (place_at t.places at) before))
     (taken_is_spoken peer c.standing other)
     ∙ without k
 

@@ -1,14 +1,19 @@
 -- Places of connections stay a table: no peer has more slots than it may have, nor are there more newcomers.
-use Rattle.std.proofs.Common.{◌≡◌, ◌≢◌, ◌⊎◌, inl, inr, ⊎_elim, refl, sym, ap, subst, ◌∙◌, ℕ, zero, suc, ◌+◌, ◌-◌, ◌*◌, ◌<◌, ◌≤◌, arith}
-use Rattle.std.proofs.Common.{Bool, true, false, ◌&&◌, not, List, [], ◌∷◌, length, get_or, map, Option, Some, None, cond}
+use Rattle.std.proofs.Common.{◌≡◌, ◌≢◌, ◌⊎◌, inl, inr, ⊎_elim, refl, sym, ap, subst, ◌∙◌, ℕ, zero, suc, ◌+◌, ◌-◌, ◌*◌}
+use Rattle.std.proofs.Common.{◌<◌, ◌≤◌, arith}
+use Rattle.std.proofs.Common.{Bool, true, false, ◌&&◌, not, List, [], ◌∷◌, length, get_or, map, Option, Some, None}
+use Rattle.std.proofs.Common.{cond}
 use Rattle.std.specs.Prelude.{slice_set, position, count_by, if◌then◌else◌, nat_lt, ◌==◌, MatchBool, is_none, replicate}
 use Rattle.std.specs.List.{position_or_len}
-use Rattle.std.proofs.lemmas.Bool.{cases_lt, cases_eq, cases_Bool, and_parts, and_left, and_right, and_from, not_from_true}
-use Rattle.std.proofs.lemmas.Bool.{ltb-true, ltb-false, lt-ltb, le-ltb, eq-eqb, eqb-true, eqb-false, cond_both, cond-true, cond-false, not-true, false≢true}
+use Rattle.std.proofs.lemmas.Bool.{cases_lt, cases_eq, cases_Bool, and_parts, and_left, and_right, and_from}
+use Rattle.std.proofs.lemmas.Bool.{not_from_true}
+use Rattle.std.proofs.lemmas.Bool.{ltb-true, ltb-false, lt-ltb, le-ltb, eq-eqb, eqb-true, eqb-false, cond_both}
+use Rattle.std.proofs.lemmas.Bool.{cond-true, cond-false, not-true, false≢true}
 use Rattle.std.proofs.lemmas.Bool.Decides.{nat_tests}
 use Rattle.std.proofs.lemmas.List.{length-set, get_or-set_same, get_or-set_other, get_or_past}
 use Rattle.std.proofs.lemmas.List.{length-replicate, length-map}
-use Rattle.std.proofs.lemmas.List.Sums.{sum_by-cons, sum_by-set, get_or-le-sum_by, fails_before_first, count_by-le-length}
+use Rattle.std.proofs.lemmas.List.Sums.{sum_by-cons, sum_by-set, get_or-le-sum_by, fails_before_first}
+use Rattle.std.proofs.lemmas.List.Sums.{count_by-le-length}
 use Rattle.std.proofs.lemmas.List.Quantifiers.{position-Some}
 use Rattle.frame_queues.specs.declared.slots.Standing.{Standing}
 use Rattle.frame_queues.specs.declared.slots.Standing.TheVariants.{Unnamed, Named, Slot}
@@ -17,9 +22,11 @@ use Rattle.frame_queues.specs.declared.slots.Place.{Place}
 use Rattle.frame_queues.specs.declared.slots.Way.{Way}
 use Rattle.frame_queues.specs.declared.slots.Way.TheVariants.{Stays, Free, Ends}
 use Rattle.frame_queues.specs.Slots.{SlotsValue, IsTable, IsDrawn, IsPlaceFor, no_place, place_at, held_at, has_slot_of}
-use Rattle.frame_queues.specs.Slots.{holds_slot, is_slot, gives_way, is_free, is_newcomer, has_none, waits, slots_for, way}
+use Rattle.frame_queues.specs.Slots.{holds_slot, is_slot, gives_way, is_free, is_newcomer, has_none, waits, slots_for}
+use Rattle.frame_queues.specs.Slots.{way}
 use Rattle.frame_queues.specs.Limits.{others, places_for}
-use Rattle.frame_queues.specs.Slots.{settled, with_slot, in_slot, opened_by, name_of, counted_now, is_over, after_time, freed}
+use Rattle.frame_queues.specs.Slots.{settled, with_slot, in_slot, opened_by, name_of, counted_now, is_over}
+use Rattle.frame_queues.specs.Slots.{after_time, freed}
 use Rattle.frame_queues.specs.Slots.{came_after, with_newcomer, none_yet, passed, is_least, ends_or_stays, held_by}
 use Rattle.frame_queues.proofs.SlotLemmas.{held_there, held_at_same, held_at_other, ends_is_of}
 use Rattle.frame_queues.proofs.RoomLemmas.{one_if, count_set, count_map}
@@ -32,9 +39,9 @@ with_place t at p = record t { places = slice_set t.places at p }
 -- fewer newcomers, or room for one
 pub table_with : (t : SlotsValue) (at : ℕ) (p : Place) → IsTable t → at < length t.places →
     ((peer : ℕ) → count_by (has_slot_of peer) t.places + one_if (has_slot_of peer p)
-      ≤ slots_for t peer + one_if (has_slot_of peer (place_at t.places at))) →
+    ≤ slots_for t peer + one_if (has_slot_of peer (place_at t.places at))) →
     count_by is_newcomer t.places + one_if (is_newcomer p)
-      ≤ t.newcomers + one_if (is_newcomer (place_at t.places at)) →
+    ≤ t.newcomers + one_if (is_newcomer (place_at t.places at)) →
     IsTable (with_place t at p)
 table_with t at p is there each newcomers = record {
   size = length-set t.places at p ∙ is.size;
@@ -80,13 +87,17 @@ free_chosen true found is = refl
 free_chosen false None is = absurd (cc)
 free_chosen false (Some at) is = absurd (cc)
 
-pub free_is_named : (t : SlotsValue) (standing : Standing) (brings : Bool) (now : ℕ) → way t standing brings now ≡ Free →
+pub free_is_named : (t : SlotsValue) (standing : Standing) (brings : Bool) (now : ℕ) →
+    way t standing brings now ≡ Free →
     (peer : ℕ) × (standing ≡ Named peer) × (count_by (has_slot_of peer) t.places < slots_for t peer)
 free_is_named t Unnamed brings now is = absurd (cc)
 free_is_named t (Slot peer) brings now is = absurd (cc)
-free_is_named t (Named peer) brings now is =
-    (peer, refl, ltb-true _ _ (free_chosen (nat_lt (count_by (has_slot_of peer) t.places) (slots_for t peer))
-    (position (is_least t.places peer brings now) t.places) is))
+free_is_named t (Named peer) brings now is = (
+  peer,
+  refl,
+  ltb-true _ _ (free_chosen (nat_lt (count_by (has_slot_of peer) t.places) (slots_for t peer))
+      (position (is_least t.places peer brings now) t.places) is),
+)
 
 one_more : (t : SlotsValue) (other peer : ℕ) → IsTable t → count_by (has_slot_of peer) t.places < slots_for t peer →
     count_by (has_slot_of other) t.places + one_if (peer == other) ≤ slots_for t other
@@ -218,14 +229,15 @@ table_settled t at old c brings now (Ends other) is held like w =
     table_with_less t other gone is there (λ peer. omega arith) (omega arith) in
     let apart : at ≢ other =
     λ same.
-        slot_waits ends.0 old.standing (sym like.none ∙ ap has_none ends.1)
-        (ap (holds_slot ends.0) (sym held) ∙ ap (λ k. has_slot_of ends.0 (place_at t.places k)) same ∙ gives) in
+    slot_waits ends.0 old.standing (sym like.none ∙ ap has_none ends.1)
+    (ap (holds_slot ends.0) (sym held) ∙ ap (λ k. has_slot_of ends.0 (place_at t.places k)) same ∙ gives) in
     let stays : place_at (slice_set t.places other gone) at ≡ place_at t.places at =
     get_or-set_other t.places other at gone no_place apart in
     let one : one_if (has_slot_of ends.0 (place_at t.places other)) ≡ 1 = ap one_if gives in
     let fewer : count_by (has_slot_of ends.0) (slice_set t.places other gone) < slots_for t ends.0 =
     omega (arith, one, is.each ends.0, count_set (has_slot_of ends.0) t.places other gone no_place there) in
-    table_takes (with_place t other gone) at ends.0 old c less (ap (λ (p : Place). p.held) stays ∙ held) like ends.1 fewer
+    table_takes (with_place t other gone) at ends.0 old c less (ap (λ (p : Place). p.held) stays ∙ held) like ends.1
+    fewer
 
 -- by a frame of a peer, or a packet that counts
 pub opened_is_like : (peer : ℕ) (standing : Standing) → IsLike standing (name_of peer standing)
@@ -278,9 +290,11 @@ seen_same t places nodes me each a b c d =
     ∙ ap (λ n. seen t t.places t.nodes t.me n) d
 
 -- as the calls leave it, which read these lists and numbers
-pub table_named : (t : SlotsValue) (us : List Place) (nodes me each at peer now : ℕ) (p : Place) (old c : Connected) (w : Way)
+pub table_named : (t : SlotsValue) (us : List Place) (nodes me each at peer now : ℕ) (p : Place) (old c : Connected)
+    (w : Way)
     (read wrote places : List Place) → IsTable t → p ≡ place_at read at → p.held ≡ Some old →
-    c ≡ opened_by peer now old → w ≡ way (seen t us nodes me each) c.standing false now → places ≡ settled wrote at c w →
+    c ≡ opened_by peer now old → w ≡ way (seen t us nodes me each) c.standing false now →
+    places ≡ settled wrote at c w →
     read ≡ t.places → wrote ≡ t.places → us ≡ t.places → nodes ≡ t.nodes → me ≡ t.me → each ≡ t.each →
     IsTable (record t { places = places })
 table_named t us nodes me each at peer now p old c w read wrote places is looked held opened goes settle same_read
@@ -292,9 +306,11 @@ table_named t us nodes me each at peer now p old c w read wrote places is looked
     (subst (λ (k : Connected). IsLike old.standing k.standing) (sym opened) (opened_is_like peer old.standing))
     (goes ∙ ap (λ v. way v c.standing false now) (seen_same t us nodes me each a b d e)))
 
-pub table_counted : (t : SlotsValue) (us : List Place) (nodes me each at number now : ℕ) (p : Place) (found : Option Connected) (old c : Connected)
+pub table_counted : (t : SlotsValue) (us : List Place) (nodes me each at number now : ℕ) (p : Place)
+    (found : Option Connected) (old c : Connected)
     (w : Way) (read wrote places : List Place) → IsTable t → p ≡ place_at read at → found ≡ held_by p number →
-    found ≡ Some old → c ≡ counted_now now old → w ≡ way (seen t us nodes me each) c.standing true now → places ≡ settled wrote at c w →
+    found ≡ Some old → c ≡ counted_now now old → w ≡ way (seen t us nodes me each) c.standing true now →
+    places ≡ settled wrote at c w →
     read ≡ t.places → wrote ≡ t.places → us ≡ t.places → nodes ≡ t.nodes → me ≡ t.me → each ≡ t.each →
     IsTable (record t { places = places })
 table_counted t us nodes me each at number now p found old c w read wrote places is looked finds held counts goes

@@ -1,5 +1,5 @@
 -- How many connections of peers there may be.
-use Rattle.std.specs.Prelude.{ℕ, ◌+◌, ◌-◌, ◌*◌, nat_lt, nat_le, if◌then◌else◌}
+use Rattle.std.specs.Prelude.{ℕ, ◌+◌, ◌-◌, ◌*◌, max, min, nat_lt, nat_le, if◌then◌else◌}
 
 -- the most slots of each peer, and how many newcomers there are beside these; the most newcomers anywhere
 abbrev pub most_each : ℕ
@@ -14,6 +14,10 @@ most_newcomers = 128
 -- of so many connections, in a cluster of so many nodes: as many slots of each peer, where that leaves these newcomers
 abbrev pub each_within : ℕ → ℕ → ℕ
 each_within nodes most = if nat_le (most_each * (nodes - 1) + newcomers) most then most_each else 1
+
+-- and what is left for newcomers, one at least
+abbrev pub newcomers_within : ℕ → ℕ → ℕ
+newcomers_within nodes most = max 1 (min (most - each_within nodes most * (nodes - 1)) most_newcomers)
 
 -- how many other nodes there are, at this one of so many
 abbrev pub others : ℕ → ℕ → ℕ

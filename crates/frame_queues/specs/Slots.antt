@@ -11,8 +11,8 @@ use Rattle.frame_queues.specs.declared.slots.Place.{Place}
 use Rattle.frame_queues.specs.declared.slots.Way.{Way}
 use Rattle.frame_queues.specs.declared.slots.Way.TheVariants.{Stays, Free, Ends}
 
--- milliseconds: until a frame has to open, for which a newcomer with a name stays, and after which a connection on which
--- no frame opens is silent
+-- milliseconds: until a frame has to open, for which a newcomer with a name stays, and after which a connection is
+-- silent where no frame opens
 abbrev pub first_frame : ℕ
 first_frame = 2000
 

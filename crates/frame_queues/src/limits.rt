@@ -1,7 +1,11 @@
 //! How many connections of peers there may be.
 
-ghost use Rattle.std.specs.Prelude.{◌≡◌, ◌-◌, ◌*◌, ◌<◌, ◌≤◌, max, min};
-ghost use Rattle.frame_queues.specs.Limits.{each_within, most_each, most_newcomers, newcomers, others, places_for};
+ghost use Rattle.std.specs.Prelude.{◌≡◌, ◌<◌, ◌≤◌};
+ghost use Rattle.frame_queues.specs.Limits.{each_within, newcomers_within, most_each, most_newcomers, newcomers};
+ghost use Rattle.frame_queues.specs.Limits.{others, places_for};
+
+/// The most slots of each peer.
+const MOST_EACH: u32 = 2;
 
 /// The newcomers for which there is room beside two slots of each peer.
 const NEWCOMERS: u8 = 32;
@@ -26,7 +30,7 @@ impl Limits {
         ensures newcomers { result.newcomers ≡ newcomers }
     {
         Limits {
-            each: 2,
+            each: MOST_EACH as u8,
             newcomers: NEWCOMERS,
         }
     }
@@ -36,11 +40,12 @@ impl Limits {
     /// newcomers, 128 at most.
     pub fn within(nodes: u8, most: u8) -> Limits
         ensures each { result.each ≡ each_within nodes most }
-        ensures newcomers { result.newcomers ≡ max 1 (min (most - each_within nodes most * (nodes - 1)) most_newcomers) }
+        ensures newcomers { result.newcomers ≡ newcomers_within nodes most }
     {
         let peers = u32::from(nodes).saturating_sub(1);
         let most = u32::from(most);
-        let each = if 2 * peers + u32::from(NEWCOMERS) <= most { 2 } else { 1 };
+        let has_room = MOST_EACH * peers + u32::from(NEWCOMERS) <= most;
+        let each = if has_room { MOST_EACH } else { 1 };
         let left = most.saturating_sub(each * peers);
         Limits {
             each: each as u8,

@@ -109,7 +109,10 @@ pub(crate) fn count_newcomers(places: &[Place]) -> usize
 pub(crate) fn count_of(places: &[Place], peer: u8) -> usize
     ensures { result ≡ count_by (due.has_slot_of peer) places.now }
 {
-    places.iter().filter(|place| has_slot_of(place, peer)).count()
+    places
+        .iter()
+        .filter(|place| has_slot_of(place, peer))
+        .count()
 }
 
 pub(crate) fn first_least(places: &[Place], peer: u8, brings: bool, now: u64) -> Option<usize>

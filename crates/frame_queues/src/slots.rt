@@ -6,8 +6,8 @@ ghost use Rattle.frame_queues.specs.Slots.{IsPlaceFor, settled, slots_for};
 
 use crate::limits::Limits;
 use crate::places::{
-    count_newcomers, count_of, count_over, drawn, end_over, first_free, first_least, hold, place_of,
-    soonest,
+    count_newcomers, count_of, count_over, drawn, end_over, first_free, first_least, hold,
+    place_of, soonest,
 };
 use std::alloc::{AllocError, Global};
 use std::marker::Model;

@@ -12,12 +12,11 @@ use mio::{Interest, Registry, Token};
 use served_node::{Heard, HeldNode, millis};
 use server_locks::{JobQueue, Opened, open_frames};
 use std::alloc::AllocError;
-use std::io;
-use std::mem;
 use std::net::TcpStream;
 use std::os::fd::AsRawFd;
 use std::sync::Wait;
 use std::time::Clock;
+use std::{io, mem};
 
 /// After so many frames the jobs are done before more are put.
 const MOST_PUT: usize = 256;
@@ -212,7 +211,11 @@ impl<'a, 'b, N: HeldNode, K: FrameKeys, R: Wait + Clock> Peers<'a, 'b, N, K, R> 
         self.close(place);
         self.server.begin_credit(place, number);
         let fd = stream.as_raw_fd();
-        if let Err(error) = registry.register(&mut SourceFd(&fd), Token(place), Interest::READABLE) {
+        if let Err(error) = registry.register(
+            &mut SourceFd(&fd),
+            Token(place),
+            Interest::READABLE,
+        ) {
             self.slots.ends(place, number);
             return Err(error);
         }
@@ -321,8 +324,7 @@ impl<'a, 'b, N: HeldNode, K: FrameKeys, R: Wait + Clock> Peers<'a, 'b, N, K, R> 
             None if unopened > 0 => connection.came = Came::End,
             _ => {}
         }
-        self.queue
-            .put_packets(server.rt, &|| server.wake_for_room(), caller, &self.packets)
+        self.queue.put_packets(server.rt, &|| server.wake_for_room(), caller, &self.packets)
     }
 
     /// Whether a connection may have more. It is closed at its end.

@@ -1,6 +1,7 @@
 -- What is heard of the peers of a node, by their indices.
 use Rattle.std.specs.Prelude.{◌≡◌, ℕ, ◌<◌, ◌≤◌, ◌-◌, ◌==◌, nat_le, nat_lt, Bool, false, ◌&&◌}
-use Rattle.std.specs.Prelude.{List, length, slice_index_or, slice_set, position, Option, Some, None, is_some, option_map}
+use Rattle.std.specs.Prelude.{List, length, slice_index_or, slice_set, position, Option, Some, None, is_some}
+use Rattle.std.specs.Prelude.{option_map}
 use Rattle.frame_queues.specs.declared.keys.PeerName.{PeerName}
 use Rattle.frame_queues.specs.declared.slots.Connected.{Connected}
 use Rattle.frame_queues.specs.declared.slots.Place.{Place}

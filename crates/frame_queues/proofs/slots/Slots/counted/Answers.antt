@@ -13,7 +13,8 @@ invariant_of-self c =
     (table_counted _ c.args.self.now.places c.args.self.now.nodes c.args.self.now.me c.args.self.now.each
     c.args.place c.args.number c.args.now c.place_of-at.result c.held_by.result c.in_ok-old.old
     c.counted_now-connected.result c.way-way.result c.deref.result.now c.deref_mut.result.now c.settle.new.places
-    c.self.invariant c.place_of-at.ensures c.held_by.ensures c.in_ok-old.was c.counted_now-connected.ensures c.way-way.ensures
-    c.settle.ensures.new c.deref.ensures.value c.deref_mut.ensures.value 
+    c.self.invariant c.place_of-at.ensures c.held_by.ensures c.in_ok-old.was c.counted_now-connected.ensures
+    c.way-way.ensures
+    c.settle.ensures.new c.deref.ensures.value c.deref_mut.ensures.value
     (ap (λ (v : SlotsValue). v.places) (sym c.self.view_is)) (ap (λ (v : SlotsValue). v.nodes) (sym c.self.view_is))
     (ap (λ (v : SlotsValue). v.me) (sym c.self.view_is)) (ap (λ (v : SlotsValue). v.each) (sym c.self.view_is)))

@@ -14,6 +14,6 @@ invariant_of-self c =
     c.args.place c.args.peer c.args.now c.place_of-at.result c.in_ok-old.old
     c.opened_by-connected.result c.way-way.result c.deref.result.now c.deref_mut.result.now c.settle.new.places
     c.self.invariant c.place_of-at.ensures c.in_ok-old.was c.opened_by-connected.ensures c.way-way.ensures
-    c.settle.ensures.new c.deref.ensures.value c.deref_mut.ensures.value 
+    c.settle.ensures.new c.deref.ensures.value c.deref_mut.ensures.value
     (ap (λ (v : SlotsValue). v.places) (sym c.self.view_is)) (ap (λ (v : SlotsValue). v.nodes) (sym c.self.view_is))
     (ap (λ (v : SlotsValue). v.me) (sym c.self.view_is)) (ap (λ (v : SlotsValue). v.each) (sym c.self.view_is)))
