@@ -34,6 +34,7 @@ class Treatment:
     delay: float = 0.0  # seconds at most, for each copy another time, so that they change their order
     cut: float = 0.0  # seconds between two ends of all connections; 0 for never
     is_shut: bool = False  # all connections are ended, and none is taken
+    is_swallowed: bool = False  # the end of a connection isn't told: it stays open at the peer
 
     def is_plain(self):
         return self.lost == 0 and self.copies == 1 and self.delay == 0
@@ -127,7 +128,7 @@ class Forwarding:
         except OSError:
             block = b""
         if not block:
-            return self.end(link)
+            return self.swallow(link) if link.way.treatment.is_swallowed else self.end(link)
         block = link.rest + block
         whole = len(block) - len(block) % FRAME
         link.rest = block[whole:]
@@ -170,7 +171,8 @@ class Forwarding:
         except OSError:
             return self.end(link)
         self.poll.modify(link.goes, select.EPOLLIN | (select.EPOLLOUT if link.pending else 0))
-        self.poll.modify(link.came, select.EPOLLIN if len(link.pending) < MOST_PENDING else 0)
+        if link.came.fileno() >= 0:
+            self.poll.modify(link.came, select.EPOLLIN if len(link.pending) < MOST_PENDING else 0)
 
     def written(self, link, events):
         """The peer takes more, or has ended the connection: it never says anything."""
@@ -185,6 +187,11 @@ class Forwarding:
                 way.next_cut = now + way.treatment.cut
                 self.end_all(way)
 
+    def swallow(self, link):
+        """Ends the connection of a node alone, as a power cut does: its peer hears nothing of that."""
+        self.handlers.pop(link.came.fileno(), None)
+        end_now(link.came)
+
     def end_all(self, way):
         for link in list(way.links):
             self.end(link)
@@ -193,8 +200,9 @@ class Forwarding:
         """Ends both connections at once: what was on its way is lost."""
         link.way.links.discard(link)
         for one in (link.came, link.goes):
-            self.handlers.pop(one.fileno(), None)
-            end_now(one)
+            if one.fileno() >= 0:
+                self.handlers.pop(one.fileno(), None)
+                end_now(one)
 
 
 def end_now(one):

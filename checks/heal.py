@@ -2,16 +2,17 @@
 """Whether a cluster comes through by itself: heal [CHECKOUT] [--only CASE]
 
 Nodes of `role_daemon serve` are brought to where frames are lost, and then every correct node has to have all that the
-owners published, though nobody helps it: no client sends `again` for what is missing. CHECKOUT is where the program was
-built, or the program; this checkout if it is left out. --only runs the cases whose name begins so, as in --only flood,
-or one of them with so many nodes, as in --only "burst 7".
+owners published, though nobody helps it: no client sends `again` for what is missing. The cases slots do so to
+`tundelca`, and are told in slots.py. CHECKOUT is where both were built, or the program that a case takes; this checkout
+if it is left out. --only runs the cases whose name begins so, as in --only flood, or one of them with so many nodes, as
+in --only "burst 7".
 
 In burst, blocks, flood and again frames arrive, more at once than a node takes. In the others forwarders between the
 nodes lose, double, delay or cut, or a node stands still. A case fails where a node lacks something SOON seconds after
 the last loss or the end of a flood; burst and blocks where STILL seconds pass in which nothing moves, or MOST in all.
 Each case prints a line: its name, how many nodes there are, what came, and the seconds that it took.
 
-Ends by itself, in less than three minutes if all goes well; all traffic is on 127.0.0.1, and only processes that were
+Ends by itself, in less than four minutes if all goes well; all traffic is on 127.0.0.1, and only processes that were
 started here are ended.
 """
 import argparse
@@ -25,6 +26,7 @@ sys.dont_write_bytecode = True
 from cluster import ECHO, READY, SEND, ROLE, TOP, Cluster, assign, program_of, tundelca  # noqa: E402
 from loads import BURST, MOST, SIGNALS, Failed, Load, assigns  # noqa: E402
 from loads import ask_again, burst_of, contradict, flood_of, listen_only  # noqa: E402
+import slots  # noqa: E402
 
 STILL = 10  # seconds
 SOON = 10  # seconds after the last loss, or the end of a flood
@@ -312,10 +314,11 @@ def main():
     given = words.parse_args()
     for number in SIGNALS:
         signal.signal(number, interrupted)
-    program, failed, ran = program_of(given.checkout), 0, 0
-    for name, case, nodes in CASES:
+    failed, ran = 0, 0
+    for name, case, nodes in CASES + slots.CASES:
         if not f"{name} {nodes}".startswith(given.only):
             continue
+        program = program_of(given.checkout, "tundelca" if (name, case, nodes) in slots.CASES else "role_daemon")
         begin, ran, mark = time.monotonic(), ran + 1, ""
         try:
             came = case(program, nodes)

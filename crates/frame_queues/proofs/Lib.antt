@@ -3,3 +3,9 @@ pub mod Counts
 pub mod FrameBytes
 pub mod UnsentLemmas
 pub mod BlockLemmas
+pub mod SlotLemmas
+pub mod RoomLemmas
+pub mod TableLemmas
+pub mod MomentLemmas
+pub mod EndingLemmas
+pub mod LeastLemmas

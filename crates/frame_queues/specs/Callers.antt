@@ -9,7 +9,7 @@ abbrev pub most_clients : ℕ
 most_clients = 16
 
 abbrev pub most_peers : ℕ
-most_peers = 128
+most_peers = 382
 
 abbrev pub most_lines : ℕ
 most_lines = 32
@@ -21,16 +21,24 @@ client_numbers = 33
 abbrev pub first_peer : ℕ
 first_peer = 528
 
+-- how many connections of one place have numbers of their own
+abbrev pub connections : ℕ
+connections = 65536
+
+abbrev pub peer_of : ℕ → Caller
+peer_of number =
+    if nat_lt (number / connections) most_peers then Peer (number / connections) (number % connections)
+    else Nobody
+
 abbrev pub caller_of : ℕ → Caller
 caller_of number =
     if nat_lt number first_peer then Client (number / client_numbers) (number % client_numbers)
-    else if nat_lt (number - first_peer) most_peers then Peer (number - first_peer)
-    else Nobody
+    else peer_of (number - first_peer)
 
 -- a caller for whom there is a place
 abbrev pub IsCaller : Caller → Type 0
 IsCaller (Client slot line) = (slot < most_clients) × (line ≤ most_lines)
-IsCaller (Peer slot) = slot < most_peers
+IsCaller (Peer place connection) = (place < most_peers) × (connection < connections)
 IsCaller Nobody = ⊤
 
 -- the number of a caller's jobs, up to the greatest
@@ -39,5 +47,6 @@ most_number = 4294967295
 
 abbrev pub number_of : Caller → ℕ
 number_of (Client slot line) = min most_number (min most_number (slot * client_numbers) + line)
-number_of (Peer slot) = min most_number (slot + first_peer)
+number_of (Peer place connection) =
+    min most_number (min most_number (min most_number (place * connections) + connection) + first_peer)
 number_of Nobody = most_number

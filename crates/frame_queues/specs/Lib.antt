@@ -6,5 +6,7 @@ pub mod Unsent
 pub mod Blocks
 pub mod inside
 pub mod Slots
+pub mod Limits
+pub mod Moments
 pub mod Sealed
 pub mod Callers

@@ -6,6 +6,7 @@ ghost use Rattle.link_frames.specs.frames.Opening.{open_due};
 ghost use Rattle.link_frames.specs.frames.Packets.{PacketValue};
 ghost use Rattle.link_frames.specs.declared.frames.packet.Message.{Message};
 ghost use Rattle.frame_queues.specs.Sealed.{frame_due};
+ghost use Rattle.frame_queues.specs.declared.keys.PeerName.{PeerName};
 
 use link_frames::{Frame, Message, Packet, PairKeys, open_frame, seal};
 use quorum_sizes::{NodeName, Sizes};
@@ -19,11 +20,14 @@ pub struct PeerName {
 
 /// The keys and sizes by which a node's frames open and are sealed.
 ///
-/// Contracts see which packet a frame opens as (`opened`), and which frame a message to a node gets (`sealed`).
+/// Contracts see which packet a frame opens as (`opened`), which frame a message to a node gets (`sealed`), and whose
+/// packet one is (`peer_of`).
 pub trait FrameKeys {
     ghost opened: { Self → List ℕ → Option PacketValue };
 
     ghost sealed: { Self → ℕ → Message → Option (List ℕ) };
+
+    ghost peer_of: { Self → PacketValue → PeerName };
 
     /// The node itself.
     fn me(&self) -> NodeName;
@@ -40,7 +44,8 @@ pub trait FrameKeys {
         ensures { result ≡ sealed self.now to message.now };
 
     /// The peer whose packet has opened.
-    fn peer(&self, packet: &Packet) -> PeerName;
+    fn peer(&self, packet: &Packet) -> PeerName
+        ensures { result ≡ peer_of self.now packet.now };
 }
 
 /// The keys that a node shares with each node of one cluster.
@@ -81,6 +86,8 @@ impl FrameKeys for ClusterKeys {
     ghost opened = { λ k f. result_ok (open_due k.keys k.cluster f) };
 
     ghost sealed = { λ k to m. frame_due k.keys k.cluster to m };
+
+    ghost peer_of = { λ k p. record { index = p.from; keys = 0 } };
 
     fn me(&self) -> NodeName {
         self.me

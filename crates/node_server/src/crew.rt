@@ -4,7 +4,7 @@ ghost use Rattle.std.specs.Prelude.{◌≡◌, ◌&&◌, nat_lt, vec_len, is_som
 
 use crate::server::Server;
 use crate::workers::Worker;
-use frame_queues::{Connected, FrameKeys};
+use frame_queues::FrameKeys;
 use quorum_sizes::NodeName;
 use served_node::{HeldNode, millis};
 use server_locks::{Alarm, Front};
@@ -12,9 +12,30 @@ use std::mem;
 use std::sync::Wait;
 use std::time::Clock;
 
-/// In place of the time at which a frame of a connection counted last: a packet found no memory, so the connection is
-/// to be closed.
-pub const REFUSED: u64 = u64::MAX;
+/// What workers have of a connection of peers for the thread of the ports.
+#[derive(Clone, Copy, Debug, PartialEq, Eq)]
+pub enum News {
+    Nothing,
+    /// A packet counted, last at this time, in milliseconds.
+    Counted(u64),
+    /// A packet found no memory, so the connection is to be closed.
+    Refused,
+}
+
+/// What workers have of the connection of peers of this number, the last one at its place.
+#[derive(Clone, Copy, Debug, PartialEq, Eq)]
+pub struct Credit {
+    pub connection: u16,
+    pub news: News,
+}
+
+/// What came of a packet, of the connection of this number at a place: it counted, or found no memory.
+#[derive(Clone, Copy, Debug, PartialEq, Eq)]
+pub struct Noted {
+    pub place: u32,
+    pub connection: u16,
+    pub has_memory: bool,
+}
 
 /// The workers that are idle, and what is there for them and for the thread of the ports.
 #[derive(Drop)]
@@ -26,8 +47,9 @@ pub struct Crew<'a, N: HeldNode> {
     pub jobs: bool,
     /// The peers to which there is a new connection since a worker looked.
     pub connected: Vec<NodeName>,
-    /// When a frame of the connection of peers in each slot counted last, in milliseconds; 0 where none has.
-    pub counted: Vec<u64>,
+    /// What is new of the connection of peers at each place, and whether there is any.
+    pub credits: Vec<Credit>,
+    pub has_credit: bool,
     /// When something is due for which nobody wakes a worker.
     pub alarm: Alarm,
     /// A port has failed, or what was recorded is not kept.
@@ -42,6 +64,20 @@ impl<'a, N: HeldNode> Crew<'a, N> {
         ensures { result ≡ (self.now.jobs && is_some self.now.front && nat_lt 0 (vec_len self.now.idle)) }
     {
         self.jobs && self.front.is_some() && !self.idle.is_empty()
+    }
+
+    /// Notes what came of a packet, if its connection is still the last one at its place.
+    fn note(&mut self, noted: Noted, now: u64) {
+        if let Some(credit) = self.credits.get_mut(noted.place as usize) {
+            if credit.connection == noted.connection && credit.news != News::Refused {
+                self.has_credit = true;
+                credit.news = if noted.has_memory {
+                    News::Counted(now)
+                } else {
+                    News::Refused
+                };
+            }
+        }
     }
 
     /// An idle worker takes jobs from now on, if none does, with what comes before them.
@@ -124,10 +160,8 @@ impl<'a, N: HeldNode, K: FrameKeys, R: Wait + Clock> Server<'a, N, K, R> {
         self.send_and_tell(&mut worker);
         let now = millis(self.rt);
         let mut crew = self.crew.lock(self.rt);
-        for (slot, has_memory) in worker.heard.drain(..) {
-            if let Some(time) = crew.counted.get_mut(slot as usize) {
-                *time = if has_memory { now } else { REFUSED };
-            }
+        for noted in worker.heard.drain(..) {
+            crew.note(noted, now);
         }
         // there is room for each worker
         let _ = crew.idle.push(worker);
@@ -156,20 +190,14 @@ impl<'a, N: HeldNode, K: FrameKeys, R: Wait + Clock> Server<'a, N, K, R> {
         None
     }
 
-    /// Notes when a frame of each connection of peers counted last.
-    pub fn note_counted(&self, slots: &mut [Option<Connected>]) {
-        let crew = self.crew.lock(self.rt);
-        for (slot, time) in slots.iter_mut().zip(&crew.counted) {
-            if let Some(connected) = slot {
-                connected.counted = *time;
-            }
-        }
-    }
-
-    /// There is another connection in this slot, of which no frame has counted.
-    pub fn forget_counted(&self, slot: usize) {
-        if let Some(time) = self.crew.lock(self.rt).counted.get_mut(slot) {
-            *time = 0;
+    /// There is another connection at this place, of this number, of which nothing is known yet.
+    pub fn begin_credit(&self, place: usize, connection: u16) {
+        let mut crew = self.crew.lock(self.rt);
+        if let Some(credit) = crew.credits.get_mut(place) {
+            *credit = Credit {
+                connection,
+                news: News::Nothing,
+            };
         }
     }
 

@@ -23,13 +23,13 @@ mod server;
 mod workers;
 
 use clients::answer_client;
-use crew::Crew;
+use crew::{Credit, Crew, News};
 pub use fault::ServerFault;
 use frame_queues::MOST_CLIENTS;
-pub use frame_queues::{ClusterKeys, FrameKeys, PeerName};
+pub use frame_queues::{ClusterKeys, FrameKeys, Limits, PeerName};
 use mio::Waker;
 use node_lock::{Inbox, Seat};
-use peers::{Peers, SLOTS};
+use peers::Peers;
 use ports::{Ports, poll_of};
 use served_node::{Heard, SyncTally, millis};
 pub use served_node::{HeldNode, NotKept, Said};
@@ -61,6 +61,8 @@ pub struct Site {
     pub clients: TcpListener,
     /// Where each node takes frames, by its index; the node's own address is not used.
     pub addresses: Vec<SocketAddr>,
+    /// How many connections of peers there may be.
+    pub limits: Limits,
     /// After so long a client that sends nothing is closed.
     pub idle: Duration,
     /// Whether the lines of operators are answered, beside those of clients. Then a connection of clients begins with
@@ -119,7 +121,7 @@ where
     let outboxes = outboxes(alloc, &keys, &site.addresses)?;
     let (poll, waker) = poll_of(rt).map_err(fault_of)?;
     let server = server_of(rt, alloc, node, seats, keys, queues, outboxes, waker, &site)?;
-    let peers = Peers::new(&server, queue)?;
+    let peers = Peers::new(&server, queue, site.limits)?;
     let listeners = (site.peers, site.clients);
     run(Ports::new(&server, poll, listeners, peers).map_err(fault_of)?)?;
     if server.crew.lock(rt).failed {
@@ -170,7 +172,8 @@ fn server_of<'a, N: HeldNode + Drop, K: FrameKeys + Drop, R: Clock>(
     }
     let (most, now) = (most_batch::<N>(), millis(rt));
     let front = Front::new(alloc, keys.sizes(), keys.me(), most, now)?;
-    let crew = crew_of(alloc, seats, queues, front, keys.sizes().n())?;
+    let places = site.limits.places(keys.sizes().n(), keys.me().index());
+    let crew = crew_of(alloc, seats, queues, front, keys.sizes().n(), places)?;
     let heard = Heard::new(alloc, keys.sizes().n())?;
     Ok(Server {
         rt,
@@ -192,7 +195,8 @@ fn server_of<'a, N: HeldNode + Drop, K: FrameKeys + Drop, R: Clock>(
     })
 }
 
-/// An idle worker for each seat, with a queue of its own, and what comes before these.
+/// An idle worker for each seat, with a queue of its own, and what comes before these, beside so many connections of
+/// peers.
 ///
 /// # Errors
 ///
@@ -203,18 +207,24 @@ fn crew_of<'a, N: HeldNode>(
     mut queues: Vec<JobQueue<'a>>,
     front: Front<N::Untold>,
     nodes: u8,
+    places: usize,
 ) -> Result<Crew<'a, N>, AllocError> {
     let mut idle = Vec::new(alloc);
     for seat in seats {
         let queue = queues.pop().ok_or(AllocError)?;
         idle.push(Worker::new(alloc, queue, seat, nodes)?)?;
     }
+    let nothing = Credit {
+        connection: 0,
+        news: News::Nothing,
+    };
     Ok(Crew {
         idle,
         front: Some(front),
         jobs: false,
         connected: Vec::with_capacity(alloc, usize::from(nodes))?,
-        counted: Vec::from_elem(alloc, 0, SLOTS)?,
+        credits: Vec::from_elem(alloc, nothing, places)?,
+        has_credit: false,
         alarm: Alarm::new(),
         failed: false,
         ended: false,

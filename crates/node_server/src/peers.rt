@@ -1,10 +1,10 @@
 //! The connections of peers: frames in.
 
-use crate::crew::REFUSED;
+use crate::crew::News;
 use crate::server::Server;
 use frame_queues::{
-    BLOCK_FRAMES, Came, Connected, FrameBlock, FrameKeys, MOST_PEERS, PeerName, TURN_FRAMES, Turn,
-    Turns, slot_for, third_of,
+    BLOCK_FRAMES, Caller, Came, FrameBlock, FrameKeys, Limits, PeerName, Slots, TURN_FRAMES, Turn,
+    Turns,
 };
 use link_frames::{Frame, Packet};
 use mio::unix::SourceFd;
@@ -12,17 +12,11 @@ use mio::{Interest, Registry, Token};
 use served_node::{Heard, HeldNode, millis};
 use server_locks::{JobQueue, Opened, open_frames};
 use std::alloc::AllocError;
-use std::io;
 use std::net::TcpStream;
 use std::os::fd::AsRawFd;
 use std::sync::Wait;
 use std::time::Clock;
-
-/// How many slots there are.
-pub const SLOTS: usize = MOST_PEERS as usize;
-
-/// The milliseconds in which the first frame has to open.
-const FIRST_FRAME: u64 = 2_000;
+use std::{io, mem};
 
 /// After so many frames the jobs are done before more are put.
 const MOST_PUT: usize = 256;
@@ -34,6 +28,8 @@ const LOT_FACTOR: u64 = 6_364_136_223_846_793_005;
 #[derive(Drop)]
 struct Connection {
     stream: TcpStream,
+    /// Its number among those of its place.
+    number: u16,
     block: FrameBlock,
     /// The peer whose frame was the first that opened.
     opened: Option<PeerName>,
@@ -61,14 +57,16 @@ impl Connection {
     }
 }
 
-/// The connections of peers, each in a slot of its own.
+/// The connections of peers, each at a place of its own.
 #[derive(Drop)]
 pub struct Peers<'a, 'b, N: HeldNode, K: FrameKeys, R> {
     server: &'b Server<'a, N, K, R>,
     queue: JobQueue<'a>,
-    slots: Vec<Option<Connected>>,
+    slots: Slots,
     connections: Vec<Option<Connection>>,
-    /// The slots of the connections that may have bytes.
+    /// Before this no newcomer's time is over, in milliseconds.
+    next_end: u64,
+    /// The places of the connections that may have bytes.
     ready: Vec<usize>,
     /// The turns in which the frames of their blocks are put, and room for the packets of a turn.
     turns: Turns,
@@ -81,7 +79,7 @@ pub struct Peers<'a, 'b, N: HeldNode, K: FrameKeys, R> {
 }
 
 impl<'a, 'b, N: HeldNode, K: FrameKeys, R: Wait + Clock> Peers<'a, 'b, N, K, R> {
-    /// None yet, with room for all. The lots go by the time.
+    /// None yet, with room for so many. The lots go by the time.
     ///
     /// # Errors
     ///
@@ -89,118 +87,163 @@ impl<'a, 'b, N: HeldNode, K: FrameKeys, R: Wait + Clock> Peers<'a, 'b, N, K, R> 
     pub fn new(
         server: &'b Server<'a, N, K, R>,
         queue: JobQueue<'a>,
+        limits: Limits,
     ) -> Result<Peers<'a, 'b, N, K, R>, AllocError> {
         let alloc = server.alloc;
-        let mut connections = Vec::with_capacity(alloc, SLOTS)?;
-        for _ in 0..SLOTS {
+        let nodes = server.keys.sizes().n();
+        let slots = Slots::new(alloc, nodes, server.keys.me().index(), limits)?;
+        let places = slots.places().len();
+        let mut connections = Vec::with_capacity(alloc, places)?;
+        for _ in 0..places {
             connections.push(None)?;
         }
         Ok(Peers {
             server,
             queue,
-            slots: Vec::from_elem(alloc, None, SLOTS)?,
+            slots,
             connections,
-            ready: Vec::with_capacity(alloc, SLOTS)?,
-            turns: Turns::new(alloc, SLOTS)?,
+            next_end: 0,
+            ready: Vec::with_capacity(alloc, places)?,
+            turns: Turns::new(alloc, places)?,
             packets: Vec::with_capacity(alloc, TURN_FRAMES)?,
             lot: millis(server.rt),
-            heard: Heard::new(alloc, server.keys.sizes().n())?,
+            heard: Heard::new(alloc, nodes)?,
             is_news: false,
         })
     }
 
-    /// Until when to wait at most for what comes next. A connection on which no frame has opened in its time is closed,
-    /// and so is one of which a packet found no memory. What is heard is told.
+    /// Until when to wait at most for what comes next. Newcomers whose time is over are closed, and connections of
+    /// which a packet found no memory. What is heard is told.
     pub fn wait_until(&mut self, now: u64) -> u64 {
-        let mut wait = if self.ready.is_empty() { u64::MAX } else { now };
-        for slot in 0..SLOTS {
-            let end = match self.slots.get(slot) {
-                Some(Some(connected)) if connected.counted == REFUSED => now,
-                Some(Some(connected)) if connected.name.is_none() => connected
-                    .began
-                    .saturating_add(FIRST_FRAME),
-                _ => continue,
-            };
-            if end <= now {
-                self.close(slot);
-            } else {
-                wait = wait.min(end);
+        self.take_credit();
+        if self.next_end <= now {
+            if self.slots.passes(now) > 0 {
+                self.close_ended();
             }
+            self.next_end = self.slots.next_end();
         }
         self.tell_heard();
-        wait
+        if self.ready.is_empty() {
+            self.next_end
+        } else {
+            now
+        }
+    }
+
+    /// Takes over of which connections packets have counted since this was last asked, or found no memory.
+    fn take_credit(&mut self) {
+        let server = self.server;
+        let mut has_ended = false;
+        let mut crew = server.crew.lock(server.rt);
+        if mem::replace(&mut crew.has_credit, false) {
+            for (place, credit) in crew.credits.iter_mut().enumerate() {
+                let number = credit.connection;
+                match mem::replace(&mut credit.news, News::Nothing) {
+                    News::Nothing => {}
+                    News::Counted(time) => {
+                        has_ended |= self.slots.counted(place, number, time).is_some();
+                    }
+                    News::Refused => {
+                        self.slots.ends(place, number);
+                        has_ended = true;
+                    }
+                }
+            }
+        }
+        drop(crew);
+        if has_ended {
+            self.close_ended();
+        }
+    }
+
+    /// Closes the connections that have no place any more.
+    fn close_ended(&mut self) {
+        for place in 0..self.connections.len() {
+            if !self.is_held(place) {
+                self.close(place);
+            }
+        }
+    }
+
+    fn is_held(&self, place: usize) -> bool {
+        match self.slots.places().get(place) {
+            Some(place) => place.held.is_some(),
+            None => false,
+        }
     }
 
     /// Tells what is heard of the peers, where that has changed.
     fn tell_heard(&mut self) {
         if self.is_news {
             self.is_news = false;
-            self.heard.note_slots(&self.slots);
+            self.heard.note_places(self.slots.places());
             let mut heard = self.server.heard.lock(self.server.rt);
             heard.take_over(&self.heard);
         }
     }
 
-    /// Notes that the connection of a slot may have bytes, or has its end.
-    pub fn note(&mut self, slot: usize, is_closed: bool) {
-        if let Some(Some(connection)) = self.connections.get_mut(slot) {
+    /// Notes that the connection at a place may have bytes, or has its end.
+    pub fn note(&mut self, place: usize, is_closed: bool) {
+        if let Some(Some(connection)) = self.connections.get_mut(place) {
             connection.has_end |= is_closed;
-            if !self.ready.contains(&slot) {
-                // there is room for each slot
-                let _ = self.ready.push(slot);
+            if !self.ready.contains(&place) {
+                // there is room for each place
+                let _ = self.ready.push(place);
             }
         }
     }
 
-    /// Gives a slot to a connection that has come, and closes the one that has it. Where there is none it is closed.
+    /// Gives a place to a connection that has come, as a newcomer, and closes the one that gives way to it.
     ///
     /// # Errors
     ///
     /// As the system answers; `OutOfMemory` for want of memory. The connection is closed.
     pub fn add(&mut self, registry: &Registry, now: u64, stream: TcpStream) -> io::Result<()> {
-        self.lot = self.lot.wrapping_mul(LOT_FACTOR).wrapping_add(1);
-        let lot = (self.lot >> 32) as usize % SLOTS;
-        let Some(slot) = slot_for(&self.slots, lot) else {
-            return Ok(());
-        };
         stream.set_nodelay(true)?;
         stream.set_nonblocking(true)?;
         let Ok(block) = FrameBlock::new(self.server.alloc) else {
             return Err(io::Error::from(io::ErrorKind::OutOfMemory));
         };
-        self.close(slot);
+        self.lot = self.lot.wrapping_mul(LOT_FACTOR).wrapping_add(1);
+        let place = self.slots.comes(now, (self.lot >> 32) as usize);
+        self.next_end = 0;
+        let number = self.number_at(place);
+        self.close(place);
+        self.server.begin_credit(place, number);
         let fd = stream.as_raw_fd();
-        registry.register(&mut SourceFd(&fd), Token(slot), Interest::READABLE)?;
-        let connection = Connection {
-            stream,
-            block,
-            opened: None,
-            came: Came::Nothing,
-            has_end: false,
-        };
-        if let (Some(connected), Some(room)) = (
-            self.slots.get_mut(slot),
-            self.connections.get_mut(slot),
+        if let Err(error) = registry.register(
+            &mut SourceFd(&fd),
+            Token(place),
+            Interest::READABLE,
         ) {
-            *connected = Some(Connected {
-                name: None,
-                counted: 0,
-                began: now,
-            });
-            *room = Some(connection);
+            self.slots.ends(place, number);
+            return Err(error);
         }
-        self.server.forget_counted(slot);
+        if let Some(room) = self.connections.get_mut(place) {
+            *room = Some(Connection {
+                stream,
+                number,
+                block,
+                opened: None,
+                came: Came::Nothing,
+                has_end: false,
+            });
+        }
         Ok(())
     }
 
-    /// Closes the connection of a slot, if there is one.
-    fn close(&mut self, slot: usize) {
-        if let (Some(connected), Some(room)) = (
-            self.slots.get_mut(slot),
-            self.connections.get_mut(slot),
-        ) {
-            self.is_news |= connected.is_some();
-            *connected = None;
+    /// The number of the connection at a place.
+    fn number_at(&self, place: usize) -> u16 {
+        match self.slots.places().get(place) {
+            Some(place) => place.number,
+            None => 0,
+        }
+    }
+
+    /// Closes the connection that was at a place, if there was one.
+    fn close(&mut self, place: usize) {
+        if let Some(room) = self.connections.get_mut(place) {
+            self.is_news |= room.is_some();
             *room = None;
         }
     }
@@ -208,11 +251,11 @@ impl<'a, 'b, N: HeldNode, K: FrameKeys, R: Wait + Clock> Peers<'a, 'b, N, K, R> 
     /// Reads of each connection that may have bytes, one block at most, and puts the frames of these blocks in turns, a
     /// few of each: so no connection's block is behind another's. Those that may have more stay ready.
     pub fn read_ready(&mut self, now: u64) {
-        for slot in &self.ready {
-            if let Some(Some(connection)) = self.connections.get_mut(*slot) {
+        for place in &self.ready {
+            if let Some(Some(connection)) = self.connections.get_mut(*place) {
                 connection.read();
-                // there is room for each slot
-                let _ = self.turns.add(*slot, connection.frames().len());
+                // there is room for each place
+                let _ = self.turns.add(*place, connection.frames().len());
             }
         }
         let mut put = 0usize;
@@ -229,13 +272,13 @@ impl<'a, 'b, N: HeldNode, K: FrameKeys, R: Wait + Clock> Peers<'a, 'b, N, K, R> 
         if put > 0 {
             self.server.wake_workers();
         }
-        self.server.note_counted(&mut self.slots);
+        self.take_credit();
         let mut kept = 0usize;
         for at in 0..self.ready.len() {
-            let slot = self.ready.get(at).copied().unwrap_or(SLOTS);
-            if self.goes_on(slot) {
+            let place = self.ready.get(at).copied().unwrap_or(usize::MAX);
+            if self.goes_on(place) {
                 if let Some(entry) = self.ready.get_mut(kept) {
-                    *entry = slot;
+                    *entry = place;
                 }
                 kept = kept.saturating_add(1);
             }
@@ -244,10 +287,10 @@ impl<'a, 'b, N: HeldNode, K: FrameKeys, R: Wait + Clock> Peers<'a, 'b, N, K, R> 
     }
 
     /// Puts the packets of some frames of a connection's block into the inbox. How many. A frame that does not open is
-    /// lost, and the connection ends where it is the first.
+    /// lost, and the connection ends where it is the first. The first that opens names it.
     fn put(&mut self, turn: Turn, now: u64) -> usize {
         let server = self.server;
-        let (Ok(slot), Some(Some(connection))) = (
+        let (Ok(place), Some(Some(connection))) = (
             u32::try_from(turn.block),
             self.connections.get_mut(turn.block),
         ) else {
@@ -258,45 +301,46 @@ impl<'a, 'b, N: HeldNode, K: FrameKeys, R: Wait + Clock> Peers<'a, 'b, N, K, R> 
         let Ok(Opened { peer, unopened }) = opened else {
             return 0;
         };
-        connection.opened = peer;
+        if connection.opened != peer {
+            connection.opened = peer;
+            self.next_end = 0;
+            self.is_news = true;
+        }
+        self.is_news |= unopened > 0;
+        let caller = Caller::Peer {
+            place,
+            connection: connection.number,
+        };
         for _ in 0..unopened {
             self.heard.note_unopened(peer);
-            self.is_news = true;
         }
         match peer {
             Some(name) if !self.packets.is_empty() => {
                 self.is_news |= self.heard.note_opened(name.index, now);
+                if let Some(ended) = self.slots.named(turn.block, name.index, now) {
+                    self.close(ended);
+                }
             }
             None if unopened > 0 => connection.came = Came::End,
             _ => {}
         }
-        self.queue
-            .put_packets(server.rt, &|| server.wake_for_room(), slot, &self.packets)
+        self.queue.put_packets(server.rt, &|| server.wake_for_room(), caller, &self.packets)
     }
 
-    /// Whether a connection may have more. It is closed at its end. Where its first frame has opened it is the peer's
-    /// from now on, and the third of that peer is closed: so a peer's connection runs to its end beside the next, and
-    /// who sends a captured frame again and again ends none but his own.
-    fn goes_on(&mut self, slot: usize) -> bool {
-        let (Some(Some(connection)), Some(Some(connected))) = (
-            self.connections.get(slot),
-            self.slots.get_mut(slot),
-        ) else {
+    /// Whether a connection may have more. It is closed at its end.
+    fn goes_on(&mut self, place: usize) -> bool {
+        let Some(Some(connection)) = self.connections.get(place) else {
             return false;
         };
+        let number = connection.number;
         let goes_on = match connection.came {
             Came::Nothing | Came::End => false,
             Came::Some => connection.has_end,
             Came::More => true,
         };
         if connection.came == Came::End {
-            self.close(slot);
-        } else if let (None, Some(name)) = (connected.name, connection.opened) {
-            connected.name = Some(name);
-            self.is_news = true;
-            if let Some(third) = third_of(&self.slots, name) {
-                self.close(third);
-            }
+            self.slots.ends(place, number);
+            self.close(place);
         }
         goes_on
     }

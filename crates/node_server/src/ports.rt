@@ -1,8 +1,8 @@
 //! The thread of the ports: it waits at once for all that comes and for room to write.
 
-use crate::peers::{Peers, SLOTS};
+use crate::peers::Peers;
 use crate::server::Server;
-use frame_queues::FrameKeys;
+use frame_queues::{FrameKeys, MOST_PEERS};
 use mio::unix::SourceFd;
 use mio::{Events, Interest, Poll, Token, Waker};
 use served_node::{HeldNode, millis};
@@ -13,9 +13,9 @@ use std::os::fd::AsRawFd;
 use std::sync::{Arc, Wait};
 use std::time::{Clock, Duration};
 
-/// The numbers of what the thread waits for. A connection of a peer has the number of its slot; the connections to
+/// The numbers of what the thread waits for. A connection of a peer has the number of its place; the connections to
 /// peers have those from `FIRST_DIAL` on.
-const PEER_PORT: usize = SLOTS;
+const PEER_PORT: usize = MOST_PEERS as usize;
 
 const CLIENT_PORT: usize = PEER_PORT + 1;
 
@@ -23,8 +23,11 @@ const WAKER: usize = CLIENT_PORT + 1;
 
 const FIRST_DIAL: usize = WAKER + 1;
 
+/// The most connections to peers.
+const MOST_DIALS: usize = 127;
+
 /// The most events of one wait.
-const MOST_EVENTS: usize = FIRST_DIAL + SLOTS;
+const MOST_EVENTS: usize = FIRST_DIAL + MOST_DIALS;
 
 /// The milliseconds that the thread waits at most.
 const LONGEST_WAIT: u64 = 5_000;
@@ -190,7 +193,7 @@ impl<'a, 'b, N: HeldNode, K: FrameKeys, R: Net + Wait + Clock> Ports<'a, 'b, N, 
                 self.peer_port.accept_at = now;
             } else if number == CLIENT_PORT {
                 self.client_port.accept_at = now;
-            } else if number < SLOTS {
+            } else if number < PEER_PORT {
                 self.peers.note(number, event.is_read_closed());
             } else if number >= FIRST_DIAL {
                 server.go_on(number - FIRST_DIAL, now);
@@ -220,7 +223,7 @@ impl<'a, 'b, N: HeldNode, K: FrameKeys, R: Net + Wait + Clock> Ports<'a, 'b, N, 
         }
     }
 
-    /// Takes the connections of peers that have come. One for which there is no slot is closed.
+    /// Takes the connections of peers that have come.
     fn take_peers(&mut self, now: u64) {
         for _ in 0..MOST_NEWCOMERS {
             let Some(stream) = self.peer_port.accept(now) else {

@@ -3,6 +3,7 @@
 ghost use Rattle.std.specs.Prelude.{◌≤◌};
 ghost use Rattle.peer_windows.specs.Pauses.{most_time};
 
+use crate::crew::Noted;
 use crate::server::Server;
 use frame_queues::{Caller, FrameKeys};
 use link_frames::{Frame, Message, Packet};
@@ -27,8 +28,8 @@ pub struct Worker<'a, N: HeldNode> {
     /// What goes to single peers.
     owed: Owed,
     frames: Vec<Frame>,
-    /// The slots of the connections of peers of which a packet has counted, and of those of which one found no memory.
-    pub heard: Vec<(u32, bool)>,
+    /// Of which connections of peers a packet has counted, and of which one found no memory.
+    pub heard: Vec<Noted>,
 }
 
 impl<'a, N: HeldNode> Worker<'a, N> {
@@ -181,10 +182,14 @@ impl<'a, N: HeldNode, K: FrameKeys, R: Wait + Clock> Server<'a, N, K, R> {
                         slot.tell(self.rt, line, done.said);
                     }
                 }
-                Caller::Peer { slot } => match done.said {
+                Caller::Peer { place, connection } => match done.said {
                     Some(said) if !said.has_counted() => {}
                     said => {
-                        let _ = worker.heard.push((slot, said.is_some()));
+                        let _ = worker.heard.push(Noted {
+                            place,
+                            connection,
+                            has_memory: said.is_some(),
+                        });
                     }
                 },
                 Caller::Nobody => {}

@@ -14,7 +14,7 @@ mod slot_tests;
 use crate::cluster::Setup;
 use crate::fault::ServeFault;
 use node_lock::SharedNode;
-use node_server::{ClusterKeys, SEATS, Site, listen};
+use node_server::{ClusterKeys, Limits, SEATS, Site, listen};
 use role_node::Node;
 use std::alloc::{AllocError, Global};
 use std::marker::Brand;
@@ -23,6 +23,9 @@ use std::sync::Wait;
 use std::sync::ledger::{Blank, Ledger};
 use std::thread::Threads;
 use std::time::{Clock, Duration};
+
+/// The most connections of peers.
+const MOST_PEERS: u8 = 128;
 
 /// The milliseconds after which a client that sends nothing is closed.
 const IDLE: u64 = 600_000;
@@ -95,6 +98,7 @@ where
         peers,
         clients,
         addresses: addresses(alloc, ports)?,
+        limits: Limits::within(setup.config.roles().sizes().n(), MOST_PEERS),
         idle,
         operators: false,
     })

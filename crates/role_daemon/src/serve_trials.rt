@@ -235,7 +235,8 @@ where
     Ok(first)
 }
 
-/// Whether of three connections of a peer that is closed which has brought nothing new, the older of two of these.
+/// Whether of three connections of a peer that is closed, after a while, which has no slot: the last, since it has brought
+/// nothing new.
 fn third_connection<R>(rt: &R, alloc: Global, place: &Place) -> Result<bool, Fail>
 where
     R: Net<Listener = TcpListener, Stream = TcpStream> + Clock,
@@ -244,7 +245,7 @@ where
     let second = connected_saying(rt, place.peers, &FRAME)?;
     thread::sleep(rt, Duration::from_millis(20));
     let third = connected_saying(rt, place.peers, &FRAME)?;
-    Ok(is_closed(&second) && is_kept(&first)? && is_kept(&third)?)
+    Ok(is_closed(&third) && is_kept(&first)? && is_kept(&second)?)
 }
 
 /// Whether frames do no harm whose connections are closed before they are taken.

@@ -1,8 +1,12 @@
 -- What is heard of the peers of a node, by their indices.
 use Rattle.std.specs.Prelude.{◌≡◌, ℕ, ◌<◌, ◌≤◌, ◌-◌, ◌==◌, nat_le, nat_lt, Bool, false, ◌&&◌}
-use Rattle.std.specs.Prelude.{List, length, slice_index_or, slice_set, position, Option, Some, None, is_some, option_map}
+use Rattle.std.specs.Prelude.{List, length, slice_index_or, slice_set, position, Option, Some, None, is_some}
+use Rattle.std.specs.Prelude.{option_map}
 use Rattle.frame_queues.specs.declared.keys.PeerName.{PeerName}
 use Rattle.frame_queues.specs.declared.slots.Connected.{Connected}
+use Rattle.frame_queues.specs.declared.slots.Place.{Place}
+use Rattle.frame_queues.specs.declared.slots.Standing.{Standing}
+use Rattle.frame_queues.specs.declared.slots.Standing.TheVariants.{Unnamed, Named, Slot}
 use Rattle.operator_lines.specs.declared.answer.PeerStanding.{PeerStanding}
 use Rattle.served_node.specs.Counts.{grown}
 use Rattle.served_node.specs.declared.heard.PeerHeard.{PeerHeard}
@@ -33,21 +37,25 @@ abbrev pub opened_now : HeardValue → ℕ → ℕ → HeardValue
 opened_now h index now =
     record h { peers = slice_set h.peers index (record (peer_at h.peers index) { opened = now }) }
 
--- a peer of this index
-abbrev pub has_index : ℕ → Option PeerName → Bool
-has_index index None = false
-has_index index (Some name) = name.index == index
+-- who speaks there is the peer of this index
+abbrev pub has_index : ℕ → Standing → Bool
+has_index index Unnamed = false
+has_index index (Named peer) = peer == index
+has_index index (Slot peer) = peer == index
 
--- a connection stands there on which a frame of a peer of this index has opened
-abbrev pub is_of_index : ℕ → Option Connected → Bool
-is_of_index index None = false
-is_of_index index (Some c) = has_index index c.name
+abbrev pub is_held_by : ℕ → Option Connected → Bool
+is_held_by index None = false
+is_held_by index (Some c) = has_index index c.standing
 
--- each peer stands where a connection in these slots is its own; all else stays
-pub record StandsAt (slots : List (Option Connected)) (old new : List PeerHeard) : Type 0 where
+-- a connection stands there on which a frame of the peer of this index has opened
+abbrev pub is_of_index : ℕ → Place → Bool
+is_of_index index p = is_held_by index p.held
+
+-- each peer stands where a connection at these places is its own; all else stays
+pub record StandsAt (places : List Place) (old new : List PeerHeard) : Type 0 where
   pub count : length new ≡ length old
   pub each : (index : ℕ) → index < length old →
-      peer_at new index ≡ record (peer_at old index) { stands = is_some (position (is_of_index index) slots) }
+      peer_at new index ≡ record (peer_at old index) { stands = is_some (position (is_of_index index) places) }
 
 -- a peer is heard where a connection of it stands, and a frame of it has opened in the last two and a half minutes
 abbrev pub is_heard : PeerHeard → ℕ → Bool

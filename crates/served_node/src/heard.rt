@@ -5,7 +5,7 @@ ghost use Rattle.served_node.specs.Heard as heard;
 ghost use Rattle.served_node.specs.Heard.{is_heard, with_heard, is_news, nothing, opened_now, one_unopened};
 ghost use Rattle.served_node.specs.Heard.{StandsAt, IsAdded};
 
-use frame_queues::{Connected, PeerName};
+use frame_queues::{PeerName, Place, Standing};
 use operator_lines::PeerStanding;
 use std::alloc::{AllocError, Global};
 use std::marker::Model;
@@ -118,14 +118,14 @@ impl Heard {
         true
     }
 
-    /// These connections stand now.
-    pub fn note_slots(&mut self, slots: &[Option<Connected>])
-        ensures peers { StandsAt slots.now self.old.peers self.new.peers }
+    /// The connections at these places stand now.
+    pub fn note_places(&mut self, places: &[Place])
+        ensures peers { StandsAt places.now self.old.peers self.new.peers }
         ensures unopened { self.new.unopened ≡ self.old.unopened }
     {
         for index in 0..self.peers.len() {
             let mut peer = self.peers[index];
-            peer.stands = first_of(slots, index).is_some();
+            peer.stands = first_of(places, index).is_some();
             self.peers[index] = peer;
         }
     }
@@ -150,23 +150,28 @@ impl Heard {
     }
 }
 
-/// The first slot of a connection on which a frame of the peer of this index has opened.
-fn first_of(slots: &[Option<Connected>], index: usize) -> Option<usize>
-    ensures { result ≡ position (heard.is_of_index index) slots.now }
+/// The first place of a connection on which a frame of the peer of this index has opened.
+fn first_of(places: &[Place], index: usize) -> Option<usize>
+    ensures { result ≡ position (heard.is_of_index index) places.now }
 {
-    slots.iter().position(|slot| is_of_index(slot, index))
+    places.iter().position(|place| is_of_index(place, index))
 }
 
-fn is_of_index(slot: &Option<Connected>, index: usize) -> bool
-    ensures { result ≡ heard.is_of_index index slot.now }
+fn is_of_index(place: &Place, index: usize) -> bool
+    ensures { result ≡ heard.is_of_index index place.now }
 {
-    match slot {
-        Some(
-            Connected {
-                name: Some(name),
-                ..
-            },
-        ) => usize::from(name.index) == index,
-        _ => false,
+    match place.held {
+        Some(connected) => has_index(connected.standing, index),
+        None => false,
+    }
+}
+
+/// Whether who speaks there is the peer of this index.
+fn has_index(standing: Standing, index: usize) -> bool
+    ensures { result ≡ heard.has_index index standing }
+{
+    match standing {
+        Standing::Unnamed => false,
+        Standing::Named(peer) | Standing::Slot(peer) => usize::from(peer) == index,
     }
 }

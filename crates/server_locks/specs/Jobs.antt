@@ -6,12 +6,13 @@ use Rattle.link_frames.specs.declared.frames.packet.Message.{Message}
 use Rattle.node_lock.specs.declared.job.Job.{Job}
 use Rattle.node_lock.specs.declared.receipt.Call.TheVariants.{Step}
 use Rattle.frame_queues.specs.Callers.{most_lines, number_of}
-use Rattle.frame_queues.specs.declared.caller.Caller.TheVariants.{Client, Peer}
+use Rattle.frame_queues.specs.declared.caller.Caller.{Caller}
+use Rattle.frame_queues.specs.declared.caller.Caller.TheVariants.{Client}
 use Rattle.role_node.specs.declared.event.Event.TheVariants.{Take}
 
--- the job by which a node takes a packet that came over the connection at this place
-abbrev pub peer_job : ℕ → PacketValue → Job
-peer_job slot packet = record { number = number_of (Peer slot); call = Step (Take packet) }
+-- the job by which a node takes a packet that came over a caller's connection
+abbrev pub peer_job : Caller → PacketValue → Job
+peer_job caller packet = record { number = number_of caller; call = Step (Take packet) }
 
 -- the number of the jobs that a client at this place waits for, and which answer no line
 abbrev pub again_number : ℕ → ℕ

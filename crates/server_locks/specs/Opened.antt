@@ -1,6 +1,6 @@
 -- What is taken of the frames of a peer's connection.
 use Rattle.std.specs.Prelude.{ℕ, Bool, false, ◌||◌, not, if◌then◌else◌, List, [], ◌∷◌, length, take, count_by}
-use Rattle.std.specs.Prelude.{Option, is_some, option_to_list}
+use Rattle.std.specs.Prelude.{Option, None, Some, is_some, option_to_list}
 use Rattle.std.specs.List.{flat_map}
 use Rattle.link_frames.specs.frames.Packets.{PacketValue}
 use Rattle.frame_queues.specs.declared.keys.PeerName.{PeerName}
@@ -29,3 +29,13 @@ module _ (opened : List ℕ → Option PacketValue) where
 
   abbrev pub unopened_taken : Option PeerName → List (List ℕ) → ℕ
   unopened_taken peer frames = if are_taken peer frames then unopened_of frames else length (take 1 frames)
+
+  -- the peer whose connection it is, which stays: that of the first packet
+  module _ (peer_of : PacketValue → PeerName) where
+    abbrev pub named_by : Option PeerName → List PacketValue → Option PeerName
+    named_by (Some peer) packets = Some peer
+    named_by None [] = None
+    named_by None (packet ∷ packets) = Some (peer_of packet)
+
+    abbrev pub name_due : Option PeerName → List (List ℕ) → Option PeerName
+    name_due peer frames = named_by peer (packets_taken peer frames)

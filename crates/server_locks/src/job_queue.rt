@@ -63,40 +63,40 @@ impl<'a> JobQueue<'a> {
         unreachable!()
     }
 
-    /// Puts a packet that came over the connection of a peer in this slot, as [`put_patiently`](Self::put_patiently)
-    /// does. Whether it is put.
+    /// Puts a packet that came over a caller's connection, as [`put_patiently`](Self::put_patiently) does. Whether it
+    /// is put.
     fn put_packet<R: Wait + Clock, F: Fn() -> bool>(
         &mut self,
         rt: &R,
         wake: &F,
-        slot: u32,
+        caller: Caller,
         packet: Packet,
     ) -> bool
         requires wake { F.IsAlwaysCallable wake.now }
-        ensures put { IsTrue result → self.new.pass ≡ after_put self.old.pass (peer_job slot packet) }
+        ensures put { IsTrue result → self.new.pass ≡ after_put self.old.pass (peer_job caller packet) }
         ensures same { IsFalse result → self.new.pass ≡ self.old.pass }
     {
-        let number = Caller::Peer { slot }.number();
+        let number = caller.number();
         let call = Call::Step(Event::Take(packet));
         self.put_patiently(rt, wake, &Job { number, call })
     }
 
-    /// Puts packets that came over the connection of a peer in this slot, in their order, each as
-    /// [`put_packet`](Self::put_packet) does. How many: fewer where those who do the jobs have ended.
+    /// Puts packets that came over a caller's connection, in their order, each as [`put_packet`](Self::put_packet) does.
+    /// How many: fewer where those who do the jobs have ended.
     pub fn put_packets<R: Wait + Clock, F: Fn() -> bool>(
         &mut self,
         rt: &R,
         wake: &F,
-        slot: u32,
+        caller: Caller,
         packets: &[Packet],
     ) -> usize
         requires wake { F.IsAlwaysCallable wake.now }
         ensures count { result ≤ length packets.now }
-        ensures put { self.new.pass.put ≡ self.old.pass.put ++ map (peer_job slot) (take result packets.now) }
+        ensures put { self.new.pass.put ≡ self.old.pass.put ++ map (peer_job caller) (take result packets.now) }
     {
         let mut count = 0usize;
         for packet in packets {
-            if !self.put_packet(rt, wake, slot, *packet) {
+            if !self.put_packet(rt, wake, caller, *packet) {
                 return count;
             }
             count = count.saturating_add(1);

@@ -1,7 +1,7 @@
 //! Opening the frames of a peer's connection.
 
-ghost use Rattle.std.specs.Prelude.{◌≡◌, Some, IfOk, IfSome, OnOk, is_some};
-ghost use Rattle.server_locks.specs.Opened.{are_taken, packets_taken, unopened_taken};
+ghost use Rattle.std.specs.Prelude.{◌≡◌, IfOk, OnOk};
+ghost use Rattle.server_locks.specs.Opened.{name_due, packets_taken, unopened_taken};
 
 use frame_queues::{FrameKeys, PeerName};
 use link_frames::{Frame, Packet};
@@ -31,8 +31,7 @@ pub fn open_frames<K: FrameKeys>(
 ) -> Result<Opened, AllocError>
     ensures packets { OnOk result (packets.new.items ≡ packets_taken (K.opened keys.now) peer frames.now) }
     ensures unopened { IfOk result (λ o. o.unopened ≡ unopened_taken (K.opened keys.now) peer frames.now) }
-    ensures named { IfOk result (λ o. is_some o.peer ≡ are_taken (K.opened keys.now) peer frames.now) }
-    ensures first { IfSome peer (λ name. IfOk result (λ o. o.peer ≡ Some name)) }
+    ensures named { IfOk result (λ o. o.peer ≡ name_due (K.opened keys.now) (K.peer_of keys.now) peer frames.now) }
 {
     packets.clear();
     let mut opened = Opened { peer, unopened: 0 };

@@ -8,7 +8,7 @@ use crate::fault::Fault;
 use cluster_hosts::Given;
 use node_journal::{keys_of, restored};
 use node_lock::SharedNode;
-use node_server::{SEATS, Site, listen};
+use node_server::{Limits, SEATS, Site, listen};
 use role_node::Node;
 use sqlite_disk::{Disk, Files};
 use std::alloc::Global;
@@ -132,6 +132,7 @@ where
         peers: listen(rt, given.own_address())?,
         clients: listen(rt, clients)?,
         addresses: given.addresses(alloc)?,
+        limits: Limits::new(),
         idle: Duration::from_millis(IDLE),
         operators: true,
     })
