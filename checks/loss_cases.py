@@ -156,9 +156,9 @@ def folders_are_synced(program):
         folder, log = os.path.realpath(folder), os.path.join(folder, "steps")
         steps = lives.compiled("checks/steps.c", folder)
         path = tundelca.cluster_files(folder, ROLES[:1], *(tundelca.free_ports(1) for _ in range(2)), 0)[0]
-        for name, due in [("one/two", ["one", "one/two"]), (".", [".", ".."])]:
-            within = os.path.normpath(os.path.join(folder, name))
-            os.makedirs(within, exist_ok=True)
+        for name, due in [("one/two", ["one", "one/two"]), ("three", [".", "three"])]:
+            within = os.path.join(folder, name)
+            os.makedirs(within)
             words = [program, "journal", "--cluster", path, "--journal", os.path.join(within, "journal")]
             status, _, told = run(words, steps, STEPS=log)
             judge(status == 0, f"status {status}: {told}")
