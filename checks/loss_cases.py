@@ -150,7 +150,7 @@ def run(words, steps=None, account=None, **variables):
 
 
 def folders_are_synced(program):
-    """A journal that is begun is on the disk by its whole path that may be new: its folder is synced, and the one above,
+    """A journal that is begun is on the disk with what of its path may be new: its folder is synced, and the one above,
     where the program may open that."""
     with tempfile.TemporaryDirectory(prefix="tundelca-") as folder:
         folder, log = os.path.realpath(folder), os.path.join(folder, "steps")
