@@ -150,15 +150,15 @@ def run(words, steps=None, account=None, **variables):
 
 
 def folders_are_synced(program):
-    """A journal that is begun is on the disk by its whole path that may be new: its folder is synced, and the one above,
+    """A journal that is begun is on the disk with what of its path may be new: its folder is synced, and the one above,
     where the program may open that."""
     with tempfile.TemporaryDirectory(prefix="tundelca-") as folder:
         folder, log = os.path.realpath(folder), os.path.join(folder, "steps")
         steps = lives.compiled("checks/steps.c", folder)
         path = tundelca.cluster_files(folder, ROLES[:1], *(tundelca.free_ports(1) for _ in range(2)), 0)[0]
-        for name, due in [("one/two", ["one", "one/two"]), (".", [".", ".."])]:
-            within = os.path.normpath(os.path.join(folder, name))
-            os.makedirs(within, exist_ok=True)
+        for name, due in [("one/two", ["one", "one/two"]), ("three", [".", "three"])]:
+            within = os.path.join(folder, name)
+            os.makedirs(within)
             words = [program, "journal", "--cluster", path, "--journal", os.path.join(within, "journal")]
             status, _, told = run(words, steps, STEPS=log)
             judge(status == 0, f"status {status}: {told}")
