@@ -87,16 +87,30 @@ impl Layer {
     }
 }
 
+/// Writes what comes of a row. Whether it is one.
+fn write_answer(
+    rt: &(impl Print + Eprint),
+    alloc: Global,
+    layer: &mut Layer,
+    line: &str,
+) -> io::Result<bool> {
+    match layer.answer_twice(alloc, line) {
+        Ok(text) => {
+            println!(rt; "{text}")?;
+            Ok(true)
+        }
+        Err(fault) => {
+            eprintln!(rt; "row_lab: {fault:?}: {line}")?;
+            Ok(false)
+        }
+    }
+}
+
 fn main(rt: HostRuntime) -> io::Result<ExitCode> {
     let mut layer = Layer::Blank;
     for line in BufReader::new(rt.alloc(), rt.reader())?.lines(rt.alloc()) {
-        let line = line?;
-        match layer.answer_twice(rt.alloc(), &line) {
-            Ok(text) => println!(rt; "{text}")?,
-            Err(fault) => {
-                eprintln!(rt; "row_lab: {fault:?}: {line}")?;
-                return Ok(ExitCode::from(3));
-            }
+        if !write_answer(&rt, rt.alloc(), &mut layer, &line?)? {
+            return Ok(ExitCode::from(3));
         }
     }
     Ok(ExitCode::SUCCESS)
