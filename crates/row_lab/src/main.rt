@@ -9,7 +9,7 @@ use lower_rows::Lower;
 use row_words::{RowFault, Words, text_of};
 use serving_rows::Serving;
 use std::alloc::Global;
-use std::io::{self, BufRead, BufReader};
+use std::io;
 use std::process::ExitCode;
 
 /// The value that the rows are about.
@@ -80,10 +80,21 @@ impl Layer {
     fn answer_twice(&mut self, alloc: Global, line: &str) -> Result<String, RowFault> {
         let before = self.seen();
         match self.answer(alloc, line) {
-            Err(RowFault::Memory) if self.seen() == before => self.answer(alloc, line),
-            Err(RowFault::Memory) => Err(RowFault::Changed),
+            Err(RowFault::Memory) => self.answer_again(alloc, line, before),
             answer => answer,
         }
+    }
+
+    fn answer_again(
+        &mut self,
+        alloc: Global,
+        line: &str,
+        before: [u64; 3],
+    ) -> Result<String, RowFault> {
+        if self.seen() != before {
+            return Err(RowFault::Changed);
+        }
+        self.answer(alloc, line)
     }
 }
 
@@ -106,12 +117,17 @@ fn write_answer(
     }
 }
 
-fn main(rt: HostRuntime) -> io::Result<ExitCode> {
+fn run(rt: &(impl Print + Eprint), alloc: Global, rows: &str) -> io::Result<ExitCode> {
     let mut layer = Layer::Blank;
-    for line in BufReader::new(rt.alloc(), rt.reader())?.lines(rt.alloc()) {
-        if !write_answer(&rt, rt.alloc(), &mut layer, &line?)? {
+    for line in rows.lines() {
+        if !write_answer(rt, alloc, &mut layer, line)? {
             return Ok(ExitCode::from(3));
         }
     }
     Ok(ExitCode::SUCCESS)
+}
+
+fn main(rt: HostRuntime) -> io::Result<ExitCode> {
+    let rows = io::read_to_string(rt.alloc(), rt.reader())?;
+    run(&rt, rt.alloc(), &rows)
 }
