@@ -45,6 +45,10 @@ fn begin(alloc: Global, line: &str) -> Result<Option<Layer>, RowFault> {
 }
 
 impl Layer {
+    fn become_layer(&mut self, layer: Layer) {
+        *self = layer;
+    }
+
     fn seen(&self) -> [u64; 3] {
         match self {
             Layer::Blank | Layer::Link(_) => [0; 3],
@@ -69,7 +73,7 @@ impl Layer {
     fn answer(&mut self, alloc: Global, line: &str) -> Result<String, RowFault> {
         match begin(alloc, line)? {
             Some(layer) => {
-                *self = layer;
+                self.become_layer(layer);
                 text_of(alloc, &"ok")
             }
             None => self.call(alloc, line),
@@ -117,10 +121,14 @@ fn write_answer(
     }
 }
 
-fn run(rt: &(impl Print + Eprint), alloc: Global, rows: &str) -> io::Result<ExitCode> {
-    let mut layer = Layer::Blank;
+fn run(
+    rt: &(impl Print + Eprint),
+    alloc: Global,
+    layer: &mut Layer,
+    rows: &str,
+) -> io::Result<ExitCode> {
     for line in rows.lines() {
-        if !write_answer(rt, alloc, &mut layer, line)? {
+        if !write_answer(rt, alloc, layer, line)? {
             return Ok(ExitCode::from(3));
         }
     }
@@ -129,5 +137,6 @@ fn run(rt: &(impl Print + Eprint), alloc: Global, rows: &str) -> io::Result<Exit
 
 fn main(rt: HostRuntime) -> io::Result<ExitCode> {
     let rows = io::read_to_string(rt.alloc(), rt.reader())?;
-    run(&rt, rt.alloc(), &rows)
+    let mut layer = Layer::Blank;
+    run(&rt, rt.alloc(), &mut layer, &rows)
 }
