@@ -2,7 +2,6 @@
 #![tactic(auto)]
 
 use row_words::RowFault;
-use std::alloc::Global;
 
 /// A layer's value.
 #[derive(Drop)]
@@ -21,7 +20,7 @@ pub fn has(_layer: &str) -> bool {
 /// # Errors
 ///
 /// `BadRow`, or `Memory`.
-pub fn begin(_alloc: Global, _line: &str) -> Result<Journal, RowFault> {
+pub fn begin(_rt: &HostRuntime, _line: &str) -> Result<Journal, RowFault> {
     Err(RowFault::BadRow)
 }
 
@@ -31,7 +30,7 @@ impl Journal {
     /// # Errors
     ///
     /// `BadRow`, or `Memory`, where nothing may have changed.
-    pub fn answer(&mut self, _alloc: Global, _line: &str) -> Result<String, RowFault> {
+    pub fn answer(&mut self, _rt: &HostRuntime, _line: &str) -> Result<String, RowFault> {
         match self {
             Journal::Blank => Err(RowFault::BadRow),
         }
