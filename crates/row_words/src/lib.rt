@@ -3,13 +3,13 @@
 #![tactic(auto)]
 
 mod fault;
-mod layers;
+mod files;
 mod said;
 mod text;
 mod words;
 
 pub use fault::RowFault;
-pub use layers::{Layers, run};
+pub use files::{Layers, run};
 pub use said::{Behind, OrNone, Spelled, kind_word};
 pub use text::{hex_text, list_text, permissions_text, text_of, yes_or_no};
 pub use words::Words;
