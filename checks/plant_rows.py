@@ -249,11 +249,10 @@ def failed_tests(copy, host):
 
 def failed_rows(copy):
     """The files of rows of which a row is answered otherwise, each with the first such row."""
-    paths = rows.files()
-    asked = [(path, row) for path in paths for row in rows.rows_of(path)]
-    found, said = {}, ""
-    while asked:
-        ran = copy.try_in("row_lab", given=rows.given([row for _, row in asked]))
+    paths, found, said = rows.files(), {}, ""
+    while paths:
+        asked = [(path, row) for path in paths for row in rows.rows_of(path)]
+        ran = copy.try_in("row_lab", given=rows.given_files(paths))
         said = (ran.stdout + ran.stderr).decode("utf-8", "replace")
         came = ran.stdout.decode("utf-8", "replace").splitlines()
         end = next((n for n, (_, row) in enumerate(asked) if n >= len(came) or came[n].startswith("checked: ")), None)
@@ -264,8 +263,7 @@ def failed_rows(copy):
             break
         path, row = asked[end]
         found.setdefault(rows.named(path)[5:], f"{row.call}: the program ended")
-        rest = [n for n in range(end, len(asked)) if asked[n][0] != path]
-        asked = asked[rest[0]:] if rest else []
+        paths = paths[paths.index(path) + 1:]
         if end == 0 and "error" in said:
             raise AssertionError(said[-1500:])
     return found, said

@@ -73,6 +73,11 @@ def given(rows):
     return "".join(row.call + "\n" for row in rows).encode()
 
 
+def given_files(paths):
+    """What the program reads of these files, with an empty line between two."""
+    return b"\n".join(given(rows_of(path)) for path in paths)
+
+
 def due(rows):
     """What it has to write then."""
     return "".join(row.due + "\n" for row in rows).encode()
@@ -96,7 +101,7 @@ def faults_of(program, path):
 def by_trial(paths):
     """The same of all these files at once, by `rt try`, and without what is said of a run as a whole."""
     rows = [(path, row) for path in paths for row in rows_of(path)]
-    ran = subprocess.run(["rt", "try"], input=given([row for _, row in rows]), capture_output=True,
+    ran = subprocess.run(["rt", "try"], input=given_files(paths), capture_output=True,
                          cwd=os.path.join(TOP, "crates", "row_lab"))
     came = ran.stdout.decode("utf-8", "replace").splitlines()
     faults = [f"{named(path)}, line {row.number}: {row.call}: due {row.due!r}, came {answer!r}"

@@ -8,7 +8,7 @@ use lower_rows::said::{Decided, Replied};
 use quorum_sizes::{NodeName, NodeSet, Sizes};
 use role_commands::Command;
 use role_node::Config;
-use row_words::{OrNone, RowFault, Words, text_of, yes_or_no};
+use row_words::{Layers, OrNone, RowFault, Words, text_of, yes_or_no};
 use std::alloc::Global;
 use std::fmt;
 use std::fmt::Display;
@@ -22,40 +22,37 @@ pub struct Cluster {
     world: Option<World>,
 }
 
-/// Whether a row with this first word begins this layer.
-pub fn has(layer: &str) -> bool {
-    layer == "cluster"
-}
-
-/// The layer's value before any row.
-pub fn begin() -> Cluster {
-    Cluster { world: None }
-}
-
-impl Cluster {
-    /// Makes the call that the row spells, and says what came.
-    ///
-    /// # Errors
-    ///
-    /// `BadRow`, or `Memory`, where nothing may have changed.
-    pub fn answer(&mut self, alloc: Global, line: &str) -> Result<String, RowFault> {
-        let mut words = Words::new(line);
-        match words.word() {
-            "world" => new_world(alloc, self, &mut words),
-            "run" => run(alloc, self, &mut words),
-            name => match &mut self.world {
-                Some(world) => of_world(alloc, world, name, &mut words),
-                None => Err(RowFault::BadRow),
-            },
-        }
+impl Layers for Cluster {
+    fn has(layer: &str) -> bool {
+        layer == "cluster"
     }
 
-    /// How much was sent and recorded: some numbers that tell whether anything has changed, without memory.
-    pub fn seen(&self) -> [u64; 3] {
+    fn begin(_rt: &HostRuntime, _line: &str) -> Result<Self, RowFault> {
+        Ok(Cluster { world: None })
+    }
+
+    fn answer(&mut self, rt: &HostRuntime, line: &str) -> Result<String, RowFault> {
+        answer(rt.alloc(), self, line)
+    }
+
+    /// How much was sent and recorded.
+    fn seen(&self) -> [u64; 3] {
         match &self.world {
             Some(world) => [u64::from(world.sent_len()), world.run_len(), 1],
             None => [0; 3],
         }
+    }
+}
+
+fn answer(alloc: Global, cluster: &mut Cluster, line: &str) -> Result<String, RowFault> {
+    let mut words = Words::new(line);
+    match words.word() {
+        "world" => new_world(alloc, cluster, &mut words),
+        "run" => run(alloc, cluster, &mut words),
+        name => match &mut cluster.world {
+            Some(world) => of_world(alloc, world, name, &mut words),
+            None => Err(RowFault::BadRow),
+        },
     }
 }
 

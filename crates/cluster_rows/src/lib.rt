@@ -3,4 +3,4 @@
 
 mod cluster;
 
-pub use cluster::{Cluster, begin, has};
+pub use cluster::Cluster;

@@ -9,4 +9,4 @@ mod link;
 mod quorums;
 mod table;
 
-pub use link::{Link, begin, has};
+pub use link::Link;

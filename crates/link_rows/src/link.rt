@@ -5,7 +5,7 @@ use crate::lines::Lines;
 use crate::quorums::Quorums;
 use crate::{commands, frames, lines, quorums, table};
 use role_commands::RoleTable;
-use row_words::{RowFault, Words};
+use row_words::{Layers, RowFault, Words};
 use std::alloc::Global;
 
 /// A layer's value.
@@ -23,17 +23,25 @@ pub enum Link {
     Lines(Lines),
 }
 
-/// Whether a row with this first word begins one of these layers.
-pub fn has(layer: &str) -> bool {
-    matches!(layer, "quorums" | "commands" | "table" | "frames" | "lines")
+impl Layers for Link {
+    fn has(layer: &str) -> bool {
+        matches!(layer, "quorums" | "commands" | "table" | "frames" | "lines")
+    }
+
+    fn begin(rt: &HostRuntime, line: &str) -> Result<Self, RowFault> {
+        begin(rt.alloc(), line)
+    }
+
+    fn answer(&mut self, rt: &HostRuntime, line: &str) -> Result<String, RowFault> {
+        answer(rt.alloc(), self, line)
+    }
+
+    fn seen(&self) -> [u64; 3] {
+        [0; 3]
+    }
 }
 
-/// The value of the layer that the row begins.
-///
-/// # Errors
-///
-/// `BadRow`, or `Memory`.
-pub fn begin(alloc: Global, line: &str) -> Result<Link, RowFault> {
+fn begin(alloc: Global, line: &str) -> Result<Link, RowFault> {
     let mut words = Words::new(line);
     match words.word() {
         "quorums" => Ok(Link::Quorums(quorums::begin())),
@@ -45,19 +53,12 @@ pub fn begin(alloc: Global, line: &str) -> Result<Link, RowFault> {
     }
 }
 
-impl Link {
-    /// Makes the call that the row spells, and says what came.
-    ///
-    /// # Errors
-    ///
-    /// `BadRow`, or `Memory`, where nothing may have changed.
-    pub fn answer(&mut self, alloc: Global, line: &str) -> Result<String, RowFault> {
-        match self {
-            Link::Quorums(quorums) => quorums::answer(alloc, quorums, line),
-            Link::Commands => commands::answer(alloc, line),
-            Link::Table(table) => table::answer(alloc, table, line),
-            Link::Frames(frames) => frames::answer(alloc, frames, line),
-            Link::Lines(lines) => lines::answer(alloc, lines, line),
-        }
+fn answer(alloc: Global, link: &mut Link, line: &str) -> Result<String, RowFault> {
+    match link {
+        Link::Quorums(quorums) => quorums::answer(alloc, quorums, line),
+        Link::Commands => commands::answer(alloc, line),
+        Link::Table(table) => table::answer(alloc, table, line),
+        Link::Frames(frames) => frames::answer(alloc, frames, line),
+        Link::Lines(lines) => lines::answer(alloc, lines, line),
     }
 }

@@ -12,4 +12,4 @@ pub mod said;
 mod sessions;
 mod streams;
 
-pub use lower::{Lower, begin, has};
+pub use lower::Lower;

@@ -7,7 +7,7 @@ use crate::{instance, node, policy, sessions, streams};
 use link_frames::hmac_sha256;
 use rbac_state::Policy;
 use role_node::Node;
-use row_words::{RowFault, Words, hex_text};
+use row_words::{Layers, RowFault, Words, hex_text};
 use std::alloc::Global;
 
 /// A layer's value.
@@ -25,20 +25,34 @@ pub enum Lower {
     Node(Node),
 }
 
-/// Whether a row with this first word begins one of these layers.
-pub fn has(layer: &str) -> bool {
-    matches!(
-        layer,
-        "instance" | "streams" | "policy" | "sessions" | "node"
-    )
+impl Layers for Lower {
+    fn has(layer: &str) -> bool {
+        matches!(
+            layer,
+            "instance" | "streams" | "policy" | "sessions" | "node"
+        )
+    }
+
+    fn begin(rt: &HostRuntime, line: &str) -> Result<Self, RowFault> {
+        begin(rt.alloc(), line)
+    }
+
+    fn answer(&mut self, rt: &HostRuntime, line: &str) -> Result<String, RowFault> {
+        answer(rt.alloc(), self, line)
+    }
+
+    fn seen(&self) -> [u64; 3] {
+        match self {
+            Lower::Instance(rows) => instance::seen(rows),
+            Lower::Streams(rows) => streams::seen(rows),
+            Lower::Policy(policy) => policy::seen(policy),
+            Lower::Sessions(bench) => sessions::seen(bench),
+            Lower::Node(node) => node::seen(node),
+        }
+    }
 }
 
-/// The value of the layer that the row begins.
-///
-/// # Errors
-///
-/// `BadRow`, or `Memory`.
-pub fn begin(alloc: Global, line: &str) -> Result<Lower, RowFault> {
+fn begin(alloc: Global, line: &str) -> Result<Lower, RowFault> {
     let mut words = Words::new(line);
     match words.word() {
         "instance" => Ok(Lower::Instance(instance::begin(alloc, &mut words)?)),
@@ -50,41 +64,24 @@ pub fn begin(alloc: Global, line: &str) -> Result<Lower, RowFault> {
     }
 }
 
-impl Lower {
-    /// Makes the call that the row spells, and says what came: behind `digest` by the HMAC of that text under `rows`.
-    ///
-    /// # Errors
-    ///
-    /// `BadRow`, or `Memory`, where nothing may have changed.
-    pub fn answer(&mut self, alloc: Global, line: &str) -> Result<String, RowFault> {
-        match line.strip_prefix("digest ") {
-            Some(line) => {
-                let text = self.call(alloc, line)?;
-                digest(alloc, text.as_bytes())
-            }
-            None => self.call(alloc, line),
+/// What comes of a row: behind `digest` the HMAC of that text under `rows`.
+fn answer(alloc: Global, lower: &mut Lower, line: &str) -> Result<String, RowFault> {
+    match line.strip_prefix("digest ") {
+        Some(line) => {
+            let text = call(alloc, lower, line)?;
+            digest(alloc, text.as_bytes())
         }
+        None => call(alloc, lower, line),
     }
+}
 
-    fn call(&mut self, alloc: Global, line: &str) -> Result<String, RowFault> {
-        match self {
-            Lower::Instance(rows) => instance::answer(alloc, rows, line),
-            Lower::Streams(rows) => streams::answer(alloc, rows, line),
-            Lower::Policy(policy) => policy::answer(alloc, policy, line),
-            Lower::Sessions(bench) => sessions::answer(alloc, bench, line),
-            Lower::Node(node) => node::answer(alloc, node, line),
-        }
-    }
-
-    /// Some numbers that tell whether anything has changed, without memory.
-    pub fn seen(&self) -> [u64; 3] {
-        match self {
-            Lower::Instance(rows) => instance::seen(rows),
-            Lower::Streams(rows) => streams::seen(rows),
-            Lower::Policy(policy) => policy::seen(policy),
-            Lower::Sessions(bench) => sessions::seen(bench),
-            Lower::Node(node) => node::seen(node),
-        }
+fn call(alloc: Global, lower: &mut Lower, line: &str) -> Result<String, RowFault> {
+    match lower {
+        Lower::Instance(rows) => instance::answer(alloc, rows, line),
+        Lower::Streams(rows) => streams::answer(alloc, rows, line),
+        Lower::Policy(policy) => policy::answer(alloc, policy, line),
+        Lower::Sessions(bench) => sessions::answer(alloc, bench, line),
+        Lower::Node(node) => node::answer(alloc, node, line),
     }
 }
 

@@ -1,103 +1,43 @@
 //! A laboratory for the libraries. It reads rows on standard input, each a call of a layer, and writes a line for each:
-//! what came. Where memory is wanting for a call, nothing may have changed, and the call is made once more.
+//! what came. Where memory is wanting for a call, nothing may have changed, and the call is made once more. Files are
+//! parted by an empty line.
 #![tactic(auto)]
 
+mod journal;
+mod serving;
+
 use cluster_rows::Cluster;
-use journal_rows::Journal;
+use journal::Journal;
 use link_rows::Link;
 use lower_rows::Lower;
-use row_words::{RowFault, Words, text_of};
-use serving_rows::Serving;
-use std::io::{self, BufRead, BufReader};
+use row_words::{Layers, Words, run};
+use serving::Serving;
+use std::io;
 use std::process::ExitCode;
 
-/// The value that the rows are about.
-#[derive(Drop)]
-enum Layer {
-    Blank,
-    Link(Link),
-    Lower(Lower),
-    Cluster(Cluster),
-    Serving(Serving),
-    Journal(Journal),
-}
-
-/// The value of the layer that the row begins, if it begins one.
-fn begin(rt: &HostRuntime, line: &str) -> Result<Option<Layer>, RowFault> {
-    let alloc = rt.alloc();
-    let layer = Words::new(line).word();
-    if link_rows::has(layer) {
-        return Ok(Some(Layer::Link(link_rows::begin(alloc, line)?)));
+/// Runs the rows of a file, by the library whose layer its first row begins. Whether each was a row.
+fn run_file(rt: &HostRuntime, rows: &str) -> io::Result<bool> {
+    let layer = Words::new(rows.lines().next().unwrap_or("")).word();
+    if Link::has(layer) {
+        return run::<Link>(rt, rows);
     }
-    if lower_rows::has(layer) {
-        return Ok(Some(Layer::Lower(lower_rows::begin(alloc, line)?)));
+    if Lower::has(layer) {
+        return run::<Lower>(rt, rows);
     }
-    if cluster_rows::has(layer) {
-        return Ok(Some(Layer::Cluster(cluster_rows::begin())));
+    if Cluster::has(layer) {
+        return run::<Cluster>(rt, rows);
     }
-    if serving_rows::has(layer) {
-        return Ok(Some(Layer::Serving(serving_rows::begin(alloc, line)?)));
+    if Serving::has(layer) {
+        return run::<Serving>(rt, rows);
     }
-    if journal_rows::has(layer) {
-        return Ok(Some(Layer::Journal(journal_rows::begin(rt, line)?)));
-    }
-    Ok(None)
-}
-
-impl Layer {
-    fn seen(&self) -> [u64; 3] {
-        match self {
-            Layer::Blank | Layer::Link(_) => [0; 3],
-            Layer::Lower(lower) => lower.seen(),
-            Layer::Cluster(cluster) => cluster.seen(),
-            Layer::Serving(serving) => serving.seen(),
-            Layer::Journal(journal) => journal.seen(),
-        }
-    }
-
-    fn call(&mut self, rt: &HostRuntime, line: &str) -> Result<String, RowFault> {
-        let alloc = rt.alloc();
-        match self {
-            Layer::Blank => Err(RowFault::BadRow),
-            Layer::Link(link) => link.answer(alloc, line),
-            Layer::Lower(lower) => lower.answer(alloc, line),
-            Layer::Cluster(cluster) => cluster.answer(alloc, line),
-            Layer::Serving(serving) => serving.answer(alloc, line),
-            Layer::Journal(journal) => journal.answer(rt, line),
-        }
-    }
-
-    fn answer(&mut self, rt: &HostRuntime, line: &str) -> Result<String, RowFault> {
-        match begin(rt, line)? {
-            Some(layer) => {
-                *self = layer;
-                text_of(rt.alloc(), &"ok")
-            }
-            None => self.call(rt, line),
-        }
-    }
-
-    /// What comes of a row. Where memory is wanting nothing has changed, and the call is made once more.
-    fn answer_twice(&mut self, rt: &HostRuntime, line: &str) -> Result<String, RowFault> {
-        let before = self.seen();
-        match self.answer(rt, line) {
-            Err(RowFault::Memory) if self.seen() == before => self.answer(rt, line),
-            Err(RowFault::Memory) => Err(RowFault::Changed),
-            answer => answer,
-        }
-    }
+    run::<Journal>(rt, rows)
 }
 
 fn main(rt: HostRuntime) -> io::Result<ExitCode> {
-    let mut layer = Layer::Blank;
-    for line in BufReader::new(rt.alloc(), rt.reader())?.lines(rt.alloc()) {
-        let line = line?;
-        match layer.answer_twice(&rt, &line) {
-            Ok(text) => println!(rt; "{text}")?,
-            Err(fault) => {
-                eprintln!(rt; "row_lab: {fault:?}: {line}")?;
-                return Ok(ExitCode::from(3));
-            }
+    let rows = io::read_to_string(rt.alloc(), rt.reader())?;
+    for file in rows.split("\n\n") {
+        if !run_file(&rt, file)? {
+            return Ok(ExitCode::from(3));
         }
     }
     Ok(ExitCode::SUCCESS)
