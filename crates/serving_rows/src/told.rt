@@ -37,7 +37,7 @@ pub fn answer(alloc: Global, told: &mut Told, line: &str) -> Result<String, RowF
     let mut words = Words::new(line);
     match words.word() {
         "reaches" => reaches(alloc, told, &mut words),
-        "journal" => journal(alloc, told, &mut words),
+        "syncs" => syncs(alloc, told, &mut words),
         "myself" => peer(alloc, told, None),
         "peer" => peer(alloc, told, Some(peer_of(&mut words)?)),
         "status" => status(alloc, told),
@@ -64,8 +64,8 @@ fn reaches(alloc: Global, told: &mut Told, words: &mut Words<'_>) -> Result<Stri
     text_of(alloc, &"ok")
 }
 
-/// `journal SYNCS LAST MEAN WORST SOUND`
-fn journal(alloc: Global, told: &mut Told, words: &mut Words<'_>) -> Result<String, RowFault> {
+/// `syncs SYNCS LAST MEAN WORST SOUND`: how the journal stands.
+fn syncs(alloc: Global, told: &mut Told, words: &mut Words<'_>) -> Result<String, RowFault> {
     let times = SyncTimes {
         syncs: words.long()?,
         last: words.long()?,

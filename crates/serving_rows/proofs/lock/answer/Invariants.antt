@@ -1,4 +1,4 @@
 use Rattle.serving_rows.proofs.lock.answer.Given as goal
 
 abbrev pub ghosts-answer_last : goal.ghosts-answer_last
-ghosts-answer_last g a = record { name = a.blank.name; parts = a.blank.parts }
+ghosts-answer_last a = record { name = a.blank.name; parts = a.blank.parts }
