@@ -35,7 +35,7 @@ use words::{Keeping, Words, read_words};
 fn main(rt: HostRuntime) -> ExitCode {
     match words_given(&rt) {
         Ok(Words::Serve { cluster, keeping }) => match given_of(&rt, &cluster) {
-            Ok(given) => ended(&rt, serve(&rt, &rt, given, keeping)),
+            Ok(given) => ended(&rt, serve_given(&rt, &rt, given, keeping)),
             Err(fault) => ended(&rt, Err(Fault::Given(fault))),
         },
         Ok(words) => ended(&rt, answer(&rt, words)),
@@ -55,7 +55,7 @@ fn ended(rt: &HostRuntime, outcome: Result<(), Fault>) -> ExitCode {
 }
 
 /// Serves the node that is given, which keeps what it records as it was said.
-fn serve<R>(rt: &R, host: &HostRuntime, given: Given, keeping: Keeping) -> Result<(), Fault>
+fn serve_given<R>(rt: &R, host: &HostRuntime, given: Given, keeping: Keeping) -> Result<(), Fault>
 where
     R: Net<Listener = TcpListener, Stream = TcpStream> + Threads + Wait + Clock + Sync,
     requires me { IsNodeSetup given.setup }
@@ -82,7 +82,7 @@ fn answer(rt: &HostRuntime, words: Words) -> Result<(), Fault> {
         }
         Words::Check { cluster, journal } => {
             let given = given_of(rt, &cluster)?;
-            report(rt, &given)?;
+            say_report(rt, &given)?;
             match journal {
                 Some(path) => check(rt, given, &path),
                 None => Ok(()),
@@ -102,7 +102,7 @@ fn begin_journal(rt: &HostRuntime, given: &Given, path: &str) -> Result<(), Faul
 }
 
 /// Says what a cluster file is.
-fn report(rt: &HostRuntime, given: &Given) -> Result<(), Fault>
+fn say_report(rt: &HostRuntime, given: &Given) -> Result<(), Fault>
     requires peers { IsServerSetup given.now.setup }
     requires hosts { HasHosts given.now }
 {
