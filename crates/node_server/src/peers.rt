@@ -296,21 +296,22 @@ impl<'a, 'b, N: HeldNode, K: FrameKeys, R: Wait + Clock> Peers<'a, 'b, N, K, R> 
         ) else {
             return 0;
         };
+        let (before, number) = (connection.opened, connection.number);
         let frames = connection.frames().get(turn.from..turn.to).unwrap_or(&[]);
-        let opened = open_frames(&server.keys, frames, connection.opened, &mut self.packets);
+        let opened = open_frames(&server.keys, frames, before, &mut self.packets);
         let Ok(Opened { peer, unopened }) = opened else {
             return 0;
         };
-        if connection.opened != peer {
-            connection.opened = peer;
+        connection.opened = peer;
+        let caller = Caller::Peer {
+            place,
+            connection: number,
+        };
+        if before != peer {
             self.next_end = 0;
             self.is_news = true;
         }
         self.is_news |= unopened > 0;
-        let caller = Caller::Peer {
-            place,
-            connection: connection.number,
-        };
         for _ in 0..unopened {
             self.heard.note_unopened(peer);
         }
