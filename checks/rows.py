@@ -107,7 +107,8 @@ def by_trial(paths):
     faults = [f"{named(path)}, line {row.number}: {row.call}: due {row.due!r}, came {answer!r}"
               for (path, row), answer in zip(rows, came + ["nothing"] * len(rows)) if row.due != answer]
     if faults:
-        raise AssertionError("\n".join([*faults[:40], ran.stderr.decode("utf-8", "replace")[-2000:]]))
+        said = came[len(rows):] or came[-20:]
+        raise AssertionError("\n".join([*faults[:40], *said, ran.stderr.decode("utf-8", "replace")[-2000:]]))
     return f"{len(rows)} rows of {len(paths)} files, tried"
 
 
