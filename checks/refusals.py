@@ -289,7 +289,8 @@ def sweep_page(refuser, folder, kind):
 
     def run(_, at):
         ports = tundelca.free_ports(2)
-        [path] = tundelca.cluster_files(folder, [(2, 0)], ports[:1], ports[1:], 0)
+        own = tempfile.mkdtemp(dir=folder)
+        [path] = tundelca.cluster_files(own, [(2, 0)], ports[:1], ports[1:], 0)
         process = subprocess.Popen(
             [program, "serve", "--in-memory", "--cluster", path], env=refuser.environment(kind, at),
             stdin=subprocess.DEVNULL, stdout=subprocess.DEVNULL, stderr=subprocess.DEVNULL)
