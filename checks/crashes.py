@@ -1,8 +1,8 @@
 #!/usr/bin/env python3
 """Whether nodes with journals keep what they said over crashes: crashes [CHECKOUT] [--only CASE] [--seed NUMBER]
 
-CHECKOUT is where `tundelca` was built, or the program; this checkout if it is left out. --only runs the cases whose
-name begins so. The seed of what is drawn is printed, and --seed takes it again; the nodes' own moments aren't repeated.
+CHECKOUT is where `tundelca` was built, or the program; this checkout if it is left out. The seed of what is drawn is
+printed, and --seed takes it again; the nodes' own moments aren't repeated.
 
 In killed, torn, ended and broken four nodes of five are ended at any moment, by SIGKILL or SIGTERM, one after another,
 two at a time and all at once, or by writes and syncs that fail, while commands go out and sessions are opened. The
@@ -12,25 +12,22 @@ shorter; all reaches agree in the end, without any `again`; and no restart takes
 (checks/tear.c) leaves only some bytes of what was not synced, as a loss of power may. The other cases are told at their
 functions.
 
-Each case prints a line. Ends by itself, in two minutes if all goes well; all traffic is on 127.0.0.1, and only
+Ends by itself, in two minutes if all goes well; all traffic is on 127.0.0.1, and only
 processes that were started here are ended.
 """
-import argparse
 import contextlib
 import json
 import os
-import random
 import resource
 import signal
 import subprocess
-import sys
-import tempfile
 import time
 
-sys.dont_write_bytecode = True
-from cluster import PATIENCE, ROLE, TOP, program_of, tundelca  # noqa: E402
-from lives import Failed, Lives, compiled  # noqa: E402
-from loads import Load, ask_on  # noqa: E402
+import runner
+from cluster import PATIENCE, ROLE, Cluster, read_text, tundelca, write_text
+from lives import Lives, compiled
+from loads import Load, ask_on
+from runner import Failed
 
 RESTART = 1.0  # seconds from a start to the first answer, beside what two syncs take meanwhile
 SOON = 15  # seconds in which all reaches agree after the last crash
@@ -57,7 +54,7 @@ def crash(lives, rng, signals):
     nodes = list(lives.running)
     some = rng.sample(nodes, rng.choice([1, 1, 1, 2, 2, len(nodes)]))
     for me in some:
-        lives.kill(me, rng.choice(signals))
+        lives.crash(me, rng.choice(signals))
         time.sleep(rng.choice([0, 0, 0.02]))
     time.sleep(rng.random() * 0.1)
     for me in some:
@@ -71,7 +68,7 @@ def crash(lives, rng, signals):
 def crashes(program, rng, commands, signals, library=None):
     """Four nodes of five are ended at any moment. What came."""
     with Lives(program, library=library) as lives:
-        lives.begin()
+        lives.begin_loads()
         end, ended = time.monotonic() + LONGEST, 0
         while lives.answered() < commands and time.monotonic() < end:
             ended += crash(lives, rng, signals)
@@ -79,7 +76,7 @@ def crashes(program, rng, commands, signals, library=None):
         took = lives.settle(SOON)
         lives.compare()
         for me in list(lives.running):
-            lives.kill(me, signal.SIGKILL)
+            lives.crash(me, signal.SIGKILL)
         for me in range(lives.correct):
             lives.start(me)
             lives.await_start(me, RESTART)
@@ -108,12 +105,12 @@ def broken(program, rng, folder):
     """Each life ends by itself, with status 4, at a write of the journal or a sync that fails."""
     with Lives(program, library=compiled("checks/refuse.c", folder)) as lives:
         lives.faults = subprocess.DEVNULL
-        lives.begin()
+        lives.begin_loads()
         end, ended = time.monotonic() + LONGEST, 0
         while lives.answered() < COMMANDS // 4 and time.monotonic() < end:
             for me, process in list(lives.running.items()):
                 if me not in lives.told:
-                    lives.kill(me, signal.SIGKILL)
+                    lives.crash(me, signal.SIGKILL)
                 elif process.poll() is None:
                     continue
                 elif process.returncode != 4:
@@ -121,13 +118,13 @@ def broken(program, rng, folder):
                 else:
                     ended += 1
                 kind, at = rng.choice(["keep", "sync"]), rng.randrange(20, 200)
-                lives.told[me] = [f"REFUSE_KIND={kind}", f"REFUSE_AT={at}", f"REFUSE_MARK={folder}/mark"]
+                lives.told[me] = {"REFUSE_KIND": kind, "REFUSE_AT": str(at), "REFUSE_MARK": f"{folder}/mark"}
                 lives.start(me)
             time.sleep(0.01)
         lives.end_loads()
         lives.told = {}
-        for me, process in list(lives.running.items()):
-            finish(process)
+        for me in list(lives.running):
+            lives.kill(me)
             lives.start(me)
             lives.await_start(me, RESTART)
         took = lives.settle(SOON)
@@ -136,33 +133,36 @@ def broken(program, rng, folder):
                 f"answered and {lives.kept():,} frames kept; all agree after {took:.1f} s")
 
 
-class One:
-    """A cluster of one node, with a journal."""
+class One(Cluster):
+    """A cluster of which node 0 alone is a process, with a journal. What it says on standard error is kept."""
 
-    def __init__(self, program, folder, name, nodes=1):
-        self.program, self.folder = program, os.path.join(folder, name)
-        os.mkdir(self.folder)
-        ports = tundelca.free_ports(2 * nodes)
-        roles, (here, clients) = [(ROLE, 0)], (ports[:nodes], ports[nodes:])
-        self.path = tundelca.cluster_files(self.folder, roles, here, clients, nodes // 4)[0]
-        self.port, self.journal = ports[nodes], os.path.join(self.folder, "journal")
+    def __init__(self, program, nodes=1, is_begun=True):
+        super().__init__(program, nodes, nodes // 4, running=(), has_journals=True)
+        self.path, self.journal_path = self.paths[0], self.journal(0)
+        self.faults, self.most = subprocess.PIPE, None
+        if is_begun:
+            expect(run(self.words(0, "journal")), 0, "", "a journal is begun")
 
-    def words(self, word="serve"):
-        return [self.program, word, "--cluster", self.path, "--journal", self.journal]
+    def settings(self, me):
+        return {**super().settings(me), "preexec_fn": self.limit}
 
-    def begin(self):
-        expect(run(self.words("journal")), 0, "", "a journal is begun")
-        return self
+    def limit(self):
+        """No file gets longer than `most` bytes."""
+        if self.most is not None:
+            signal.signal(signal.SIGXFSZ, signal.SIG_IGN)
+            resource.setrlimit(resource.RLIMIT_FSIZE, (self.most, self.most))
 
-    def start(self, **given):
-        return subprocess.Popen(self.words(), stdin=subprocess.DEVNULL, stderr=subprocess.PIPE, **given)
+    def begin_life(self):
+        """Starts the node, and doesn't wait for it. Its process."""
+        self.start(0)
+        return self.running[0]
 
-    def talk(self, process, most, block=1):
+    def talk(self, most, block=1):
         """Publishes until the node ends, so many commands at most, a block at a time. The users that were answered."""
-        answered, end = [], time.monotonic() + PATIENCE
+        process, answered, end = self.running[0], [], time.monotonic() + PATIENCE
         while process.poll() is None and time.monotonic() < end:
             with contextlib.suppress(tundelca.Unreachable, OSError):
-                with tundelca.Client(self.port, PATIENCE) as node:
+                with self.client(0) as node:
                     for first in range(node.reach(0), most, block):
                         users = range(first, min(first + block, most))
                         lines = [json.dumps({"op": "assign", "user": user, "role": ROLE}) + "\n" for user in users]
@@ -180,34 +180,19 @@ class One:
 
     def kept(self, answered):
         """The next life has all that was answered, and is stopped."""
-        process = self.start()
+        process = self.begin_life()
         try:
-            end = time.monotonic() + PATIENCE
-            while True:
-                try:
-                    with tundelca.Client(self.port, PATIENCE) as node:
-                        if node.ask("reach", owner=0)["reach"] <= max(answered, default=-1):
-                            node.wait_for_reach(0, max(answered) + 1)
-                        users = node.listing("assigned_users", role=ROLE)
-                        node.ask("stop")
-                    break
-                except tundelca.Unreachable:
-                    if process.poll() is not None or time.monotonic() > end:
-                        raise Failed(f"a node isn't served again: {process.poll()}") from None
-                    time.sleep(0.005)
+            self.wait()
+            with self.client(0) as node:
+                if node.ask("reach", owner=0)["reach"] <= max(answered, default=-1):
+                    node.wait_for_reach(0, max(answered) + 1)
+                users = node.listing("assigned_users", role=ROLE)
+                node.ask("stop")
             if not set(answered) <= set(users):
                 raise Failed(f"of what was answered {sorted(set(answered) - set(users))[:5]} is gone")
             return process.wait(PATIENCE)
         finally:
-            finish(process)
-
-
-def finish(process):
-    if process.poll() is None:
-        process.kill()
-    process.wait()
-    if process.stderr:
-        process.stderr.close()
+            self.kill(0)
 
 
 def failing(program, rng, folder):
@@ -215,121 +200,132 @@ def failing(program, rng, folder):
     life goes on."""
     library, counts = compiled("checks/refuse.c", folder), {}
     for kind in ("keep", "sync"):
-        counts[kind], one = 0, One(program, folder, f"failing-{kind}").begin()
-        for at in range(1, 30):
-            mark = os.path.join(folder, f"{kind}-{at}")
-            refusal = {"LD_PRELOAD": library, "REFUSE_KIND": kind, "REFUSE_AT": str(at), "REFUSE_MARK": mark}
-            process = one.start(env={**os.environ, **refusal})
-            try:
-                answered = one.talk(process, 12 * at)
-                if process.poll() is None and os.path.exists(mark):
-                    process.wait(PATIENCE)
-                if process.poll() is None:
-                    tundelca.stop(one.port, process)
-                status = process.wait(PATIENCE)
-                due = (4,) if answered else (4, 6)  # 6 where the journal isn't opened
-                if status not in (due if os.path.exists(mark) else (0,)):
-                    raise Failed(f"{kind} {at}: status {status} after {len(answered)} commands")
-                counts[kind] += os.path.exists(mark)
-            finally:
-                finish(process)
-            if one.kept(answered) != 0:
-                raise Failed(f"{kind} {at}: the next life was not stopped well")
+        with One(program) as one:
+            marks = [os.path.join(folder, f"{kind}-{at}") for at in range(1, 30)]
+            counts[kind] = sum([is_failing(one, library, kind, at, mark) for at, mark in enumerate(marks, 1)])
     return f"{counts['keep']} writes and {counts['sync']} syncs failed"
 
 
-def full(program, rng, folder):
-    """The journal may not grow: the node ends with status 4, and goes on once there is room."""
-    one = One(program, folder, "full").begin()
-    size = os.path.getsize(one.journal)
-
-    def limit():
-        signal.signal(signal.SIGXFSZ, signal.SIG_IGN)
-        resource.setrlimit(resource.RLIMIT_FSIZE, (size, size))
-
-    process = one.start(preexec_fn=limit)
+def is_failing(one, library, kind, at, mark):
+    """Whether a call of the kind failed in a life, which ends as it has to."""
+    one.variables = {"LD_PRELOAD": library, "REFUSE_KIND": kind, "REFUSE_AT": str(at), "REFUSE_MARK": mark}
+    process = one.begin_life()
     try:
-        answered = one.talk(process, 60_000, block=32)
+        answered = one.talk(12 * at)
+        if process.poll() is None and os.path.exists(mark):
+            process.wait(PATIENCE)
+        if process.poll() is None:
+            one.stop(0)
         status = process.wait(PATIENCE)
-        if status != 4:
-            raise Failed(f"status {status} after {len(answered)} commands")
+        due = (4,) if answered else (4, 6)  # 6 where the journal isn't opened
+        if status not in (due if os.path.exists(mark) else (0,)):
+            raise Failed(f"{kind} {at}: status {status} after {len(answered)} commands")
     finally:
-        finish(process)
+        one.kill(0)
+    one.variables = {}
     if one.kept(answered) != 0:
-        raise Failed("the next life was not stopped well")
+        raise Failed(f"{kind} {at}: the next life was not stopped well")
+    return os.path.exists(mark)
+
+
+def full(program, rng, _):
+    """The journal may not grow: the node ends with status 4, and goes on once there is room."""
+    with One(program) as one:
+        one.most = os.path.getsize(one.journal_path)
+        process = one.begin_life()
+        try:
+            answered = one.talk(60_000, block=32)
+            status = process.wait(PATIENCE)
+            if status != 4:
+                raise Failed(f"status {status} after {len(answered)} commands")
+        finally:
+            one.kill(0)
+        one.most = None
+        if one.kept(answered) != 0:
+            raise Failed("the next life was not stopped well")
     return f"full after {len(answered):,} commands, and none of them is gone"
 
 
-def refused(program, rng, folder):
+def refused(program, rng, _):
     """Journals and cluster files that are refused, each by its name; what is refused is left as it was."""
-    one = One(program, folder, "refused", nodes=4)
-    serve, begin, check = one.words(), one.words("journal"), one.words("check")
+    with One(program, nodes=4, is_begun=False) as one:
+        count = no_journals(one) + in_use(one)
+        left = contents(one.journal_path)
+        count += of_another(one)
+        damage(one.journal_path, left)
+        expect(run(one.words(0)), 6, "tundelca: D11 Damaged", "a damaged journal")
+    return f"{count + 1} refusals by name"
+
+
+def no_journals(one):
+    """Where no journal of a node is; then one is begun. How many refusals that is."""
+    serve, begin, check, path = one.words(0), one.words(0, "journal"), one.words(0, "check"), one.journal_path
     expect(run(serve), 6, "tundelca: D1 Absent", "served without a journal")
     expect(run(check), 6, "tundelca: D1 Absent", "checked without a journal")
-    if os.path.exists(one.journal):
+    if os.path.exists(path):
         raise Failed("a journal was made by who serves or checks")
-    open(one.journal, "xb").close()
+    open(path, "xb").close()
     expect(run(serve), 6, "tundelca: D3 NotAJournal", "served from an empty file")
     expect(run(begin), 0, "", "a journal is begun in an empty file")
     expect(run(begin), 6, "tundelca: D17 NotBlank", "a journal is begun where one is")
-    os.truncate(one.journal, 0)
-    os.truncate(one.journal, 1 << 20)
+    os.truncate(path, 0)
+    os.truncate(path, 1 << 20)
     expect(run(serve), 6, "tundelca: D3 NotAJournal", "served from zeros")
     expect(run(begin), 0, "", "a begin that was cut off is done again")
     for beside, fault in (("-journal", "D13 Unopened"), ("-wal", "D18 SecondFile")):
-        with open(one.journal + beside, "wb") as file:
+        with open(path + beside, "wb") as file:
             file.write(b"more")
         expect(run(serve), 6, f"tundelca: {fault}", f"served beside a file {beside}")
-        os.remove(one.journal + beside)
-    os.remove(one.journal)
-    one.begin()
-    if os.stat(one.journal).st_mode & 0o777 != 0o600:
+        os.remove(path + beside)
+    os.remove(path)
+    expect(run(begin), 0, "", "a journal is begun")
+    if os.stat(path).st_mode & 0o777 != 0o600:
         raise Failed("a journal may be read by others")
-    process = one.start()
+    return 7
+
+
+def in_use(one):
+    """A journal that a node has, and what `check` says of it then. How many refusals that is."""
+    serve, begin, check = one.words(0), one.words(0, "journal"), one.words(0, "check")
+    one.begin_life()
     try:
-        if one.talk(process, 3) != [0, 1, 2]:
+        if one.talk(3) != [0, 1, 2]:
             raise Failed("commands aren't published")
         expect(run(serve), 4, "tundelca: D2 InUse", "served twice")
         expect(run(check), 4, "tundelca: D2 InUse", "checked while it is served")
         expect(run(begin), 4, "tundelca: D2 InUse", "begun while it is served")
-        with tundelca.Client(one.port) as node:
+        with one.client(0) as node:
             length = node.length(ROLE)
     finally:
-        finish(process)
-    left = contents(one.journal)
-    status, said, _ = run(check)
-    if status or f"journal of {length} events" not in said or contents(one.journal) != left:
-        raise Failed(f"checked: status {status}, {said!r} of {length} events")
-    with open(one.path, encoding="ascii") as file:
-        text = json.load(file)
+        one.kill(0)
+    left = contents(one.journal_path)
+    status, told, _ = run(check)
+    if status or f"journal of {length} events" not in told or contents(one.journal_path) != left:
+        raise Failed(f"checked: status {status}, {told!r} of {length} events")
+    return 3
+
+
+def of_another(one):
+    """Cluster files that aren't the journal's, or say what is kept for later. How many refusals that is."""
+    text = read_text(one.path)
     others = [
         ("D5 OtherCluster", {"cluster": 2}), ("D6 OtherNode", {"me": 1}), ("D7 OtherSizes", {"f": 0}),
         ("D8 OtherRoles", {"roles": [[ROLE, 0], [ROLE + 1, 1]]}),
         ("D10 OtherKey", {"keys": ["00" * 32, *text["keys"][1:]]}),
     ]
-    for fault, members in others:
-        rewrite(one.path, {**text, **members})
-        expect(run(serve), 6, f"tundelca: {fault}", "a journal of another")
-    later = ["epoch", "since", "slots", "length", "most_pairs"]
-    for fault, members in [*((name, {name: 0}) for name in later), ("roles", {"roles": [[65_408, 0]]})]:
-        rewrite(one.path, {**text, **members})
-        expect(run(serve), 3, f"tundelca: U5 Reserved {fault}", "kept for later")
-    rewrite(one.path, text)
-    damage(one.journal, left)
-    expect(run(serve), 6, "tundelca: D11 Damaged", "a damaged journal")
-    with open(one.journal, "wb") as file:
-        file.write(left)
-    return f"{15 + len(others) + len(later)} refusals by name"
+    later = [*((name, {name: 0}) for name in ("epoch", "since", "slots", "length", "most_pairs")),
+             ("roles", {"roles": [[65_408, 0]]})]
+    for due, status, trials in (("tundelca: ", 6, others), ("tundelca: U5 Reserved ", 3, later)):
+        for fault, members in trials:
+            write_text(one.path, {**text, **members})
+            expect(run(one.words(0)), status, due + fault, str(members))
+    write_text(one.path, text)
+    return len(others) + len(later)
 
 
 def contents(path):
     with open(path, "rb") as file:
         return file.read()
-
-
-def rewrite(path, text):
-    with open(path, "w", encoding="ascii") as file:
-        json.dump(text, file)
 
 
 def damage(path, left):
@@ -339,39 +335,28 @@ def damage(path, left):
         file.write(left[:at] + bytes([left[at] ^ 1]) + left[at + 1:])
 
 
-def said(program, rng, folder):
+def said(program, rng, _):
     """Words: help and the version, and those that are refused; and what is said of a cluster file."""
-    one = One(program, folder, "said", nodes=4)
     version, help_text = run([program, "--version"]), run([program, "--help"])
     if version[0] or "kit rattle-kit" not in version[1] or "journal 1" not in version[1] or version[2]:
         raise Failed(f"--version: {version}")
     if help_text[0] or not all(word in help_text[1] for word in ("serve", "journal", "check")):
         raise Failed(f"--help: {help_text}")
-    cluster, journal = ["--cluster", one.path], ["--journal", one.journal]
-    wrong = [[], ["serve"], ["serve", *cluster], ["serve", *cluster, *journal, "--in-memory"], ["serve", *journal],
-             ["journal", *cluster], ["check"], ["check", *cluster, "more"], ["pipe"]]
-    for words in wrong:
-        status, told, fault = run([program, *words])
-        if status != 2 or told or not fault.startswith("tundelca: words\n"):
-            raise Failed(f"{words}: status {status}, {told!r}, {fault!r}")
-    expect(run([program, "check", "--cluster", one.journal]), 3, "tundelca: cluster file", "no cluster file")
-    status, told, fault = run([program, "check", *cluster])
-    if status or fault or told.count("fingerprint") != 5 or "nodes 4, of which 1 may lie" not in told:
-        raise Failed(f"check: status {status}, {told!r}, {fault!r}")
-    process = subprocess.Popen([program, "serve", *cluster, "--in-memory"], stdin=subprocess.DEVNULL)
-    try:
-        end = time.monotonic() + PATIENCE
-        while True:
-            try:
-                if tundelca.stop(one.port, process) != 0:
-                    raise Failed("a node in memory isn't stopped well")
-                break
-            except tundelca.Unreachable:
-                if time.monotonic() > end:
-                    raise
-                time.sleep(0.01)
-    finally:
-        finish(process)
+    with One(program, nodes=4, is_begun=False) as one:
+        cluster, journal = ["--cluster", one.path], ["--journal", one.journal_path]
+        wrong = [[], ["serve"], ["serve", *cluster], ["serve", *cluster, *journal, "--in-memory"], ["serve", *journal],
+                 ["journal", *cluster], ["check"], ["check", *cluster, "more"], ["pipe"]]
+        for words in wrong:
+            status, told, fault = run([program, *words])
+            if status != 2 or told or not fault.startswith("tundelca: words\n"):
+                raise Failed(f"{words}: status {status}, {told!r}, {fault!r}")
+        expect(run([program, "check", "--cluster", one.journal_path]), 3, "tundelca: cluster file", "no cluster file")
+        status, told, fault = run([program, "check", *cluster])
+        if status or fault or told.count("fingerprint") != 5 or "nodes 4, of which 1 may lie" not in told:
+            raise Failed(f"check: status {status}, {told!r}, {fault!r}")
+    with Cluster(program, 4, 1, running=[0], waits=True) as nodes:
+        if nodes.stop(0) != 0:
+            raise Failed("a node in memory isn't stopped well")
     return f"{len(wrong)} refused"
 
 
@@ -387,7 +372,7 @@ def lonely(program, rng, folder):
                     node.socket.sendall(b"".join(lines))
                     count += 3
                     time.sleep(rng.random() * 0.003)
-            lives.kill(me, signal.SIGKILL)
+            lives.crash(me, signal.SIGKILL)
             lives.start(me)
             lives.await_start(me, RESTART)
         for me in range(3):
@@ -426,32 +411,14 @@ def crowded(program, rng, folder):
                 f"{told}; all delivered {took:.1f} s later")
 
 
-CASES = [("said", said), ("refused", refused), ("killed", killed), ("torn", torn), ("ended", ended), ("broken", broken),
-         ("lonely", lonely), ("crowded", crowded), ("failing", failing), ("full", full)]
+CASES = [said, refused, killed, torn, ended, broken, lonely, crowded, failing, full]
 
 
-def main():
-    words = argparse.ArgumentParser(description=__doc__, formatter_class=argparse.RawDescriptionHelpFormatter)
-    words.add_argument("checkout", nargs="?", default=TOP)
-    words.add_argument("--only", default="", metavar="CASE")
-    words.add_argument("--seed", type=int, default=None, metavar="NUMBER")
-    given = words.parse_args()
-    seed = random.SystemRandom().randrange(1 << 32) if given.seed is None else given.seed
-    program, failed, ran = program_of(given.checkout, "tundelca"), 0, 0
-    print(f"crashes: seed {seed}", flush=True)
-    for name, case in CASES:
-        if not name.startswith(given.only):
-            continue
-        begin, ran, mark = time.monotonic(), ran + 1, ""
-        with tempfile.TemporaryDirectory(prefix="tundelca-") as folder:
-            try:
-                came = case(program, random.Random(f"{seed} {name}"), folder)
-            except (Failed, OSError, tundelca.NodeFault, subprocess.SubprocessError) as fault:
-                came, mark, failed = fault, "FAILED ", failed + 1
-        print(f"crashes: {mark}{name}: {came}, {time.monotonic() - begin:.1f} s", flush=True)
-    print(f"crashes: {ran - failed} passed, {failed} failed")
-    sys.exit(1 if failed or not ran else 0)
+def cases(given):
+    """Each is given the program, what draws at random, and a folder."""
+    return [runner.Case(case.__name__, lambda case=case: case(
+        given.program("tundelca"), given.draws(case.__name__), given.new_folder())) for case in CASES]
 
 
 if __name__ == "__main__":
-    main()
+    runner.main("crashes", __doc__, cases)

@@ -11,15 +11,13 @@ import signal
 import socket
 import struct
 import subprocess
-import sys
 import tempfile
 import threading
 import time
 
-sys.dont_write_bytecode = True
-from cluster import ECHO, PATIENCE, READY, ROLE, SEND, TOP, Cluster, assign, tundelca  # noqa: E402
-from forwarders import FRAME  # noqa: E402
-from loads import Failed  # noqa: E402
+from cluster import ECHO, PATIENCE, READY, ROLE, SEND, TOP, Cluster, assign, tundelca
+from forwarders import FRAME
+from runner import Failed
 
 MOST_SESSIONS = 300  # of a node
 AHEAD = 16  # places for which the liar offers two stories
@@ -154,58 +152,48 @@ class Lives(Cluster):
     """Nodes with journals, all but the last, which is the liar."""
 
     def __init__(self, program, nodes=5, library=None, is_silent=False):
-        self.correct, self.library, self.longest, self.started = nodes - 1, library, 0.0, {}
-        self.told = {}  # of each node: what its library is told at its next start
+        self.correct, self.library, self.longest, self.liar = nodes - 1, library, 0.0, None
+        self.told = {}  # of each node: variables that tell its library something at its next start
         self.published, self.sessions, self.at = {}, {}, {}  # of each node: what was answered
         self.issued, self.is_over, self.loads, self.wrong = 0, threading.Event(), [], None
-        super().__init__(program, nodes, 1, nodes, [])
-        self.journals = [f"{path}.journal" for path in self.paths]
+        super().__init__(program, nodes, 1, nodes, (), has_journals=True)
         try:
             self.liar = Liar(self, nodes - 1, is_silent)
             self.liar.start()
             for me in range(self.correct):
-                words = [program, "journal", "--cluster", self.paths[me], "--journal", self.journals[me]]
-                subprocess.run(words, check=True, stdin=subprocess.DEVNULL, timeout=PATIENCE)
+                self.begin(me)
                 self.start(me)
             self.wait()
         except BaseException:
             self.end()
             raise
 
-    def words(self, me):
-        words = super().words(me) + ["--journal", self.journals[me]]
-        return words if self.library is None else ["env", f"LD_PRELOAD={self.library}", *self.told.get(me, []), *words]
-
-    def start(self, me):
-        self.started[me] = time.monotonic()
-        super().start(me)
+    def environment(self, me):
+        loaded = {} if self.library is None else {"LD_PRELOAD": self.library}
+        return {**super().environment(me), **loaded, **self.told.get(me, {})}
 
     def await_start(self, me, most):
         """Waits until a node that was started answers, which takes so many seconds at most, beside its syncs."""
-        with Probe(os.path.dirname(self.journals[me])) as probe:
-            while True:
-                try:
-                    self.client(me).close()
-                    break
-                except tundelca.Unreachable:
-                    took = time.monotonic() - self.started[me]
-                    if self.running[me].poll() is not None or took > PATIENCE:
-                        raise Failed(f"node {me} doesn't start: {self.running[me].poll()} after {took:.1f} s") from None
-                    time.sleep(0.002)
-        took = time.monotonic() - self.started[me]
+        with Probe(os.path.dirname(self.journal(me))) as probe:
+            while not self.answers(me):
+                took = time.monotonic() - self.begun[me]
+                if self.running[me].poll() is not None or took > PATIENCE:
+                    raise Failed(f"node {me} doesn't start: {self.running[me].poll()} after {took:.1f} s")
+                time.sleep(0.002)
+        took = time.monotonic() - self.begun[me]
         self.longest = max(self.longest, took)
         if took > most + SYNCS * probe.longest:
             raise Failed(f"the start of node {me} took {took:.2f} s, where a sync took {probe.longest:.2f}")
 
-    def kill(self, me, number):
-        process = self.running[me]
-        process.send_signal(number)
-        if process.wait(PATIENCE) != -number:
-            raise Failed(f"node {me} ended by itself, with status {process.returncode}")
+    def crash(self, me, number):
+        """Ends a node by a signal; it hasn't ended by itself."""
+        status = self.kill(me, number)
+        if status != -number:
+            raise Failed(f"node {me} ended by itself, with status {status}")
 
     # What is asked of them meanwhile.
 
-    def begin(self):
+    def begin_loads(self):
         """Commands of each node, and sessions at each, from now on."""
         self.loads = [threading.Thread(target=work, args=(me,), daemon=True)
                       for me in range(self.correct) for work in (self.publish, self.open)]
@@ -347,6 +335,6 @@ class Lives(Cluster):
 
     def end(self):
         self.is_over.set()
-        if getattr(self, "liar", None) is not None and self.liar.is_alive():
+        if self.liar is not None and self.liar.is_alive():
             self.liar.end()
         super().end()

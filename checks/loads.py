@@ -6,22 +6,16 @@ import os
 import select
 import signal
 import socket
-import sys
 import time
 from collections import deque
 
-sys.dont_write_bytecode = True
-from cluster import ECHO, PATIENCE, READY, ROLE, SEND, assign, flood, tundelca  # noqa: E402
+from cluster import ECHO, PATIENCE, READY, ROLE, SEND, assign, flood, tundelca
+from runner import SIGNALS, Failed
 
 MOST = 120  # seconds that a case takes at most
 BURST = 3_000  # commands of each of two owners
 CLIENTS = 15  # so many that one place for a client is left
-SIGNALS = (signal.SIGINT, signal.SIGTERM, signal.SIGHUP)
 FORK = multiprocessing.get_context("fork")
-
-
-class Failed(Exception):
-    pass
 
 
 def assigns(owner, users):

@@ -26,6 +26,9 @@ class Played:
         return self
 
     def __exit__(self, *_):
+        self.end()
+
+    def end(self):
         for node in self.nodes:
             node.end()
 
