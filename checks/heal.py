@@ -4,29 +4,23 @@
 Nodes of `role_daemon serve` are brought to where frames are lost, and then every correct node has to have all that the
 owners published, though nobody helps it: no client sends `again` for what is missing. The cases slots do so to
 `tundelca`, and are told in slots.py. CHECKOUT is where both were built, or the program that a case takes; this checkout
-if it is left out. --only runs the cases whose name begins so, as in --only flood, or one of them with so many nodes, as
-in --only "burst 7".
+if it is left out. A case's name ends with how many nodes there are: --only flood, --only "burst 7".
 
 In burst, blocks, flood and again frames arrive, more at once than a node takes. In the others forwarders between the
 nodes lose, double, delay or cut, or a node stands still. A case fails where a node lacks something SOON seconds after
 the last loss or the end of a flood; burst and blocks where STILL seconds pass in which nothing moves, or MOST in all.
-Each case prints a line: its name, how many nodes there are, what came, and the seconds that it took.
-
 Ends by itself, in less than four minutes if all goes well; all traffic is on 127.0.0.1, and only processes that were
 started here are ended.
 """
-import argparse
 import contextlib
 import signal
-import subprocess
-import sys
 import time
 
-sys.dont_write_bytecode = True
-from cluster import ECHO, READY, SEND, ROLE, TOP, Cluster, assign, program_of, tundelca  # noqa: E402
-from loads import BURST, MOST, SIGNALS, Failed, Load, assigns  # noqa: E402
-from loads import ask_again, burst_of, contradict, flood_of, listen_only  # noqa: E402
-import slots  # noqa: E402
+import runner
+import slots
+from cluster import ECHO, READY, SEND, ROLE, Cluster, assign, tundelca
+from loads import BURST, MOST, Load, ask_again, assigns, burst_of, contradict, flood_of, listen_only
+from runner import Failed
 
 STILL = 10  # seconds
 SOON = 10  # seconds after the last loss, or the end of a flood
@@ -300,34 +294,12 @@ CASES = [("burst", burst, 4), ("burst", burst, 7), ("blocks", blocks, 4), ("bloc
          ("behind", behind, 4), ("rest", rest, 4)]
 
 
-def interrupted(number, _):
-    """Ends the script, which ends what it started."""
-    for other in SIGNALS:
-        signal.signal(other, signal.SIG_IGN)
-    sys.exit(128 + number)
-
-
-def main():
-    words = argparse.ArgumentParser(description=__doc__, formatter_class=argparse.RawDescriptionHelpFormatter)
-    words.add_argument("checkout", nargs="?", default=TOP)
-    words.add_argument("--only", default="", metavar="CASE")
-    given = words.parse_args()
-    for number in SIGNALS:
-        signal.signal(number, interrupted)
-    failed, ran = 0, 0
-    for name, case, nodes in CASES + slots.CASES:
-        if not f"{name} {nodes}".startswith(given.only):
-            continue
-        program = program_of(given.checkout, "tundelca" if (name, case, nodes) in slots.CASES else "role_daemon")
-        begin, ran, mark = time.monotonic(), ran + 1, ""
-        try:
-            came = case(program, nodes)
-        except (Failed, OSError, tundelca.NodeFault, subprocess.SubprocessError) as fault:
-            came, mark, failed = fault, "FAILED ", failed + 1
-        print(f"heal: {mark}{name}, {nodes} nodes: {came}, {time.monotonic() - begin:.1f} s", flush=True)
-    print(f"heal: {ran - failed} passed, {failed} failed")
-    sys.exit(1 if failed or not ran else 0)
+def cases(given):
+    """Those of role_daemon, and those of tundelca."""
+    of_programs = [("role_daemon", *case) for case in CASES] + [("tundelca", *case) for case in slots.CASES]
+    return [runner.Case(f"{name} {nodes}", lambda program=program, case=case, nodes=nodes: case(
+        given.program(program), nodes)) for program, name, case, nodes in of_programs]
 
 
 if __name__ == "__main__":
-    main()
+    runner.main("heal", __doc__, cases)

@@ -6,19 +6,15 @@ power a node is killed as by a power cut: what it had open stays open at the oth
 what it brought waits for a sync, and another has its place.
 """
 import contextlib
-import os
 import select
-import signal
 import socket
-import subprocess
-import sys
 import tempfile
 import time
 
-sys.dont_write_bytecode = True
-from cluster import ECHO, PATIENCE, READY, ROLE, SEND, TOP, Cluster, assign, tundelca  # noqa: E402
-from lives import compiled  # noqa: E402
-from loads import Failed, Load  # noqa: E402
+from cluster import ECHO, PATIENCE, READY, ROLE, SEND, Cluster, assign, tundelca
+from lives import compiled
+from loads import Load
+from runner import Failed
 
 PLACES = 4  # that the owner has published when the node starts
 SOON, NOW = 10, 2  # seconds: from a start until all are connected and level, and from what is new until it is there
@@ -31,25 +27,8 @@ SYNC, WAITS = 0.4, 8  # seconds of a sync, and places of which frames wait for i
 OWNER = 1  # a node that the script plays
 
 
-class Serving(Cluster):
-    """Nodes of `tundelca`, in memory or with journals, into which a library is loaded if one is given."""
-
-    def __init__(self, program, nodes, may_lie, owners, running, is_kept=False, library=(), is_apart=False):
-        self.is_kept, self.library = is_kept, list(library)
-        super().__init__(program, nodes, may_lie, owners, [], is_apart=is_apart)
-        try:
-            for me in running:
-                if is_kept:
-                    words = [program, "journal", "--cluster", self.paths[me], "--journal", f"{self.paths[me]}.journal"]
-                    subprocess.run(words, check=True, stdin=subprocess.DEVNULL, timeout=PATIENCE)
-                self.start(me)
-        except BaseException:
-            self.end()
-            raise
-
-    def words(self, me):
-        keeping = ["--journal", f"{self.paths[me]}.journal"] if self.is_kept else ["--in-memory"]
-        return [*self.library, *super().words(me), *keeping]
+class Voted(Cluster):
+    """A cluster in which the script votes for others on what a node that it plays, the owner, has published."""
 
     def votes(self, source, places, kinds=(ECHO, READY)):
         """A node's frames to node 0 about these places of the owner's stream, one after the other."""
@@ -147,7 +126,7 @@ def crowded(program, nodes):
     may_lie = (nodes - 1) // 3
     correct, liars = range(1, nodes - may_lie), range(nodes - may_lie, nodes)
     with contextlib.ExitStack() as stack:
-        cluster = stack.enter_context(Serving(program, nodes, may_lie, 2, []))
+        cluster = stack.enter_context(Voted(program, nodes, may_lie, 2, ()))
         lies = [cluster.votes(me, [place]) for me in liars for place in range(MOST_OF_A_LIAR)]
         captured = [cluster.votes(me, [0], [READY]) for me in correct for _ in range(2)]
         loads = [stack.enter_context(Load(hold, cluster.nodes[0], lies, 1)),
@@ -184,8 +163,7 @@ def get_in(cluster, peers, due, most):
 
 def cut_power(program, nodes, is_kept):
     """A node loses power again and again: what it had open stays open at the others. It is heard when it is back."""
-    with Serving(program, nodes, 1, 2, range(nodes), is_kept, is_apart=True) as cluster:
-        cluster.wait()
+    with Cluster(program, nodes, 1, 2, has_journals=is_kept, is_apart=True, waits=True) as cluster:
         cluster.forwarders.treat({names for names in cluster.forwarders.ports if names[0] == OWNER}, is_swallowed=True)
         took, said = [], 0
         for cut in range(CUTS):
@@ -194,10 +172,7 @@ def cut_power(program, nodes, is_kept):
                 took.append(arrives(cluster, OWNER, said))
                 said += 1
             if cut < CUTS - 1:
-                cluster.running[OWNER].send_signal(signal.SIGKILL)
-                cluster.running[OWNER].wait()
-                cluster.start(OWNER)
-                cluster.wait()
+                cluster.start_again(OWNER)
         return f"{CUTS - 1} power cuts; the next command was everywhere after {max(took):.2f} s at most"
 
 
@@ -232,10 +207,10 @@ def kept_power(program, nodes):
 def credit(program, nodes):
     """A connection's place is another's before its packets count. It is that one which gives way, not the first."""
     with tempfile.TemporaryDirectory(prefix="tundelca-") as folder:
-        slow = ["env", f"LD_PRELOAD={compiled('bench/slow_sync.c', folder)}", f"SLOW_SYNC={int(SYNC * 1_000_000)}"]
+        slow = {"LD_PRELOAD": compiled("bench/slow_sync.c", folder), "SLOW_SYNC": str(int(SYNC * 1_000_000))}
         with contextlib.ExitStack() as stack:
-            cluster = stack.enter_context(Serving(program, nodes, 1, 2, [0], True, slow))
-            cluster.wait()
+            cluster = stack.enter_context(
+                Voted(program, nodes, 1, 2, [0], has_journals=True, waits=True, variables=slow))
             first = linked(stack, cluster, cluster.votes(2, [0], [ECHO]))
             time.sleep(3 * SYNC)
             gone = cluster.link(0)
