@@ -9,8 +9,8 @@ from statistics import median
 
 from cluster import PATIENCE, Cluster
 from loads import Load, ask_on
-from runner import Failed
-from timed_client import SOON, Client, wait_soon, wait_until
+from runner import Failed, wait_until
+from timed_client import SOON, Client, wait_soon
 
 # Limits that a machine with five times as many busy processes as cores kept. At rest others' commands beside listings
 # take 5 to 6 ms (the slowest 30), a new client waits 0.3 ms.

@@ -1,18 +1,15 @@
 """The client of tools/tundelca.py: threads that share one, what ends a question, and an owner that was begun twice.
 
-On nodes that a script plays (played.py), for tools_tried; `begun_twice` on the built program too.
+On nodes that a script plays (played.py), for checks/tools_tried.py; `begun_twice` on the built program too.
 """
 import contextlib
-import os
 import signal
-import socket
-import tempfile
 import threading
 import time
 
-import tools_tried
-import tundelca
-from tools_tried import AWAY, BEHIND, PATIENCE, cluster_of, judge, playing, tool, wait_for_all
+from cluster import tundelca
+from runner import Failed, judge
+from tool_runs import PATIENCE, playing
 
 EACH = 1_500  # questions of a thread
 THREADS = 4  # that share a client
@@ -137,7 +134,7 @@ def breaks_end_it():
                 try:
                     with broken_off(0.05):
                         call(client)
-                    raise AssertionError("nothing broke it off")
+                    raise Failed("nothing broke it off")
                 except Broke:
                     pass
                 time.sleep(0.3)
@@ -212,7 +209,7 @@ def expect_twice(call, *texts):
         due = ("journal was begun twice", "old copy", "keys", "begin the cluster anew", *texts)
         judge(all(text in said for text in due), said)
         return
-    raise AssertionError(f"published where it is lost: {done}")
+    raise Failed(f"published where it is lost: {done}")
 
 
 @contextlib.contextmanager

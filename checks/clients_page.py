@@ -6,9 +6,9 @@ import subprocess
 import sys
 import tempfile
 
-import tundelca
+from cluster import TOP, Cluster
+from runner import judge
 
-TOP = os.path.dirname(os.path.dirname(os.path.abspath(__file__)))
 PATIENCE = 60  # seconds, for a client
 NEEDS = {"sh": "nc", "python": sys.executable, "go": "go"}  # what a client is run with
 
@@ -27,32 +27,24 @@ def run(program):
     """Runs each client that this machine has what it needs for."""
     with open(os.path.join(TOP, "docs", "CLIENTS.md"), encoding="utf-8") as file:
         clients = re.findall(r"```(sh|python|go)\n(.*?)```\n+```text\n(.*?)```", file.read(), re.DOTALL)
-    if sorted(language for language, _, _ in clients) != sorted(NEEDS):
-        raise AssertionError(f"docs/CLIENTS.md: {[language for language, _, _ in clients]}")
+    languages = [language for language, _, _ in clients]
+    judge(sorted(languages) == sorted(NEEDS), f"docs/CLIENTS.md: {languages}")
     done = []
-    with tempfile.TemporaryDirectory(prefix="tundelca-") as folder:
-        node, port = tundelca.free_ports(2)
-        [path] = tundelca.cluster_files(folder, [(2, 0)], [node], [port], 0)
-        process = tundelca.start(program, path)
-        try:
-            with tundelca.Client(port) as owner:
-                owner.ask("assign", user=7, role=2)
-                owner.ask("grant", role=2, operation=5, object=9)
-                owner.wait_for_reach(0, 2)
-            for language, code, due in clients:
-                if shutil.which(NEEDS[language]) is None:
-                    done.append(f"{language} SKIPPED: there is no {NEEDS[language]}")
-                    continue
-                environment = {**os.environ, "PYTHONPATH": os.path.join(TOP, "tools"),
-                               "GOCACHE": os.path.join(folder, "go")}
-                ran = subprocess.run(words_of(language, folder, code.replace("7400", str(port))), capture_output=True,
-                                     text=True, timeout=PATIENCE, env=environment)
-                came = re.sub(r'at("?[:=] ?)\d+', r"at\g<1>AT", ran.stdout)
-                if came != re.sub(r'at("?[:=] ?)\d+', r"at\g<1>AT", due) or ran.returncode != 0:
-                    said = f"{ran.stdout!r} {ran.stderr!r}"
-                    raise AssertionError(f"docs/CLIENTS.md, {language}: due {due!r}, came {said}")
-                done.append(language)
-        finally:
-            process.kill()
-            process.wait()
+    with tempfile.TemporaryDirectory(prefix="tundelca-") as folder, Cluster(program, waits=True) as nodes:
+        with nodes.client(0) as owner:
+            owner.ask("assign", user=7, role=2)
+            owner.ask("grant", role=2, operation=5, object=9)
+            owner.wait_for_reach(0, 2)
+        for language, code, due in clients:
+            if shutil.which(NEEDS[language]) is None:
+                done.append(f"{language} SKIPPED: there is no {NEEDS[language]}")
+                continue
+            environment = {**os.environ, "PYTHONPATH": os.path.join(TOP, "tools"),
+                           "GOCACHE": os.path.join(folder, "go")}
+            words = words_of(language, folder, code.replace("7400", str(nodes.clients[0])))
+            ran = subprocess.run(words, capture_output=True, text=True, timeout=PATIENCE, env=environment)
+            came = re.sub(r'at("?[:=] ?)\d+', r"at\g<1>AT", ran.stdout)
+            said = f"docs/CLIENTS.md, {language}: due {due!r}, came {ran.stdout!r} {ran.stderr!r}"
+            judge(came == re.sub(r'at("?[:=] ?)\d+', r"at\g<1>AT", due) and ran.returncode == 0, said)
+            done.append(language)
     return ", ".join(done)

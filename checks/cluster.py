@@ -5,7 +5,6 @@ some, beside nodes that the script plays, with forwarders between them, from new
 there. Each starts only processes of its own, and ends them by their ids. What is special to a trial is said by a class
 below it: its words, where journals lie, how a process is started.
 """
-import contextlib
 import hashlib
 import hmac
 import json
@@ -20,7 +19,7 @@ import time
 from types import TracebackType
 from typing import Any, Dict, Iterable, List, Optional, Sequence, Tuple, Type
 
-from paths import TOP
+from paths import TOP  # noqa: F401  first, and for who has all of the house from here
 import tundelca
 from forwarders import FRAME, Forwarders
 from played import Played
@@ -65,7 +64,7 @@ class Cluster:
     """A cluster, and those of its nodes that are processes. All ends with it.
 
     Node k owns role ROLE + k, for the first `owners` nodes, where no `roles` are given. `running` are the nodes that
-    are started at once, all if left out; the script may speak for the others (`frame`, `play`). A program that keeps
+    are started at once, all if left out; the script may speak for others, or play all (`frame`, `play`). A program that keeps
     journals keeps them where `has_journals`, which are begun here; `waits` until all answer. With `is_apart` the nodes
     reach each other through `forwarders`, and what the script sends goes beside these. `ports` are those of nodes and of
     clients, free ones if left out; `hosts` the nodes' addresses, where not all are on 127.0.0.1. With `own_folders` each
@@ -73,7 +72,7 @@ class Cluster:
     makes none. A node may open so many `descriptors`, and has `variables` beside its environment.
     """
 
-    def __init__(self, program: str, nodes: int = 1, may_lie: int = 0, owners: int = 1,
+    def __init__(self, program: str = "", nodes: int = 1, may_lie: int = 0, owners: int = 1,
                  running: Optional[Iterable[int]] = None, *, roles: Optional[Iterable[Tuple[int, int]]] = None,
                  has_journals: bool = False, waits: bool = False, is_apart: bool = False, own_folders: bool = False,
                  ports: Optional[Ports] = None, hosts: Optional[Sequence[str]] = None,

@@ -1,29 +1,21 @@
 #!/usr/bin/env python3
-"""What a node takes for no client of its own, by the first bytes of a connection: first_bytes.py [role_daemon tundelca]
+"""What a node takes for no client of its own, by the first bytes of a connection: first_bytes.py [CHECKOUT]
 
 A page in a browser, a TLS client, a mail client or a proxy that reaches the port for clients sends bytes that may hold
 whole lines. Each opening here holds some: one that would stop the node, and one that would assign a role to user 666.
-Prints a line for each case, and fails where one fails. run_all runs these cases among its own.
+run_all runs these cases among its own.
 """
 import contextlib
-import os
 import socket
 import struct
-import subprocess
-import sys
 import time
 
-HERE = os.path.dirname(os.path.abspath(__file__))
-TOP = os.path.dirname(HERE)
-sys.dont_write_bytecode = True
-sys.path[:0] = [HERE, os.path.join(TOP, "examples"), os.path.join(TOP, "tools")]
-import built  # noqa: E402
-import tundelca  # noqa: E402
-from operator_cases import Nodes, judge  # noqa: E402
+import runner
+from cluster import PATIENCE, ROLE, Cluster
+from runner import Case, judge
 
-PATIENCE = 20  # seconds
 SOON = 5  # seconds in which one byte is answered; at rest it takes a millisecond
-ROLE, THIEF = 2, 666
+THIEF = 666
 J1, J2 = b'{"error":"J1 NotJson"}\n', b'{"error":"J2 NotObject"}\n'
 STOP = b'\n{"op":"stop"}\n'
 LINES = b'\n{"op":"assign","user":%d,"role":%d}' % (THIEF, ROLE) + STOP
@@ -96,42 +88,34 @@ def openings():
     return sent
 
 
-def came_of(port, *parts, pause=0.0):
-    """All that comes of a connection on which these are sent, up to its end. Where the node doesn't take a part any
-    more, what it said before still has to come."""
-    came = b""
-    with socket.create_connection((tundelca.LOOPBACK, port), PATIENCE) as one:
-        one.setsockopt(socket.IPPROTO_TCP, socket.TCP_NODELAY, 1)
-        with contextlib.suppress(ConnectionError):
-            for part in parts:
-                one.sendall(part)
-                time.sleep(pause)
-        with contextlib.suppress(OSError):  # it has ended
-            one.shutdown(socket.SHUT_WR)
-        with contextlib.suppress(ConnectionError):
-            while more := one.recv(65_536):
-                came += more
-    return came
-
-
-class Alone:
+class Alone(Cluster):
     """A node alone, in memory, of which a client sees whether anything was obeyed."""
 
     def __init__(self, program):
-        self.nodes = Nodes(program, 1)
-        self.port = self.nodes.clients[0]
+        super().__init__(program, waits=True)
 
-    def __enter__(self):
-        return self
-
-    def __exit__(self, *_):
-        self.nodes.end()
+    def came_of(self, *parts, pause=0.0):
+        """All that comes of a connection on which these are sent, up to its end. Where the node doesn't take a part any
+        more, what it said before still has to come."""
+        came = b""
+        with self.connect(0) as one:
+            one.setsockopt(socket.IPPROTO_TCP, socket.TCP_NODELAY, 1)
+            with contextlib.suppress(ConnectionError):
+                for part in parts:
+                    one.sendall(part)
+                    time.sleep(pause)
+            with contextlib.suppress(OSError):  # it has ended
+                one.shutdown(socket.SHUT_WR)
+            with contextlib.suppress(ConnectionError):
+                while more := one.recv(65_536):
+                    came += more
+        return came
 
     def obeyed(self):
         """What was obeyed of the lines."""
-        if self.nodes.running[0].poll() is not None:
+        if self.running[0].poll() is not None:
             return "stop"
-        with self.nodes.client(0) as node:
+        with self.client(0) as node:
             return "assign" if node.listing("assigned_users", role=ROLE) else None
 
     def judge(self, name, came, due):
@@ -146,7 +130,7 @@ def none_is_obeyed(keeper):
     sent = openings()
     with Alone(keeper) as node:
         for name, opening in sent.items():
-            node.judge(name, came_of(node.port, opening), J1)
+            node.judge(name, node.came_of(opening), J1)
     return f"{len(sent)} openings"
 
 
@@ -156,9 +140,9 @@ def any_other_byte(keeper):
         for byte in range(256):
             first = bytes([byte])
             if first != b"{":
-                came = came_of(node.port, first + STOP)
+                came = node.came_of(first + STOP)
                 judge(came == J1, f"first byte {byte}: came {came!r}")
-        node.judge("a brace", came_of(node.port, b"{\n" + REACH), J1 + REACHED)
+        node.judge("a brace", node.came_of(b"{\n" + REACH), J1 + REACHED)
     return "255 bytes"
 
 
@@ -169,14 +153,14 @@ def in_parts(keeper):
         cuts = 0
         for name in ("HTTP PATCH", "TLS 1.2, ticket", "PROXY 2"):
             for at in range(1, len(sent[name])):
-                came = came_of(node.port, sent[name][:at], sent[name][at:])
+                came = node.came_of(sent[name][:at], sent[name][at:])
                 judge(came == J1, f"{name}, cut at {at}: came {came!r}")
                 cuts += 1
             node.judge(f"{name}, cut", J1, J1)
             slowly = [bytes([byte]) for byte in sent[name]]
-            node.judge(f"{name}, slowly", came_of(node.port, *slowly, pause=0.001), J1)
+            node.judge(f"{name}, slowly", node.came_of(*slowly, pause=0.001), J1)
         for first in (b"P", b"\x16", b"\n", b" "):
-            with socket.create_connection((tundelca.LOOPBACK, node.port), SOON) as one:
+            with node.connect(0, SOON) as one:
                 one.sendall(first)
                 came = b""
                 while more := one.recv(4096):
@@ -188,10 +172,10 @@ def in_parts(keeper):
 def no_byte(program):
     """A connection that ends without a byte has no answer, as that of a probe."""
     with Alone(program) as node:
-        node.judge("no byte", came_of(node.port), b"")
+        node.judge("no byte", node.came_of(), b"")
         for _ in range(20):
-            socket.create_connection((tundelca.LOOPBACK, node.port), PATIENCE).close()
-        node.judge("a reach", came_of(node.port, REACH), REACHED)
+            node.connect(0).close()
+        node.judge("a reach", node.came_of(REACH), REACHED)
     return "no answer"
 
 
@@ -202,12 +186,12 @@ def later_lines(program):
             (b"{" + b"x" * LONG + b"\n", J1), (b"{}\n", b'{"error":"J3 NoOp"}\n'), (REACH, REACHED)]
     text, due = (b"".join(parts) for parts in zip(*rows))
     with Alone(program) as node:
-        node.judge("later lines", came_of(node.port, text), due)
-        node.judge("byte by byte", came_of(node.port, *(bytes([byte]) for byte in REACH), pause=0.001), REACHED)
-        node.judge("no line end", came_of(node.port, REACH[:-1]), REACHED)
-        node.judge("too long first", came_of(node.port, b"{" + b"x" * LONG + b"\n" + REACH), J1 + REACHED)
-        judge(came_of(node.port, REACH + STOP) == REACHED + J1 + b'{"stopped":true}\n', "a client's stop is none")
-        judge(node.nodes.running[0].wait(PATIENCE) == 0, "the node ended otherwise")
+        node.judge("later lines", node.came_of(text), due)
+        node.judge("byte by byte", node.came_of(*(bytes([byte]) for byte in REACH), pause=0.001), REACHED)
+        node.judge("no line end", node.came_of(REACH[:-1]), REACHED)
+        node.judge("too long first", node.came_of(b"{" + b"x" * LONG + b"\n" + REACH), J1 + REACHED)
+        judge(node.came_of(REACH + STOP) == REACHED + J1 + b'{"stopped":true}\n', "a client's stop is none")
+        judge(node.running[0].wait(PATIENCE) == 0, "the node ended otherwise")
     return f"{len(rows)} lines"
 
 
@@ -215,39 +199,28 @@ def line_by_line(daemon):
     """`role_daemon` answers each line by itself, save behind the methods of HTTP that it knows."""
     with Alone(daemon) as node:
         for method in KNOWN:
-            node.judge(method, came_of(node.port, request(method)), J1)
+            node.judge(method, node.came_of(request(method)), J1)
         for first, answer in [(b"", J1), (b"[1]", J2), (b"nope", J1), (b"DELETE / HTTP/1.1\r", J1), (b"\x16\3\1", J1),
                               (b"x" * LONG, J1)]:
-            node.judge(first[:20], came_of(node.port, first + b"\n" + REACH), answer + REACHED)
-        node.judge("a blank", came_of(node.port, b" " + REACH), REACHED)
+            node.judge(first[:20], node.came_of(first + b"\n" + REACH), answer + REACHED)
+        node.judge("a blank", node.came_of(b" " + REACH), REACHED)
     return "as it did"
 
 
-def cases(daemon, keeper):
+def cases(given):
     """The cases, each with its name."""
-    return [
-        ("first bytes that are no client's", lambda: none_is_obeyed(keeper)),
-        ("each first byte", lambda: any_other_byte(keeper)),
-        ("first bytes in parts", lambda: in_parts(keeper)),
-        ("no byte", lambda: no_byte(keeper)),
-        ("odd lines behind a client's", lambda: later_lines(keeper)),
-        ("odd lines behind a client's, role_daemon", lambda: later_lines(daemon)),
-        ("first bytes, role_daemon", lambda: line_by_line(daemon)),
+    tried = [
+        ("first bytes that are no client's", none_is_obeyed, "tundelca"),
+        ("each first byte", any_other_byte, "tundelca"),
+        ("first bytes in parts", in_parts, "tundelca"),
+        ("no byte", no_byte, "tundelca"),
+        ("odd lines behind a client's", later_lines, "tundelca"),
+        ("odd lines behind a client's, role_daemon", later_lines, "role_daemon"),
+        ("first bytes, role_daemon", line_by_line, "role_daemon"),
     ]
-
-
-def main():
-    given = sys.argv[1:] or [None] * 2
-    daemon, keeper = (built.program(name, path) for name, path in zip(("role_daemon", "tundelca"), given))
-    failed = 0
-    for name, case in cases(daemon, keeper):
-        try:
-            print(f"{name}: {case()}", flush=True)
-        except (AssertionError, OSError, subprocess.TimeoutExpired, tundelca.NodeFault) as fault:
-            failed += 1
-            print(f"FAILED {name}: {fault}", flush=True)
-    sys.exit(1 if failed else 0)
+    return [Case(name, lambda case=case, program=program: case(given.program(program)))
+            for name, case, program in tried]
 
 
 if __name__ == "__main__":
-    main()
+    runner.main("first_bytes", __doc__, cases)

@@ -12,10 +12,10 @@ import time
 import urllib.error
 import urllib.request
 
-import played
-import tundelca
+from cluster import TOP, Cluster, tundelca
+from runner import Case, Failed, judge
 
-GATEWAY = os.path.join(os.path.dirname(os.path.dirname(os.path.abspath(__file__))), "examples", "gateway.py")
+GATEWAY = os.path.join(TOP, "examples", "gateway.py")
 PATIENCE = 20  # seconds, for an answer of the gateway
 NODES, MAY_LIE = 4, 1
 TABLE = {
@@ -32,11 +32,6 @@ DONE, ALLOWED = (200, {"done": True}), (200, {"allow": True})
 NO_NAME = 400, {"allow": False, "why": "no such request or name"}
 CALLERS, EACH = 4, 500  # kept connections, requests on each
 LEAST = 1_000  # requests a second, where the gateway has a processor
-
-
-def judge(well, text):
-    if not well:
-        raise AssertionError(text)
 
 
 def no(why, status=200):
@@ -85,7 +80,7 @@ class Gateway:
             with contextlib.suppress(OSError), socket.create_connection((tundelca.LOOPBACK, self.port)):
                 return
             time.sleep(0.02)
-        raise AssertionError("the gateway doesn't come")
+        raise Failed("the gateway doesn't come")
 
     def kill(self):
         if self.process is not None:
@@ -163,31 +158,25 @@ def kept_connection(port):
     caller.close()
 
 
-def start_nodes(program, folder, stack):
-    """A cluster of four, in which user 7 has each role, and each role may do something. Client ports and processes."""
-    ports = tundelca.free_ports(2 * NODES)
-    clients, running = ports[NODES:], []
-    for path in tundelca.cluster_files(folder, OWNERS.items(), ports[:NODES], clients, MAY_LIE):
-        running.append(tundelca.start(program, path))
-        stack.callback(running[-1].wait)
-        stack.callback(running[-1].kill)
+def publish_policy(nodes):
+    """User 7 has each role, and each role may do something."""
     for role, owner in OWNERS.items():
-        with tundelca.Client(clients[owner]) as node:
+        with nodes.client(owner) as node:
             node.ask("assign", user=7, role=role)
             node.ask("grant", role=role, operation=5, object=8 + role - 1)
             node.ask("grant", role=role, operation=6 if owner else 7, object=9)  # not its object, save the first
-    with tundelca.Client(clients[0]) as node:
+    with nodes.client(0) as node:
         node.ask("grant", role=2, operation=5, object=9)
         for owner in OWNERS.values():
             node.wait_for_reach(owner, 3 + (owner == 0))
-    return clients, running
 
 
 def before_nodes(program):
     """Logins, decisions, owners, a gateway that is killed, many requests, nodes that go away and come again."""
     with tempfile.TemporaryDirectory(prefix="tundelca-") as folder, contextlib.ExitStack() as stack:
-        clients, running = start_nodes(program, folder, stack)
-        gateway, node = Gateway(folder, clients[0], stack), stack.enter_context(tundelca.Client(clients[0]))
+        nodes = stack.enter_context(Cluster(program, NODES, MAY_LIE, roles=OWNERS.items(), waits=True))
+        publish_policy(nodes)
+        gateway, node = Gateway(folder, nodes.clients[0], stack), stack.enter_context(nodes.client(0))
         gateway.start()
         port = gateway.port
         judge(ask(port, "/check", WRITE, "guess") == no("unknown token", 401), "a guessed token")
@@ -225,29 +214,30 @@ def before_nodes(program):
         said = f"{rate:,.0f} requests a second, {3 * CALLERS * EACH / spent:,.0f} in a second of its processor"
         judge(max(rate, 3 * CALLERS * EACH / spent) >= LEAST, said)
         if is_answered(node, "status"):
-            for process in running[2:]:
-                process.kill()
-                process.wait()
+            for me in (2, 3):
+                nodes.kill(me)
             time.sleep(1.5)
             judge_all(port, [("/check", WRITE, no("the node hears too few", 503)),
                              ("/health", None, unwell("the node hears too few"))])
-        judge(tundelca.stop(clients[0], running[0]) == 0, "the node didn't stop")
+        judge(nodes.stop(0) == 0, "the node didn't stop")
         time.sleep(1.1)
         judge_all(port, [("/check", WRITE, no("the node doesn't answer", 503)),
                          ("/login", BOTH, no("the node doesn't answer", 503)),
                          ("/health", None, unwell("the node doesn't answer"))])
-        stack.enter_context(allowing([clients[0], *tundelca.free_ports(NODES - 1)]))
+        for me in range(1, NODES):
+            nodes.kill(me)
+        allow_all(nodes)
         time.sleep(1.1)
         judge_all(port, [("/health", None, (200, {"well": True})), ("/login", BOTH, DONE), ("/check", WRITE, ALLOWED)])
     return said
 
 
-def allowing(ports):
-    """Nodes that a script plays. The first allows everything."""
-    cluster = played.Played(ports, OWNERS)
-    cluster.nodes[0].on_activate = lambda _: {"done": True}
-    cluster.nodes[0].on_check = lambda _: {"allow": True, "at": 1, "role": 2}
-    return cluster
+def allow_all(nodes):
+    """The script plays the nodes from now on. The first allows everything."""
+    node = nodes.play().nodes[0]
+    node.on_activate = lambda _: {"done": True}
+    node.on_check = lambda _: {"allow": True, "at": 1, "role": 2}
+    return node
 
 
 JOURNAL = {"last": 1, "mean": 1, "sound": True, "syncs": 1, "worst": 1}
@@ -262,7 +252,8 @@ def before_a_node_that_fails():
     """It denies where the node is full, hears too few, has lost its disk, was begun twice, speaks nonsense or is
     silent. Odd lines in its file of sessions are passed over."""
     with tempfile.TemporaryDirectory(prefix="tundelca-") as folder, contextlib.ExitStack() as stack:
-        node, asked = stack.enter_context(allowing(tundelca.free_ports(NODES))).nodes[0], []
+        nodes = stack.enter_context(Cluster("", NODES, MAY_LIE, roles=OWNERS.items(), running=()))
+        node, asked = allow_all(nodes), []
         well = node.on_status
         node.on_status = lambda line: asked.append(line) or well(line)
         gateway = Gateway(folder, node.port, stack)
@@ -307,3 +298,11 @@ def before_a_node_that_fails():
             os.rename(gateway.path, wrong.path)
             judge("isn't there" in wrong.refuses_to_start(), f"a table with wrong {name} is taken")
     return f"{len(rows) + 1} failures"
+
+
+def cases(given):
+    """The cases, each with its name."""
+    return [
+        Case("gateway.py", lambda: before_nodes(given.program("tundelca"))),
+        Case("gateway.py, before a node that fails", before_a_node_that_fails),
+    ]

@@ -1,4 +1,4 @@
-"""Each word of tundelca-ctl, and the board, beside a node that answers what it likes. For tools_tried.
+"""Each word of tundelca-ctl, and the board, beside a node that answers what it likes. For checks/tools_tried.py.
 
 The liar is the last of a played cluster, or the one node that a word asks. A word has to end with status 2 and one line
 that says *a node answers what no node says*, with the port, and never with a traceback; in its own time (`--patience`)
@@ -6,15 +6,14 @@ and two seconds, and in 64 MB of memory, or 256 where it asks for listings.
 """
 import json
 import os
-import re
 import subprocess
 import sys
 import tempfile
 import time
 
-import tools_tried
-import tundelca
-from tools_tried import AWAY, BEHIND, PATIENCE, READY, fetch, judge, playing, serving, tool, wait_until
+from cluster import TOP, tundelca
+from runner import judge, wait_until
+from tool_runs import AWAY, BEHIND, PATIENCE, READY, REFUSED, ended, fetch, playing, serving
 
 ASKED, SHORT = 1.0, 0.2  # seconds of patience, and of patience beside a node that is silent
 MORE = 2.0  # seconds that a word may take beside it
@@ -113,7 +112,7 @@ def odd_standings(well):
 
 def all_that_nodes_say_fits():
     """Each stored answer of a node is of its form, so no correct node is taken for a liar."""
-    count, top = 0, os.path.dirname(os.path.dirname(tools_tried.TOOL[1]))
+    count, top = 0, TOP
     for path, first in [("operators/one_node", 0), *((f"pipe/{name}", 1) for name in os.listdir(f"{top}/examples/pipe")
                                                      if "." not in name)]:
         with open(f"{top}/examples/{path}", "rb") as asked, open(f"{top}/examples/{path}.stdout", "rb") as answers:
@@ -204,7 +203,7 @@ def beside(liar, words, lie):
     """The word ends as it has to beside the liar."""
     begun = time.monotonic()
     patience = ["--patience", ASKED]
-    said = tools_tried.ended(*words, *patience)
+    said = ended(*words, *patience)
     took = time.monotonic() - begun
     shown = f"{words} beside {lie[:120]!r}: {said[0]} {said[1][-300:]} {said[2][-300:]}"
     judge(took < ASKED + MORE, f"{shown}: {took:.1f} s")
@@ -235,9 +234,9 @@ def silence_is_short():
                 for name, value in {"mute": False, "drips": None, "lies": {}, "sessions": {1: 7}, **how}.items():
                     setattr(liar, name, value)
                 begun = time.monotonic()
-                status, _, told = tools_tried.ended(*words, "--patience", SHORT)
+                status, _, told = ended(*words, "--patience", SHORT)
                 longest = max(longest, time.monotonic() - begun)
-                is_well = how is silent[2] and status in (READY, BEHIND, tools_tried.REFUSED)  # it was not too slow
+                is_well = how is silent[2] and status in (READY, BEHIND, REFUSED)  # it was not too slow
                 shown = f"{words}, {how}: status {status}, {longest:.1f} s, {told}"
                 judge((status == AWAY or is_well) and longest < SHORT + MORE, shown)
     return f"{longest:.1f} s at most, of which {SHORT} are patience"
@@ -245,8 +244,6 @@ def silence_is_short():
 
 WEIGHED = """
 import sys
-sys.dont_write_bytecode = True
-sys.path.insert(0, sys.argv.pop(1))
 import tundelca_ctl
 try:
     status = tundelca_ctl.main(sys.argv[1:])
@@ -262,9 +259,9 @@ sys.exit(status)
 def weighed(words, due, most, patience=ASKED):
     """The word as a process of its own ends with this status, within its time and so many MB, which it took."""
     begun = time.monotonic()
-    ran = subprocess.run([sys.executable, "-c", WEIGHED, os.path.dirname(tools_tried.TOOL[1]), *map(str, words),
-                          "--patience", str(patience)], stdout=subprocess.DEVNULL, stderr=subprocess.PIPE, text=True,
-                         timeout=PATIENCE)
+    alone = {**os.environ, "PYTHONPATH": os.path.join(TOP, "tools"), "PYTHONDONTWRITEBYTECODE": "1"}
+    ran = subprocess.run([sys.executable, "-c", WEIGHED, *map(str, words), "--patience", str(patience)], env=alone,
+                         stdout=subprocess.DEVNULL, stderr=subprocess.PIPE, text=True, timeout=PATIENCE)
     told, took = ran.stderr.splitlines(), time.monotonic() - begun
     judge(ran.returncode == due and len(told) <= 2, f"{words}: status {ran.returncode}, {ran.stderr[-400:]}")
     judge(took < patience + MORE, f"{words}: {took:.1f} s")

@@ -7,7 +7,6 @@ import random
 import select
 import shlex
 import shutil
-import signal
 import socket
 import struct
 import subprocess

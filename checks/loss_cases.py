@@ -9,20 +9,15 @@ import signal
 import subprocess
 import tempfile
 
-import lives
-import played
-import tundelca
+from cluster import TOP, Cluster, tundelca
+from lives import compiled
+from runner import Case, Skipped, judge
 import tundelca_ctl
 
 PATIENCE = 20  # seconds, for a program
 NODES, MAY_LIE, ROLES = 4, 1, [(2, 0), (3, 1)]
 DONE, NO, WRONG = 0, 1, 3  # statuses of the tool
 OWNER = 65_534  # the account of a journal, in a trial as root
-
-
-def judge(well, text):
-    if not well:
-        raise AssertionError(text)
 
 
 def tool(*words):
@@ -79,36 +74,33 @@ def stays(folder, name, words):
 
 def keep_sees():
     """What roles hold is kept only where all nodes have the same commands, all that were published, and get no more."""
-    with tempfile.TemporaryDirectory(prefix="tundelca-") as folder:
-        ports = tundelca.free_ports(NODES)
-        path = tundelca.cluster_files(folder, ROLES, tundelca.free_ports(NODES), ports, MAY_LIE)[0]
-        words = ["begin-anew", "keep", path, *ports[1:]]
-        with played.Played(ports, dict(ROLES)) as cluster:
-            nodes = cluster.nodes
-            for user in (7, 8):
-                nodes[0].publish({"op": "assign", "user": user, "role": 2})
-            nodes[1].publish({"op": "deassign", "user": 9, "role": 3})
-            status, out, told = tool(*words)
-            judge(status == DONE and json.loads(out)["2"]["users"] == [7, 8], f"status {status}: {out} {told}")
-            judge(told.startswith("kept: 2 commands of node 0, 1 command of node 1; stop a node only"),
-                  f"not told how far the streams are: {told!r}")
-            nodes[3].lacks = {1: 1}  # what takes away nothing, so that the holdings are the same
-            refused(words, "node 0 has 1 commands of node 1, and node 3 has 0: ")
-            nodes[3].lacks = {}
-            for published in (1, 3):  # a node that was begun twice, and one whose commands are on their way
-                nodes[0].changed = {"published": published}
-                refused(words, f"node 0 published {published} command")
-            nodes[0].changed = {}
-            listing = nodes[2].on_assigned_users
+    with Cluster("", NODES, MAY_LIE, roles=ROLES, running=()) as files:
+        words, cluster = ["begin-anew", "keep", files.paths[0], *files.clients[1:]], files.play()
+        nodes = cluster.nodes
+        for user in (7, 8):
+            nodes[0].publish({"op": "assign", "user": user, "role": 2})
+        nodes[1].publish({"op": "deassign", "user": 9, "role": 3})
+        status, out, told = tool(*words)
+        judge(status == DONE and json.loads(out)["2"]["users"] == [7, 8], f"status {status}: {out} {told}")
+        judge(told.startswith("kept: 2 commands of node 0, 1 command of node 1; stop a node only"),
+              f"not told how far the streams are: {told!r}")
+        nodes[3].lacks = {1: 1}  # what takes away nothing, so that the holdings are the same
+        refused(words, "node 0 has 1 commands of node 1, and node 3 has 0: ")
+        nodes[3].lacks = {}
+        for published in (1, 3):  # a node that was begun twice, and one whose commands are on their way
+            nodes[0].changed = {"published": published}
+            refused(words, f"node 0 published {published} command")
+        nodes[0].changed = {}
+        listing = nodes[2].on_assigned_users
 
-            def published_meanwhile(asked):
-                cluster.streams[0].append({"op": "deassign", "user": 9, "role": 2})
-                return listing(asked)
+        def published_meanwhile(asked):
+            cluster.streams[0].append({"op": "deassign", "user": 9, "role": 2})
+            return listing(asked)
 
-            nodes[2].on_assigned_users = published_meanwhile
-            refused(words, "node 0 published meanwhile, 2 commands and then ")
-            nodes[2].on_assigned_users = listing
-            judge(tool(*words)[0] == DONE, "not kept once all is still")
+        nodes[2].on_assigned_users = published_meanwhile
+        refused(words, "node 0 published meanwhile, 2 commands and then ")
+        nodes[2].on_assigned_users = listing
+        judge(tool(*words)[0] == DONE, "not kept once all is still")
     return "5 ways to stand"
 
 
@@ -121,8 +113,7 @@ def refused(words, why):
 
 def page_warns():
     """docs/OPERATIONS.md says before each step that can lose something what it would be."""
-    with open(os.path.join(os.path.dirname(os.path.dirname(os.path.abspath(__file__))), "docs", "OPERATIONS.md"),
-              encoding="utf-8") as file:
+    with open(os.path.join(TOP, "docs", "OPERATIONS.md"), encoding="utf-8") as file:
         page = file.read()
     due = [r"\| `D1 Absent` \|.*\| .*\*\*Never begin one for a cluster number under which this node may have run",
            r"\|[^|]*empty PATH-wal of another account \|[^|]*\| remove the PATH-wal",
@@ -149,13 +140,17 @@ def run(words, steps=None, account=None, **variables):
     return ran.returncode, ran.stdout, ran.stderr
 
 
+def cluster_file(folder):
+    """A new cluster file of a node alone."""
+    return tundelca.cluster_files(folder, ROLES[:1], *(tundelca.free_ports(1) for _ in range(2)), 0)[0]
+
+
 def folders_are_synced(program):
     """A journal that is begun is on the disk with what of its path may be new: its folder is synced, and the one above,
     where the program may open that."""
     with tempfile.TemporaryDirectory(prefix="tundelca-") as folder:
         folder, log = os.path.realpath(folder), os.path.join(folder, "steps")
-        steps = lives.compiled("checks/steps.c", folder)
-        path = tundelca.cluster_files(folder, ROLES[:1], *(tundelca.free_ports(1) for _ in range(2)), 0)[0]
+        steps, path = compiled("checks/steps.c", folder), cluster_file(folder)
         for name, due in [("one/two", ["one", "one/two"]), ("three", [".", "three"])]:
             within = os.path.join(folder, name)
             os.makedirs(within)
@@ -190,7 +185,7 @@ class Hosted:
         self.program, self.journal = os.path.join(self.above, "tundelca"), os.path.join(self.folder, "journal")
         os.makedirs(self.folder)
         shutil.copy(program, self.program)
-        self.path = tundelca.cluster_files(self.folder, ROLES[:1], *(tundelca.free_ports(1) for _ in range(2)), 0)[0]
+        self.path = cluster_file(self.folder)
         for path in (self.folder, self.path):
             os.chown(path, OWNER, OWNER)
         for path in (folder, self.above):
@@ -206,9 +201,9 @@ def killed_check(program):
     """root's `check` of another account's journal is killed before each of its calls: what it leaves beside the journal
     is empty, and the node starts, at once or once that is removed."""
     if os.geteuid() != 0:
-        return "SKIPPED: here is no root"
+        raise Skipped("here is no root")
     with tempfile.TemporaryDirectory(prefix="tundelca-") as folder:
-        own, steps = Hosted(program, folder, "killed"), lives.compiled("checks/steps.c", folder)
+        own, steps = Hosted(program, folder, "killed"), compiled("checks/steps.c", folder)
         beside, ended, refused_once = own.journal + "-wal", 0, 0
         judge(own.run("journal")[0] == 0, "the journal isn't begun")
         while True:
@@ -231,3 +226,14 @@ def killed_check(program):
                 judge(own.run("check")[0] == 0, "refused once the file is removed")
         judge(ended > 3, f"killed {ended} times")
         return f"killed before {ended} calls, after {refused_once} of which a file of root's was to be removed"
+
+
+def cases(given):
+    """The cases, each with its name."""
+    return [
+        Case("files that are there", files_stay),
+        Case("begin-anew keep, while others publish", keep_sees),
+        Case("OPERATIONS.md, what it warns of", page_warns),
+        Case("a journal's folders are synced", lambda: folders_are_synced(given.program("tundelca"))),
+        Case("check, killed", lambda: killed_check(given.program("tundelca"))),
+    ]

@@ -11,72 +11,15 @@ import sys
 import tempfile
 import time
 
-import tundelca
+from cluster import PATIENCE, ROLE, TOP, Cluster, read_text, tundelca, write_text
+from runner import Case, judge, wait_until
 
-TOP = os.path.dirname(os.path.dirname(os.path.abspath(__file__)))
-PATIENCE = 20  # seconds, for what nodes do by themselves
-NODES, MAY_LIE, ROLE = 4, 1, 2
+NODES, MAY_LIE = 4, 1
 SESSIONS = 4_000  # that a gateway left
 PLACES = 5_000  # of a stream that is read out
 SOON = 10.0  # seconds in which what an operator does is done
 LIMIT = 4_194_304
 LONGEST_LINE = 4_096  # bytes
-
-
-def judge(well, text):
-    if not well:
-        raise AssertionError(text)
-
-
-def wait_until(seen, text):
-    deadline = time.monotonic() + PATIENCE
-    while not seen():
-        judge(time.monotonic() < deadline, f"not within {PATIENCE} seconds: {text}")
-        time.sleep(0.02)
-
-
-class Nodes:
-    """Nodes of a cluster on this machine, with journals or without, which end with it."""
-
-    def __init__(self, program, nodes, may_lie=0, has_journals=False, hosts=None):
-        self.program, self.running = program, {}
-        self.folder = tempfile.TemporaryDirectory(prefix="tundelca-")
-        ports = tundelca.free_ports(2 * nodes)
-        self.nodes, self.clients = ports[:nodes], ports[nodes:]
-        if hosts is not None:
-            self.nodes = [ports[0]] * nodes
-        self.paths = tundelca.cluster_files(self.folder.name, [(ROLE, 0)], self.nodes, self.clients, may_lie,
-                                            hosts=hosts)
-        self.journals = [f"{path}.journal" if has_journals else None for path in self.paths]
-        try:
-            for me in range(nodes):
-                if has_journals:
-                    tundelca.begin(program, self.paths[me], self.journals[me])
-                self.start(me)
-        except BaseException:
-            self.end()
-            raise
-
-    def start(self, me):
-        self.running[me] = tundelca.start(self.program, self.paths[me], journal=self.journals[me])
-
-    def kill(self, me):
-        self.running[me].kill()
-        self.running[me].wait()
-
-    def client(self, me):
-        return tundelca.Client(self.clients[me])
-
-    def __enter__(self):
-        return self
-
-    def __exit__(self, *_):
-        self.end()
-
-    def end(self):
-        for me in self.running:
-            self.kill(me)
-        self.folder.cleanup()
 
 
 def lines(program, daemon):
@@ -86,11 +29,11 @@ def lines(program, daemon):
         rows = list(zip(file.read().splitlines(), due.read().splitlines()))
     long = '{"op":"status","x":"%s"}' % ("x" * LONGEST_LINE)
     rows.append((long, '{"error":"J1 NotJson"}'))
-    with Nodes(program, 1) as nodes, Raw(nodes.clients[0]) as node:
+    with Cluster(program, waits=True) as nodes, Raw(nodes) as node:
         for number, (line, due) in enumerate(rows, 1):
             came = node.said(line)
             judge(came == due, f"operators/one_node, line {number}: due {due!r}, came {came!r}")
-    with Nodes(daemon, 1) as nodes, Raw(nodes.clients[0]) as node:
+    with Cluster(daemon, waits=True) as nodes, Raw(nodes) as node:
         unknown = '{"error":"J4 UnknownOp"}'
         for line in (line for line, _ in rows if re.search(r'"op":"(status|command|sessions)"', line) and line != long):
             judge(node.said(line) == unknown, f"role_daemon answers {line}")
@@ -100,10 +43,9 @@ def lines(program, daemon):
 class Raw:
     """A client whose lines and answers are texts as they are."""
 
-    def __init__(self, port):
-        self.socket = socket.create_connection((tundelca.LOOPBACK, port), PATIENCE)
+    def __init__(self, nodes):
+        self.socket, self.node = nodes.connect(0), nodes.client(0)
         self.answers = self.socket.makefile("r", encoding="ascii")
-        self.node = tundelca.Client(port)
 
     def said(self, line):
         """The answer to a line, once what it published is delivered: so each has its one answer."""
@@ -126,13 +68,11 @@ class Raw:
 
 def standing(program):
     """How four nodes with journals stand: while all are there, while one is away, and once it was started again."""
-    with Nodes(program, NODES, MAY_LIE, has_journals=True) as nodes:
+    with Cluster(program, NODES, MAY_LIE, has_journals=True, waits=True) as nodes:
         with nodes.client(0) as owner, nodes.client(1) as other:
             for user in range(10):
                 owner.ask("assign", user=user, role=ROLE)
-            for me in range(NODES):
-                with nodes.client(me) as node:
-                    node.wait_for_reach(0, 10)
+            nodes.reach_all(0, 10)
             session = other.open(7)
             wait_until(lambda: all(seen == (True, True) for seen in links(other).values()), "all are heard")
             status = other.ask("status")
@@ -151,8 +91,7 @@ def standing(program):
             nodes.start(3)
             wait_until(lambda: links(other)[3] == (True, True), "started again it is heard, at rest too")
         before = status["at"]
-        nodes.kill(1)
-        nodes.start(1)
+        nodes.start_again(1)
         with nodes.client(1) as other:
             status = other.ask("status")
             judge(status["at"] >= before and status["sessions"] == 1, f"after a start: {status}")
@@ -178,7 +117,7 @@ with tundelca.Client(int(sys.argv[1])) as node:
 
 def sessions_left(program):
     """What a gateway left that was killed is found and closed."""
-    with Nodes(program, 1) as nodes, nodes.client(0) as node:
+    with Cluster(program, waits=True) as nodes, nodes.client(0) as node:
         words = [sys.executable, "-c", LEAVING, str(nodes.clients[0]), str(SESSIONS)]
         gateway = subprocess.Popen(words, cwd=os.path.join(TOP, "tools"), stdin=subprocess.PIPE, stdout=subprocess.PIPE,
                                    text=True)
@@ -199,7 +138,7 @@ def sessions_left(program):
 
 def streams(program):
     """The streams of two nodes are read out, and are what was published."""
-    with Nodes(program, NODES, MAY_LIE) as nodes, nodes.client(0) as owner, nodes.client(1) as other:
+    with Cluster(program, NODES, MAY_LIE, waits=True) as nodes, nodes.client(0) as owner, nodes.client(1) as other:
         commands = [{"op": "assign" if user % 3 else "deassign", "role": ROLE, "user": user} for user in range(PLACES)]
         owner.publish(commands, 0, nodes.clients[1:], MAY_LIE)
         other.wait_for_reach(0, PLACES)
@@ -218,11 +157,8 @@ def hosts(program, daemon):
         "", "localhost", "127.0.0.1:7300", "127.1", "127.0.0.01", " 127.0.0.1", "[::1]", "fe80::1%1", "::1::",
         "10.0.0.256")]
     good = ["127.0.0.1", "::1", "::ffff:10.0.0.1", "2001:db8:0:0:0:0:0:1"]
-    with tempfile.TemporaryDirectory(prefix="tundelca-") as folder:
-        ports = tundelca.free_ports(2 * NODES)
-        path = tundelca.cluster_files(folder, [(ROLE, 0)], ports[:NODES], ports[NODES:], MAY_LIE)[0]
-        with open(path, encoding="ascii") as file:
-            text = json.load(file)
+    with Cluster(program, NODES, MAY_LIE, running=()) as nodes:
+        path, text = nodes.paths[0], read_text(nodes.paths[0])
         for members in faulty:
             refused(program, path, {**text, "hosts": members}, "U4 OutOfRange hosts")
         for fault, changed in [("U3 Missing n", {"n": None}), ("U4 OutOfRange keys", {"keys": text["keys"][:3]}),
@@ -233,36 +169,28 @@ def hosts(program, daemon):
         due = [f"node {me} at {host}:{port}" for me, (host, port) in enumerate(zip(
             ["127.0.0.1", "[::1]", "[::ffff:10.0.0.1]", "[2001:db8::1]"], text["nodes"]))]
         judge(told.returncode == 0 and all(row in told.stdout.splitlines() for row in due), told.stdout + told.stderr)
-        write(path, {**text, "hosts": "of no use here"})
-        process = tundelca.start(daemon, path)
-        with contextlib.ExitStack() as stack:
-            stack.callback(process.wait)
-            stack.callback(process.kill)
-            judge(tundelca.stop(text["client"], process) == 0, "role_daemon didn't serve")
+        write_text(path, {**text, "hosts": "of no use here"})
+        with Cluster(daemon, paths=nodes.paths, running=[0], waits=True) as served:
+            judge(served.stop(0) == 0, "role_daemon didn't serve")
     return f"{len(faulty) + 4} refused, {hosts_are_kept_to(program)}"
 
 
 def hosts_are_kept_to(program):
     """Four nodes with one port, each at an address of its own, take frames there and nowhere else."""
     addresses = [f"127.0.0.{last}" for last in range(2, 2 + NODES)]
-    with Nodes(program, NODES, MAY_LIE, hosts=addresses) as nodes, nodes.client(0) as owner:
+    ports = tundelca.free_ports(NODES + 1)
+    with Cluster(program, NODES, MAY_LIE, ports=([ports[0]] * NODES, ports[1:]), hosts=addresses,
+                 waits=True) as nodes, nodes.client(0) as owner:
         for address, is_there in [(tundelca.LOOPBACK, False), *((address, True) for address in addresses)]:
             with socket.socket() as tried:
                 judge((tried.connect_ex((address, nodes.nodes[0])) == 0) == is_there, f"at {address}: not {is_there}")
         owner.ask("assign", user=7, role=ROLE)
-        for me in range(NODES):
-            with nodes.client(me) as node:
-                node.wait_for_reach(0, 1)
+        nodes.reach_all(0, 1)
     return f"{NODES} nodes at one port of {NODES} addresses"
 
 
-def write(path, text):
-    with open(path, "w", encoding="ascii") as file:
-        json.dump(text, file)
-
-
 def check(program, path, text):
-    write(path, text)
+    write_text(path, text)
     return subprocess.run([program, "check", "--cluster", path], capture_output=True, text=True, timeout=PATIENCE)
 
 
@@ -279,23 +207,26 @@ REVOKED = [{"op": "deassign", "user": user, "role": ROLE} for user in range(11)]
 def journals_begun_twice(program):
     """An owner whose journal is begun anew, or of which an old copy is put back: nothing is published through it, and
     tools are red."""
-    with Nodes(program, NODES, MAY_LIE, has_journals=True) as nodes, tempfile.TemporaryDirectory() as kept:
+    with Cluster(program, NODES, MAY_LIE, has_journals=True, waits=True) as nodes, \
+            tempfile.TemporaryDirectory() as kept:
         publish(nodes, GRANTED[:5])
         nodes.kill(0)
-        put_back(nodes.journals[0], os.path.join(kept, "old"))
+        put_back(nodes.journal(0), os.path.join(kept, "old"))
         nodes.start(0)
+        nodes.wait([0])
         publish(nodes, GRANTED[5:])
         told = []
         for how in ("begun anew, alone", "begun anew", "an old copy"):
             nodes.kill(0)
             for end in ("", "-wal"):
                 with contextlib.suppress(FileNotFoundError):
-                    os.remove(nodes.journals[0] + end)
+                    os.remove(nodes.journal(0) + end)
             if how == "an old copy":
-                put_back(os.path.join(kept, "old"), nodes.journals[0])
+                put_back(os.path.join(kept, "old"), nodes.journal(0))
             else:
-                tundelca.begin(program, nodes.paths[0], nodes.journals[0])
+                nodes.begin(0)
             nodes.start(0)
+            nodes.wait([0])
             told.append(is_refused(nodes, how, [] if how == "begun anew, alone" else nodes.clients[1:]))
         with nodes.client(0) as owner:
             wait_until(lambda: owner.reach(0) >= len(GRANTED), "the others' old votes come")
@@ -320,9 +251,7 @@ def publish(nodes, commands):
     """Publishes at node 0, and waits until all have it."""
     with nodes.client(0) as owner:
         end = owner.publish(commands, 0, nodes.clients[1:], MAY_LIE).end
-    for me in range(NODES):
-        with nodes.client(me) as node:
-            node.wait_for_reach(0, end, PATIENCE)
+    nodes.reach_all(0, end)
 
 
 def is_refused(nodes, how, others):
@@ -336,3 +265,15 @@ def is_refused(nodes, how, others):
             return str(fault)
     with nodes.client(1) as other:
         raise AssertionError(f"{how}: {done}, and the users are {other.listing('assigned_users', role=ROLE)}")
+
+
+def cases(given):
+    """The cases, each with its name."""
+    return [
+        Case("operators' lines", lambda: lines(given.program("tundelca"), given.program("role_daemon"))),
+        Case("how nodes stand", lambda: standing(given.program("tundelca"))),
+        Case("sessions that were left", lambda: sessions_left(given.program("tundelca"))),
+        Case("streams, read out", lambda: streams(given.program("tundelca"))),
+        Case("hosts", lambda: hosts(given.program("tundelca"), given.program("role_daemon"))),
+        Case("journals begun twice", lambda: journals_begun_twice(given.program("tundelca"))),
+    ]

@@ -15,8 +15,8 @@ import client_pressure
 import runner
 from cluster import ECHO, FRAME, PATIENCE, SEND, Cluster, assign, flood
 from loads import Load
-from runner import Failed
-from timed_client import SOON, Client, thread_count, wait_soon, wait_until
+from runner import Failed, wait_until
+from timed_client import SOON, Client, thread_count, wait_soon
 
 # Limits that a machine with five times as many busy processes as cores kept. At rest the rate beside garbage is over
 # three quarters.

@@ -1,34 +1,29 @@
 #!/usr/bin/env python3
 """Refuses calls one by one: memory to tests, rows and programs, and to a serving node threads, sockets, reads and writes.
 
-    checks/refusals.py [--only WORD] [--every N]
+    checks/refusals.py [CHECKOUT] [--only WORD] [--every N]
 
 Runs what `rt ci` (or `rt test` and `rt run`) has built: of each test of TESTED, and of each program, one run for each
 call of the kind, until a run ends without a refusal. The call is refused by checks/refuse.c, which is compiled here, by
-the kit's clang or another C compiler. Prints a line for each, and last `refusals: N passed, M failed`.
+the kit's clang or another C compiler.
 
 What is asked of a run: a test passes. Rows, of each file whose head names memory, have the answers that are due, or end
 where their program was reading them. A program ends with status 5 and a front of the due text where memory was
 refused, or with status 0 and all of it; it writes nothing to standard error. A serving node ends with status 4 or 5, or
 serves on, answers rightly or closes the connection concerned, and `stop` ends it.
 """
-import argparse
 import contextlib
+import functools
 import json
 import os
-import shlex
-import shutil
-import socket
 import subprocess
-import sys
-import tempfile
 import time
 
-TOP = os.path.dirname(os.path.dirname(os.path.abspath(__file__)))
-sys.dont_write_bytecode = True
-sys.path[:0] = [os.path.join(TOP, "checks"), os.path.join(TOP, "tools")]
-import rows  # noqa: E402
-import tundelca  # noqa: E402
+import rows
+import runner
+from cluster import PATIENCE, TOP, Cluster, tundelca
+from lives import compiled
+from runner import Failed, judge
 
 # These take a call once more where memory was wanting, and see that nothing had changed. For each crate: the program
 # that has its tests, their module there, and the tests.
@@ -41,66 +36,44 @@ TESTED = {
     "role_lab": ("role_lab", "tests", ["a_script_ends_well_or_wants_memory"]),
 }
 SERVED = ["memory", "thread", "socket", "listen", "accept", "connect", "poll", "option", "read", "write"]
-PATIENCE = 20  # seconds
 SOON = 5  # seconds: a node ends within one of `stop`, on a machine that isn't busy
 MOST_RUNS = 20_000
 
 
-class Fault(Exception):
-    """A run did what it must not."""
-
-
-def built(crate, name):
-    path = os.path.join(TOP, "crates", crate, "out", name)
-    if not os.path.exists(path):
-        raise Fault(f"{path} is not there: run `rt ci`, or `rt test` and `rt run` in crates/{crate}")
-    return path
-
-
-def compilers():
-    """The words that call each C compiler that may be here, the kit's first."""
-    kit = subprocess.run(["rt", "doc"], capture_output=True, text=True).stdout.strip() if shutil.which("rt") else ""
-    own = os.path.join(os.path.dirname(kit), "toolchain", "bin", "clang")
-    return [[own, "-fuse-ld=lld"], shlex.split(os.environ.get("CC", "")), ["cc"], ["gcc"], ["clang"]]
-
-
-def compile_refuser(library):
-    source = os.path.join(TOP, "checks", "refuse.c")
-    tried = []
-    for words in compilers():
-        if words and shutil.which(words[0]):
-            words += ["-O1", "-shared", "-fPIC", "-nostdlib", "-fno-builtin", "-o", library, source]
-            ran = subprocess.run(words, capture_output=True, text=True)
-            if ran.returncode == 0:
-                return
-            tried.append(f"{words[0]}: {ran.stderr.strip()[-200:]}")
-    sys.exit(f"refusals: no C compiler here makes refuse.c, so nothing was refused: {'; '.join(tried) or 'none'}")
-
-
 class Refuser:
-    """Starts programs in which a call is refused."""
+    """Starts programs in which a call is refused, one call of `every` so many."""
 
-    def __init__(self, folder):
-        self.folder = folder
-        self.library, self.mark = os.path.join(folder, "refuse.so"), os.path.join(folder, "mark")
-        compile_refuser(self.library)
+    def __init__(self, given):
+        self.given, self.every, self.folder = given, given.words.every, given.new_folder()
+        self.mark = os.path.join(self.folder, "mark")
 
-    def environment(self, kind, at):
+    @functools.cached_property
+    def library(self):
+        """What refuses, compiled where it is first wanted."""
+        return compiled("checks/refuse.c", self.folder)
+
+    def variables(self, kind, at):
+        """What tells it that the call of this number is to be refused."""
         if os.path.exists(self.mark):
             os.remove(self.mark)
-        given = {"LD_PRELOAD": self.library, "REFUSE_KIND": kind, "REFUSE_AT": str(at), "REFUSE_MARK": self.mark}
-        return {**os.environ, **given}
+        return {"LD_PRELOAD": self.library, "REFUSE_KIND": kind, "REFUSE_AT": str(at), "REFUSE_MARK": self.mark}
+
+    def run(self, words, kind, at, given=None):
+        """A run of a program in which a call is refused."""
+        return subprocess.run(words, input=given, env={**os.environ, **self.variables(kind, at)}, cwd=self.folder,
+                              capture_output=True, timeout=PATIENCE)
 
     def has_refused(self):
         return os.path.exists(self.mark)
 
-    def sweep(self, kind, run, every=1):
+    def sweep(self, kind, run, every=None):
         """Runs once for each call of the kind, until one run has none left to refuse. How many were refused."""
+        every = every or self.every
         for at in range(1, MOST_RUNS, every):
             run(kind, at)
             if not self.has_refused():
                 return at // every
-        raise Fault(f"more than {MOST_RUNS} calls of kind {kind}")
+        raise Failed(f"more than {MOST_RUNS} calls of kind {kind}")
 
 
 def told(runs, refusals):
@@ -108,63 +81,62 @@ def told(runs, refusals):
     return f"{runs} runs, {refusals} refusals, 0 faults"
 
 
-def sweep_tests(refuser, crate, every):
+def tests_of(host):
+    """The tests of a crate, as `rt test` built them."""
+    path = os.path.join(TOP, "crates", host, "out", f"{host}_tests")
+    judge(os.path.exists(path), f"{path} is not there: run `rt ci`, or `rt test` in crates/{host}")
+    return path
+
+
+def sweep_tests(refuser, crate):
     host, module, names = TESTED[crate]
-    program = built(host, f"{host}_tests")
-    refusals = 0
+    program, refusals = tests_of(host), 0
     for name in names:
 
         def run(kind, at):
-            environment = refuser.environment(kind, at)
-            words = [program, f"{module}::{name}"]
-            ran = subprocess.run(
-                words, env=environment, cwd=refuser.folder, capture_output=True, timeout=PATIENCE
-            )
-            if ran.returncode:
-                raise Fault(f"{name}, call {at}: status {ran.returncode}: {(ran.stdout + ran.stderr)[-300:]!r}")
+            ran = refuser.run([program, f"{module}::{name}"], kind, at)
+            said = (ran.stdout + ran.stderr)[-300:]
+            judge(ran.returncode == 0, f"{name}, call {at}: status {ran.returncode}: {said!r}")
 
-        refusals += refuser.sweep("memory", run, every)
+        refusals += refuser.sweep("memory", run)
     return told(refusals + len(names), refusals)
 
 
-def sweep_rows(refuser, path, every):
+def judge_front(refuser, ran, at, due, early):
+    """The program wrote all that was due, or a front of it and ended with the status `early`. Its status."""
+    is_early = ran.returncode == early and refuser.has_refused() and due.startswith(ran.stdout)
+    said = f"wrote {ran.stdout[-80:]!r} and said {ran.stderr[-200:]!r}"
+    judge(is_early or ran.returncode == 0 and ran.stdout == due, f"call {at}: status {ran.returncode}, {said}")
+    return ran.returncode
+
+
+def sweep_rows(refuser, path):
     """Each answer of the file's rows is the one that is due, or the program ends where it was reading its rows."""
-    program, asked = built("row_lab", "row_lab"), rows.rows_of(path)
+    program, asked, ended = refuser.given.program("row_lab"), rows.rows_of(path), {0: 0, 1: 0}
     given, due = rows.given(asked), rows.due(asked)
-    ended = {0: 0, 1: 0}
 
     def run(kind, at):
-        environment = refuser.environment(kind, at)
-        ran = subprocess.run(
-            [program], input=given, env=environment, capture_output=True, timeout=PATIENCE, cwd=refuser.folder)
-        reading = ran.returncode == 1 and refuser.has_refused() and due.startswith(ran.stdout)
-        if not (reading or ran.returncode == 0 and ran.stdout == due and not ran.stderr):
-            said = f"wrote {ran.stdout[-80:]!r} and said {ran.stderr[-200:]!r}"
-            raise Fault(f"call {at}: status {ran.returncode}, {said}")
-        ended[ran.returncode] += 1
+        ran = refuser.run([program], kind, at, given)
+        judge(ran.returncode or not ran.stderr, f"call {at}: said {ran.stderr[-200:]!r}")
+        ended[judge_front(refuser, ran, at, due, 1)] += 1
 
-    refusals = refuser.sweep("memory", run, every)
+    refusals = refuser.sweep("memory", run)
     return f"{told(refusals + 1, refusals)}, {ended[1]} ended while reading"
 
 
-def sweep_program(refuser, crate, every):
-    program = built(crate, crate)
+def sweep_program(refuser, crate):
+    program, ended = refuser.given.program(crate), {0: 0, 5: 0}
     with open(os.path.join(TOP, "crates", crate, "stdin"), "rb") as file:
         given = file.read()
     with open(os.path.join(TOP, "crates", crate, "stdout"), "rb") as file:
         due = file.read()
-    ended = {0: 0, 5: 0}
 
     def run(kind, at):
-        environment = refuser.environment(kind, at)
-        ran = subprocess.run([program], input=given, env=environment, capture_output=True, timeout=PATIENCE)
-        well = ran.returncode == 5 and refuser.has_refused() and due.startswith(ran.stdout)
-        if not (well or ran.returncode == 0 and ran.stdout == due) or ran.stderr:
-            said = f"wrote {ran.stdout[-80:]!r} and said {ran.stderr[-200:]!r}"
-            raise Fault(f"call {at}: status {ran.returncode}, {said}")
-        ended[ran.returncode] += 1
+        ran = refuser.run([program], kind, at, given)
+        judge(not ran.stderr, f"call {at}: said {ran.stderr[-200:]!r}")
+        ended[judge_front(refuser, ran, at, due, 5)] += 1
 
-    refusals = refuser.sweep("memory", run, every)
+    refusals = refuser.sweep("memory", run)
     return f"{told(refusals + 1, refusals)}, {ended[5]} ended with status 5"
 
 
@@ -178,9 +150,9 @@ TALK = [
 ]
 
 
-def talk(port, at_once=False):
+def talk(cluster, at_once=False):
     """Asks a serving node; whether each line was answered as it must be, in order, before the connection ended."""
-    with socket.create_connection((tundelca.LOOPBACK, port), timeout=PATIENCE) as stream:
+    with cluster.connect(0) as stream:
         lines = stream.makefile("r", encoding="ascii")
         if at_once:
             stream.sendall(b"".join(json.dumps(request).encode() + b"\n" for request, _ in TALK))
@@ -192,16 +164,16 @@ def talk(port, at_once=False):
                 return False
             answer = json.loads(line)
             if member not in answer and "error" not in answer or answer.get("allow") is True:
-                raise Fault(f"{json.dumps(request)} was answered {line!r}")
+                raise Failed(f"{json.dumps(request)} was answered {line!r}")
     return True
 
 
-def stop(process, port):
+def stop(cluster):
     """Stops the node, by as many connections as it takes. Its status."""
-    deadline = time.monotonic() + PATIENCE
+    process, deadline = cluster.running[0], time.monotonic() + PATIENCE
     while process.poll() is None and time.monotonic() < deadline:
         try:
-            with socket.create_connection((tundelca.LOOPBACK, port), timeout=2) as stream:
+            with cluster.connect(0, 2) as stream:
                 stream.sendall(b'{"op":"stop"}\n')
                 if stream.recv(100) == b'{"stopped":true}\n':
                     break
@@ -210,47 +182,57 @@ def stop(process, port):
     begin = time.monotonic()
     status = process.wait(PATIENCE)
     if time.monotonic() - begin > SOON:
-        raise Fault(f"the node ended {time.monotonic() - begin:.1f} seconds after stop was answered")
+        raise Failed(f"the node ended {time.monotonic() - begin:.1f} seconds after stop was answered")
     return status
 
 
-def sweep_serve(refuser, folder, kind, every, at_once=False):
-    program = built("role_daemon", "role_daemon")
-    ended = {}
+class Alone(Cluster):
+    """A cluster of which node 0 alone is a process, in memory. It writes nothing to this script's output."""
+
+    def settings(self, me):
+        return {**super().settings(me), "stdout": subprocess.DEVNULL}
+
+    def serve(self, variables, faults):
+        """Starts the node with a call refused. Its process."""
+        self.variables, self.faults = variables, faults
+        self.start(0)
+        return self.running[0]
+
+
+def sweep_serve(refuser, kind, at_once=False):
+    program, ended = refuser.given.program("role_daemon"), {}
 
     def run(kind, at):
-        ports = tundelca.free_ports(5)
-        own = tempfile.mkdtemp(dir=folder)
-        path = tundelca.cluster_files(own, [(2, 0)], ports[:4], ports[4:] * 4, 1)[0]
-        environment = refuser.environment(kind, at)
-        process = subprocess.Popen(
-            [program, "serve", "--cluster", path], env=environment, stdin=subprocess.DEVNULL,
-            stdout=subprocess.DEVNULL, stderr=subprocess.PIPE)
-        try:
-            status = serve_run(process, ports[4])
-        finally:
-            if process.poll() is None:
-                process.kill()
-            process.wait()
-        said = process.stderr.read()
-        process.stderr.close()
+        with Alone(program, 4, 1, running=()) as cluster:
+            process = cluster.serve(refuser.variables(kind, at), subprocess.PIPE)
+            try:
+                status = serve_run(cluster, at_once)
+            finally:
+                if process.poll() is None:
+                    process.kill()
+                process.wait()
+            said = process.stderr.read()
         if status not in (0, 4, 5) and not (status == 3 and said) or status == 0 and said:
-            raise Fault(f"{kind}, call {at}: status {status}, said {said!r}")
+            raise Failed(f"{kind}, call {at}: status {status}, said {said!r}")
         ended[status] = ended.get(status, 0) + 1
 
-    def serve_run(process, port):
-        deadline = time.monotonic() + PATIENCE
-        while process.poll() is None:
-            try:
-                if talk(port, at_once) or time.monotonic() > deadline:
-                    break
-            except OSError:
-                time.sleep(0.01)
-        if process.poll() is not None:
-            return process.returncode
-        return stop(process, port)
+    return counted(refuser.sweep(kind, run), ended)
 
-    refusals = refuser.sweep(kind, run, every)
+
+def serve_run(cluster, at_once):
+    """Talks with the node as long as it must, and stops it. Its status."""
+    process, deadline = cluster.running[0], time.monotonic() + PATIENCE
+    while process.poll() is None:
+        try:
+            if talk(cluster, at_once) or time.monotonic() > deadline:
+                break
+        except OSError:
+            time.sleep(0.01)
+    return stop(cluster) if process.poll() is None else process.returncode
+
+
+def counted(refusals, ended):
+    """What a sweep of a serving node prints."""
     counts = ", ".join(f"{key}: {ended[key]}" for key in sorted(ended))
     return f"{told(refusals + 1, refusals)}, ended with status {counts}"
 
@@ -258,11 +240,11 @@ def sweep_serve(refuser, folder, kind, every, at_once=False):
 PAGE = b'PATCH / HTTP/1.1\r\nContent-Length: 14\r\n\r\n{"op":"stop"}\n'
 
 
-def show_page(process, port):
+def show_page(cluster):
     """Sends a node what a web page may, whether or not it answers, and waits until it has ended the connection."""
-    while process.poll() is None:
+    while cluster.running[0].poll() is None:
         with contextlib.suppress(ConnectionError):
-            with socket.create_connection((tundelca.LOOPBACK, port), timeout=PATIENCE) as page:
+            with cluster.connect(0) as page:
                 page.sendall(PAGE)
                 while page.recv(100):
                     pass
@@ -270,81 +252,53 @@ def show_page(process, port):
         time.sleep(0.01)
 
 
-def ended_by_itself(process, port):
+def ended_by_itself(cluster):
     """Whether a node has ended, or doesn't answer and ends soon."""
     try:
-        with tundelca.Client(port, SOON) as node:
+        with cluster.client(0, SOON) as node:
             node.reach(0)
     except tundelca.NodeFault:
         with contextlib.suppress(subprocess.TimeoutExpired):
-            process.wait(1)
-    return process.poll() is not None
+            cluster.running[0].wait(1)
+    return cluster.running[0].poll() is not None
 
 
-def sweep_page(refuser, folder, kind):
+def sweep_page(refuser, kind):
     """Whatever is refused, a node obeys no line of a web page, also none behind its last answer. Calls that come before
     it serves are refused too, where a node may end by itself."""
-    program = built("tundelca", "tundelca")
-    ended = {}
+    program, ended = refuser.given.program("tundelca"), {}
 
     def run(_, at):
-        ports = tundelca.free_ports(2)
-        own = tempfile.mkdtemp(dir=folder)
-        [path] = tundelca.cluster_files(own, [(2, 0)], ports[:1], ports[1:], 0)
-        process = subprocess.Popen(
-            [program, "serve", "--in-memory", "--cluster", path], env=refuser.environment(kind, at),
-            stdin=subprocess.DEVNULL, stdout=subprocess.DEVNULL, stderr=subprocess.DEVNULL)
-        try:
-            show_page(process, ports[1])
-            if ended_by_itself(process, ports[1]) and process.returncode == 0:
-                raise Fault(f"{kind}, call {at}: the page's stop was obeyed")
-            status = stop(process, ports[1])
-        finally:
-            if process.poll() is None:
-                process.kill()
-            process.wait()
+        with Alone(program, running=()) as cluster:
+            process = cluster.serve(refuser.variables(kind, at), subprocess.DEVNULL)
+            show_page(cluster)
+            if ended_by_itself(cluster) and process.returncode == 0:
+                raise Failed(f"{kind}, call {at}: the page's stop was obeyed")
+            status = stop(cluster)
         ended[status] = ended.get(status, 0) + 1
 
-    refusals = refuser.sweep(kind, run)
-    counts = ", ".join(f"{key}: {ended[key]}" for key in sorted(ended))
-    return f"{told(refusals + 1, refusals)}, ended with status {counts}"
+    return counted(refuser.sweep(kind, run, every=1), ended)
 
 
-def main():
-    parser = argparse.ArgumentParser(description=__doc__, formatter_class=argparse.RawDescriptionHelpFormatter)
-    parser.add_argument("--only", default="", help="what has this word in its name")
-    parser.add_argument("--every", type=int, default=1, help="refuse every Nth call alone")
-    words = parser.parse_args()
-    passed = failed = 0
-    with tempfile.TemporaryDirectory(prefix="tundelca-") as folder:
-        refuser = Refuser(folder)
-        sweeps = []
-        for crate in TESTED:
-            sweeps.append((f"tests of {crate}", lambda crate=crate: sweep_tests(refuser, crate, words.every)))
-        for path in filter(rows.has_memory, rows.files()):
-            sweeps.append((rows.named(path), lambda path=path: sweep_rows(refuser, path, words.every)))
-        for crate in ("role_lab", "role_daemon"):
-            sweeps.append((crate, lambda crate=crate: sweep_program(refuser, crate, words.every)))
-        for kind in SERVED:
-            sweeps.append((f"serve, {kind}", lambda kind=kind: sweep_serve(refuser, folder, kind, words.every)))
-        for kind in ("memory", "write"):
-            run = lambda kind=kind: sweep_serve(refuser, folder, kind, words.every, at_once=True)
-            sweeps.append((f"serve, {kind}, all lines at once", run))
-        for kind in ("memory", "read"):
-            sweeps.append((f"a web page, {kind}", lambda kind=kind: sweep_page(refuser, folder, kind)))
-        for name, sweep in sweeps:
-            if words.only not in name:
-                continue
-            begin = time.monotonic()
-            try:
-                print(f"refusals: {name}: {sweep()}, in {time.monotonic() - begin:.0f} s", flush=True)
-                passed += 1
-            except (Fault, OSError, subprocess.SubprocessError) as fault:
-                print(f"refusals: {name}: 1 fault, and no further run: {fault}", flush=True)
-                failed += 1
-    print(f"refusals: {passed} passed, {failed} failed")
-    sys.exit(1 if failed else 0)
+def cases(given):
+    """A sweep for each test, file of rows and program, and for each kind of call of a serving node."""
+    refuser = Refuser(given)
+
+    def case(name, sweep, *more, **other):
+        return runner.Case(name, lambda: sweep(refuser, *more, **other))
+
+    return [*(case(f"tests of {crate}", sweep_tests, crate) for crate in TESTED),
+            *(case(rows.named(path), sweep_rows, path) for path in filter(rows.has_memory, rows.files())),
+            *(case(crate, sweep_program, crate) for crate in ("role_lab", "role_daemon")),
+            *(case(f"serve, {kind}", sweep_serve, kind) for kind in SERVED),
+            *(case(f"serve, {kind}, all lines at once", sweep_serve, kind, at_once=True)
+              for kind in ("memory", "write")),
+            *(case(f"a web page, {kind}", sweep_page, kind) for kind in ("memory", "read"))]
+
+
+def options(parser):
+    parser.add_argument("--every", type=int, default=1, metavar="N", help="refuse every Nth call alone")
 
 
 if __name__ == "__main__":
-    main()
+    runner.main("refusals", __doc__, cases, options)

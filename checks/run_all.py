@@ -1,12 +1,13 @@
 #!/usr/bin/env python3
-"""Runs every example on the built programs and judges what comes: checks/run_all.py [role_lab role_daemon tundelca]
+"""Runs every example on the built programs and judges what comes: checks/run_all.py [CHECKOUT] [--only WORD]
 
 The scripts in examples/lab and examples/pipe are compared with their outputs, byte for byte; the others are run
-against four nodes on this machine. Prints a line for each and last `examples: N passed, M failed`. Ends by itself, in a
-few minutes. four_hosts.py needs root, iproute2 and network namespaces: where there are none, its line says that it was
-skipped.
+against four nodes on this machine. CHECKOUT is where role_lab, role_daemon and tundelca were built, or these programs;
+this checkout if it is left out. Ends by itself, in a few minutes. four_hosts.py needs root, iproute2 and network
+namespaces: where there are none, its line says that it was skipped.
 """
 import contextlib
+import functools
 import json
 import os
 import re
@@ -16,33 +17,24 @@ import subprocess
 import sys
 import tempfile
 
-HERE = os.path.dirname(os.path.abspath(__file__))
-TOP = os.path.dirname(HERE)
-EXAMPLES = os.path.join(TOP, "examples")
-sys.dont_write_bytecode = True
-sys.path[:0] = [HERE, EXAMPLES, os.path.join(TOP, "tools")]
-import built  # noqa: E402
-import clients_page  # noqa: E402
-import first_bytes  # noqa: E402
-import gateway_cases  # noqa: E402
-import loss_cases  # noqa: E402
-import operator_cases  # noqa: E402
-import tundelca  # noqa: E402
-import tools_tried  # noqa: E402
+import clients_page
+import first_bytes
+import gateway_cases
+import loss_cases
+import operator_cases
+import runner
+import tools_tried
+from cluster import ROLE, TOP, Cluster, tundelca
+from runner import Case, Skipped, judge
 
+EXAMPLES = os.path.join(TOP, "examples")
 PATIENCE = 60  # seconds, for each program that an example starts
 SOON = 10  # seconds in which a node that is joined again lacks nothing
-OWNER, ROLE, NODES, MAY_LIE = 0, 2, 4, 1
+OWNER, NODES, MAY_LIE = 0, 4, 1
 COMMANDS = 600  # more than wait for a node that is cut off
 PAIRS = 20_000  # that are kept and published anew
 BAD_SCRIPT = 3  # the status
-PROGRAMS = ["role_lab", "role_daemon", "tundelca"]
 MOST_THREADS = 20  # of a node of four, with its peers and a client
-
-
-def judge(well, text):
-    if not well:
-        raise AssertionError(text)
 
 
 def python(name, *words):
@@ -146,7 +138,7 @@ def four_hosts(program):
     """A host that is cut off stays behind and answers its clients; joined again it lacks nothing. One that gets another
     address is found there."""
     if not hosts_can_be_made():
-        return "SKIPPED: here is no root, no iproute2, or no network namespace"
+        raise Skipped("here is no root, no iproute2, or no network namespace")
     ran = subprocess.Popen([sys.executable, os.path.join(EXAMPLES, "four_hosts.py"), program], stdout=subprocess.PIPE,
                            stderr=subprocess.PIPE, text=True)
     try:
@@ -178,51 +170,35 @@ def thread_count(process):
 def threads(program):
     """Each of four nodes has few threads at rest, and once all have spoken with one another."""
     if not os.path.exists("/proc/self/status"):
-        return "nobody says here how many threads there are"
-    with tempfile.TemporaryDirectory(prefix="tundelca-") as folder, contextlib.ExitStack() as stack:
-        ports = tundelca.free_ports(2 * NODES)
-        clients = ports[NODES:]
-        running = []
-        for path in tundelca.cluster_files(folder, [(ROLE, OWNER)], ports[:NODES], clients, MAY_LIE):
-            running.append(tundelca.start(program, path))
-            stack.callback(running[-1].wait)
-            stack.callback(running[-1].kill)
-        at_rest = [thread_count(process) for process in running]
-        with tundelca.Client(clients[OWNER]) as owner:
+        raise Skipped("nobody says here how many threads there are")
+    with Cluster(program, NODES, MAY_LIE, waits=True) as nodes:
+        at_rest = [thread_count(process) for process in nodes.running.values()]
+        with nodes.client(OWNER) as owner:
             owner.ask("assign", user=7, role=ROLE)
-            for port in clients:
-                with tundelca.Client(port) as node:
-                    node.wait_for_reach(OWNER, 1)
-            spoken = [thread_count(process) for process in running]
+            nodes.reach_all(OWNER, 1)
+            spoken = [thread_count(process) for process in nodes.running.values()]
         judge(max(at_rest + spoken) < MOST_THREADS, f"threads: {at_rest} at rest, {spoken} once all have spoken")
-        statuses = [tundelca.stop(port, process) for port, process in zip(clients, running)]
+        statuses = [nodes.stop(me) for me in range(NODES)]
         judge(statuses == [0] * NODES, f"statuses {statuses}")
     return f"at most {max(at_rest)} at rest, {max(spoken)} once all have spoken"
 
 
-class Cut:
-    """Four nodes, of which the last is reached, and reaches the others, through a forwarder that can be cut."""
+class Cut(Cluster):
+    """Four nodes, of which the last is reached, and reaches the others, through forward.py, which can be ended."""
 
-    def __init__(self, program, folder, stack):
-        ports = tundelca.free_ports(2 * NODES + NODES)
-        nodes, self.clients, passed = ports[:NODES], ports[NODES:2 * NODES], ports[2 * NODES:]
-        paths = tundelca.cluster_files(folder, [(ROLE, OWNER)], nodes, self.clients, MAY_LIE)
-        for me, path in enumerate(paths):
-            with open(path, encoding="ascii") as file:
-                text = json.load(file)
-            text["nodes"] = [
-                passed[other] if other != me and NODES - 1 in (me, other) else nodes[other] for other in range(NODES)
-            ]
-            with open(path, "w", encoding="ascii") as file:
-                json.dump(text, file)
-        self.pairs = [f"{there}={tundelca.LOOPBACK}:{node}" for there, node in zip(passed, nodes)]
-        self.forwarder = None
-        stack.callback(self.cut)
-        self.join()
-        for path in paths:
-            process = tundelca.start(program, path)
-            stack.callback(process.wait)
-            stack.callback(process.kill)
+    def __init__(self, program):
+        super().__init__(program, NODES, MAY_LIE, running=())
+        last, passed, self.forwarder = NODES - 1, tundelca.free_ports(NODES), None
+        self.route({(me, to): passed[to] for me in range(NODES) for to in range(NODES) if me != to and last in (me, to)})
+        self.pairs = [f"{there}={tundelca.LOOPBACK}:{node}" for there, node in zip(passed, self.nodes)]
+        try:
+            self.join()
+            for me in range(NODES):
+                self.start(me)
+            self.wait()
+        except BaseException:
+            self.end()
+            raise
 
     def join(self):
         words = [sys.executable, os.path.join(EXAMPLES, "forward.py"), *self.pairs]
@@ -236,62 +212,54 @@ class Cut:
             self.forwarder.stdout.close()
             self.forwarder = None
 
+    def end(self):
+        self.cut()
+        super().end()
+
 
 def cut_and_caught_up(program):
     """A node that was cut off lacks commands, as watch.py shows; joined again it gets them from the others."""
-    with tempfile.TemporaryDirectory(prefix="tundelca-") as folder, contextlib.ExitStack() as stack:
-        cluster = Cut(program, folder, stack)
-        owner, last = tundelca.Client(cluster.clients[OWNER]), tundelca.Client(cluster.clients[-1])
+    with Cut(program) as nodes, nodes.client(OWNER) as owner, nodes.client(NODES - 1) as last:
         owner.ask("assign", user=1, role=ROLE)
         last.wait_for_reach(OWNER, 1)
-        cluster.cut()
+        nodes.cut()
         commands = [{"op": "assign", "user": user, "role": ROLE} for user in range(1, COMMANDS)]
-        done = owner.publish(commands, OWNER, cluster.clients[1:], MAY_LIE)
-        judge(done == tundelca.Published(COMMANDS - 1, COMMANDS, {cluster.clients[-1]: 1}), str(done))
-        text = python("watch.py", *cluster.clients)
+        done = owner.publish(commands, OWNER, nodes.clients[1:], MAY_LIE)
+        judge(done == tundelca.Published(COMMANDS - 1, COMMANDS, {nodes.clients[-1]: 1}), str(done))
+        text = python("watch.py", *nodes.clients)
         judge(f"(-{COMMANDS - 1})" in text, text)
-        cluster.join()
+        nodes.join()
         last.wait_for_reach(OWNER, COMMANDS, SOON)
-        judge("(-" not in python("watch.py", *cluster.clients), "a node is still behind")
+        judge("(-" not in python("watch.py", *nodes.clients), "a node is still behind")
     return f"{COMMANDS - 1} commands behind, and none"
 
 
 def begun_anew(program):
     """Three of four nodes keep what the roles hold; the next cluster has it, under new keys and the next number."""
-    with tempfile.TemporaryDirectory(prefix="tundelca-") as folder, contextlib.ExitStack() as stack:
-        ports = tundelca.free_ports(2 * NODES)
-        clients = ports[NODES:]
-        old = tundelca.cluster_files(folder, [(ROLE, OWNER), (3, 1)], ports[:NODES], clients, MAY_LIE)
-        for path in old:
-            stack.callback(tundelca.start(program, path).kill)
-        with tundelca.Client(clients[OWNER]) as owner, tundelca.Client(clients[1]) as other:
+    with tempfile.TemporaryDirectory(prefix="tundelca-") as folder, \
+            Cluster(program, NODES, MAY_LIE, 2, waits=True) as nodes:
+        clients, kept = nodes.clients, os.path.join(folder, "kept.json")
+        with nodes.client(OWNER) as owner, nodes.client(1) as other:
             assigns = [{"op": "assign", "user": user, "role": ROLE} for user in range(PAIRS)]
             owner.publish(assigns, OWNER, clients[1:], MAY_LIE)
             owner.ask("deassign", user=7, role=ROLE)
             other.ask("grant", role=3, operation=5, object=9)
-        for port in clients:
-            with tundelca.Client(port) as node:
-                node.wait_for_reach(OWNER, PAIRS + 1)
-                node.wait_for_reach(1, 1)
-        kept = os.path.join(folder, "kept.json")
+        nodes.reach_all(OWNER, PAIRS + 1)
+        nodes.reach_all(1, 1)
         with open(kept, "w", encoding="ascii") as file:
-            file.write(python("begin_anew.py", "keep", *old[1:]))
-        for port in clients:
-            tundelca.stop(port)
-        new = python("begin_anew.py", "files", os.path.join(folder, "new"), *old).split()
-        for path in new:
-            process = tundelca.start(program, path)
-            stack.callback(process.wait)
-            stack.callback(process.kill)
-        told = python("begin_anew.py", "publish", kept, *new)
-        counts = [PAIRS - 1, 1, 0, 0]
-        due = "".join(f"node {me}: {count:,} command{'' if count == 1 else 's'}\n" for me, count in enumerate(counts))
-        judge(told == due, told)
-        for port in clients:
-            with tundelca.Client(port) as node:
-                node.wait_for_reach(OWNER, PAIRS - 1)
-                node.wait_for_reach(1, 1)
-        same = python("begin_anew.py", "keep", *new)
+            file.write(python("begin_anew.py", "keep", *nodes.paths[1:]))
+        for me in range(NODES):
+            nodes.stop(me)
+        new = python("begin_anew.py", "files", os.path.join(folder, "new"), *nodes.paths).split()
+        with Cluster(program, paths=new, waits=True) as later:
+            told = python("begin_anew.py", "publish", kept, *new)
+            counts = [PAIRS - 1, 1, 0, 0]
+            due = "".join(f"node {me}: {count:,} command{'' if count == 1 else 's'}\n"
+                          for me, count in enumerate(counts))
+            judge(told == due, told)
+            later.reach_all(OWNER, PAIRS - 1)
+            later.reach_all(1, 1)
+            same = python("begin_anew.py", "keep", *new)
         with open(kept, encoding="ascii") as file:
             judge(same == file.read(), same)
     return f"{PAIRS} commands"
@@ -309,52 +277,31 @@ def first_cluster(program):
     return "a liar, and nobody believes it"
 
 
-def main():
-    given = sys.argv[1:] or [None] * len(PROGRAMS)
-    lab, daemon, keeper = (built.program(name, path) for name, path in zip(PROGRAMS, given))
-    examples = [
-        ("lab", lambda: scripts("lab", lab)),
-        ("most_liars.py", lambda: most_liars(lab)),
-        ("full_stream.py", lambda: python("full_stream.py", lab).strip()),
-        ("pipe", lambda: scripts("pipe", daemon)),
-        ("README.md", lambda: transcripts(lab, daemon)),
-        ("OPERATIONS.md", lambda: page(keeper)),
-        ("CLIENTS.md", lambda: clients_page.run(keeper)),
-        ("four_nodes.py", lambda: four_nodes(daemon)),
-        ("four_nodes.py, with journals", lambda: four_nodes(keeper, NODES)),
-        ("four_hosts.py", lambda: four_hosts(keeper)),
-        ("threads", lambda: threads(daemon)),
-        ("forward.py, watch.py", lambda: cut_and_caught_up(daemon)),
-        ("begin_anew.py", lambda: begun_anew(daemon)),
-        ("gateway.py", lambda: gateway_cases.before_nodes(keeper)),
-        ("gateway.py, before a node that fails", gateway_cases.before_a_node_that_fails),
-        ("first_cluster.py", lambda: first_cluster(keeper)),
-        ("operators' lines", lambda: operator_cases.lines(keeper, daemon)),
-        ("how nodes stand", lambda: operator_cases.standing(keeper)),
-        ("sessions that were left", lambda: operator_cases.sessions_left(keeper)),
-        ("streams, read out", lambda: operator_cases.streams(keeper)),
-        ("hosts", lambda: operator_cases.hosts(keeper, daemon)),
-        ("journals begun twice", lambda: operator_cases.journals_begun_twice(keeper)),
+def cases(given):
+    """Each example, and what else is tried of the built programs as their users have them."""
+    lab, daemon, keeper = (functools.partial(given.program, name) for name in ("role_lab", "role_daemon", "tundelca"))
+    return [
+        Case("lab", lambda: scripts("lab", lab())),
+        Case("most_liars.py", lambda: most_liars(lab())),
+        Case("full_stream.py", lambda: python("full_stream.py", lab()).strip()),
+        Case("pipe", lambda: scripts("pipe", daemon())),
+        Case("README.md", lambda: transcripts(lab(), daemon())),
+        Case("OPERATIONS.md", lambda: page(keeper())),
+        Case("CLIENTS.md", lambda: clients_page.run(keeper())),
+        Case("four_nodes.py", lambda: four_nodes(daemon())),
+        Case("four_nodes.py, with journals", lambda: four_nodes(keeper(), NODES)),
+        Case("four_hosts.py", lambda: four_hosts(keeper())),
+        Case("threads", lambda: threads(daemon())),
+        Case("forward.py, watch.py", lambda: cut_and_caught_up(daemon())),
+        Case("begin_anew.py", lambda: begun_anew(daemon())),
+        Case("first_cluster.py", lambda: first_cluster(keeper())),
+        *gateway_cases.cases(given),
+        *operator_cases.cases(given),
+        *loss_cases.cases(given),
+        *first_bytes.cases(given),
+        *tools_tried.cases(given),
     ]
-    examples += [
-        ("files that are there", loss_cases.files_stay),
-        ("begin-anew keep, while others publish", loss_cases.keep_sees),
-        ("OPERATIONS.md, what it warns of", loss_cases.page_warns),
-        ("a journal's folders are synced", lambda: loss_cases.folders_are_synced(keeper)),
-        ("check, killed", lambda: loss_cases.killed_check(keeper)),
-    ]
-    examples += first_bytes.cases(daemon, keeper)
-    examples += tools_tried.trials(lab, keeper)
-    failed = 0
-    for name, example in examples:
-        try:
-            print(f"examples: {name}: {example()}", flush=True)
-        except (AssertionError, OSError, subprocess.TimeoutExpired, tundelca.NodeFault) as fault:
-            print(f"examples: {name}: FAILED: {fault}", flush=True)
-            failed += 1
-    print(f"examples: {len(examples) - failed} passed, {failed} failed")
-    sys.exit(1 if failed else 0)
 
 
 if __name__ == "__main__":
-    main()
+    runner.main("examples", __doc__, cases)

@@ -22,7 +22,7 @@ import traceback
 from dataclasses import dataclass
 from typing import Callable, Iterable, List, NoReturn, Optional, Sequence
 
-import paths  # noqa: F401  before the modules of other folders
+from paths import TOP  # noqa: F401  first: before the modules of other folders
 import built
 import tundelca
 
@@ -43,6 +43,14 @@ def judge(well: object, text: str) -> None:
     """Fails for this reason where it isn't well."""
     if not well:
         raise Failed(text)
+
+
+def wait_until(holds: Callable[[], object], what: str, patience: float = 20.0, look: float = 0.02) -> None:
+    """Waits until it holds, for so many seconds at most, and looks at it so often."""
+    end = time.monotonic() + patience
+    while not holds():
+        judge(time.monotonic() < end, f"not within {patience:.0f} s: {what}")
+        time.sleep(look)
 
 
 @dataclass(frozen=True)

@@ -1,15 +1,15 @@
 """How tools show nodes that are ready, behind, begun twice or away: `status`, `health`, `metrics`, the board.
 
-On nodes that a script plays (played.py), for tools_tried.
+On nodes that a script plays (played.py), for checks/tools_tried.py.
 """
 import json
 import re
 import subprocess
 
-import tundelca
+from cluster import tundelca
 from ctl import findings, nodes
-from tools_tried import (
-    AWAY, BEHIND, NODES, READY, REFUSED, TOOL, ended, fetch, judge, playing, serving, tool, wait_until)
+from runner import judge, wait_until
+from tool_runs import AWAY, BEHIND, NODES, READY, REFUSED, TOOL, ended, fetch, playing, serving, tool
 
 
 def states_are_told():

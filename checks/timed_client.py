@@ -4,7 +4,7 @@ import socket
 import time
 
 from cluster import PATIENCE
-from runner import Failed
+from runner import Failed, wait_until
 
 SOON = 5  # seconds: on a machine that isn't busy an answer comes within one, and so does the end after `stop`
 
@@ -36,21 +36,9 @@ class Client:
         return json.loads(line)
 
 
-def wait_until(test, text):
-    end = time.time() + PATIENCE
-    while not test():
-        if time.time() > end:
-            raise Failed(text)
-        time.sleep(0.01)
-
-
 def wait_soon(test, text):
     """Waits as `wait_until` does, and looks more often."""
-    end = time.time() + PATIENCE
-    while not test():
-        if time.time() > end:
-            raise Failed(text)
-        time.sleep(0.0002)
+    wait_until(test, text, look=0.0002)
 
 
 def thread_count(process):

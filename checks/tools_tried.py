@@ -1,129 +1,31 @@
 #!/usr/bin/env python3
-"""Tries tools/tundelca_ctl.py and judges what comes: tools_tried.py [role_lab tundelca]
+"""Tries tools/tundelca_ctl.py and judges what comes: tools_tried.py [CHECKOUT] [--only WORD]
 
 On the built programs, and on nodes that a script plays (played.py), which are also what no correct node is: mute, far
 behind, full, or liars. run_all runs these trials among its own.
 """
-import contextlib
-import io
 import json
 import os
 import pty
 import re
-import signal
 import subprocess
-import sys
 import tempfile
 import time
-import traceback
-import urllib.error
-import urllib.request
 
-HERE = os.path.dirname(os.path.abspath(__file__))
-TOP = os.path.dirname(HERE)
-sys.dont_write_bytecode = True
-sys.path.insert(0, HERE)
-sys.path.insert(0, os.path.join(TOP, "tools"))
-import played  # noqa: E402
-import tundelca  # noqa: E402
-import tundelca_ctl  # noqa: E402
+import client_tried
+import lies_told
+import played
+import runner
+import standings_tried
+from cluster import Cluster, tundelca
+from runner import judge, wait_until
+from tool_runs import (
+    AWAY, BEHIND, MAY_LIE, NODES, PATIENCE, READY, REFUSED, TOOL, WRONG, ended, fetch, made_by_tool, playing, process,
+    serving, tool)
 
-TOOL = [sys.executable, os.path.join(TOP, "tools", "tundelca_ctl.py")]
-PATIENCE = 60  # seconds, for a run of the tool
-NODES, MAY_LIE = 4, 1
-ROLES = [(2, 0), (3, 1)]
 PAIRS = 5_000  # that are published, kept and published anew
-READY, BEHIND, AWAY, WRONG, REFUSED = range(5)  # exit statuses
 COMMANDS = ["status", "health", "metrics", "board", "ask", "stream", "diff", "publish", "sessions", "lab", "key",
             "file", "files", "check", "begin-anew"]
-
-
-def judge(well, text):
-    if not well:
-        raise AssertionError(text)
-
-
-def tool(*words, status=0):
-    """What the tool prints, which has to end with this status; it tells a line of wrong words, of `keep` too."""
-    came, out, told = ended(*words)
-    said = f"{words} ended with status {came}: {out[-400:]} {told[-400:]}"
-    judge(came == status, said)
-    tells = "keep" in words[1:2] if status == READY else status in (AWAY, WRONG, REFUSED) and not out
-    judge(told.count("\n") == (1 if tells else 0), said)
-    return out if status != WRONG else told
-
-
-def ended(*words):
-    """The status of the tool, what it prints and what it tells; None and a traceback where it ends by itself.
-
-    It runs in this process, which takes a hundredth of the time that a process of its own would take to start.
-    """
-    out, told = io.StringIO(), io.StringIO()
-    with contextlib.redirect_stdout(out), contextlib.redirect_stderr(told), alarm(PATIENCE):
-        try:
-            status = tundelca_ctl.main(list(map(str, words)))
-        except SystemExit as end:
-            status = end.code
-        except Exception:  # as a shell would see it
-            status = None
-            traceback.print_exc()
-    return status, out.getvalue(), told.getvalue()
-
-
-@contextlib.contextmanager
-def alarm(seconds):
-    """Ends the block by an AssertionError after so many seconds."""
-
-    def ring(*_):
-        raise AssertionError(f"not done in {seconds} s")
-
-    signal.signal(signal.SIGALRM, ring)
-    signal.alarm(seconds)
-    try:
-        yield
-    finally:
-        signal.alarm(0)
-
-
-def process(*words):
-    """The tool as a process of its own: its status, and what it printed and told."""
-    ran = subprocess.run([*TOOL, *map(str, words)], capture_output=True, text=True, timeout=PATIENCE)
-    return ran.returncode, ran.stdout, ran.stderr
-
-
-def wait_until(holds, what):
-    end = time.monotonic() + PATIENCE
-    while not holds():
-        judge(time.monotonic() < end, f"not in {PATIENCE} s: {what}")
-        time.sleep(0.02)
-
-
-@contextlib.contextmanager
-def serving(*words):
-    """The tool at work until the end of the block, and the address that it prints first.
-
-    It heeds an interrupt, also where the trials run behind a shell's `&`, which has programs ignore it.
-    """
-    ran = subprocess.Popen([*TOOL, *map(str, words)], stdout=subprocess.PIPE, text=True,
-                           preexec_fn=lambda: signal.signal(signal.SIGINT, signal.default_int_handler))
-    try:
-        yield ran.stdout.readline().strip()
-        ran.send_signal(signal.SIGINT)
-        judge(ran.wait(PATIENCE) == 130, f"{words}: status {ran.returncode} at an interrupt")
-    finally:
-        ran.kill()
-        ran.wait()
-        ran.stdout.close()
-
-
-def fetch(address, headers=(), method="GET"):
-    """The status, the headers and the text of a page."""
-    request = urllib.request.Request(address, headers=dict(headers), method=method)
-    try:
-        with urllib.request.urlopen(request, timeout=PATIENCE) as answer:
-            return answer.status, answer.headers, answer.read().decode()
-    except urllib.error.HTTPError as error:
-        return error.code, error.headers, error.read().decode()
 
 
 def words_are_told():
@@ -143,16 +45,6 @@ def words_are_told():
     status, said, told = process("health", tundelca.free_ports(1)[0])
     judge((status, said[:6], told) == (AWAY, "away: ", ""), said + told)
     return f"{len(COMMANDS)} commands, {len(wrong)} wrong words"
-
-
-@contextlib.contextmanager
-def playing():
-    """A played cluster with some commands."""
-    with played.Played(tundelca.free_ports(NODES), dict(ROLES)) as cluster:
-        for user in range(300):
-            cluster.nodes[0].publish({"op": "assign", "user": user, "role": 2})
-        cluster.nodes[1].publish({"op": "grant", "role": 3, "operation": 5, "object": 9})
-        yield cluster, [node.port for node in cluster.nodes]
 
 
 def colours_are_for_terminals():
@@ -330,37 +222,10 @@ def policies_are_tested(lab):
     return f"{len(due) - 1} changes, {len(tests)} tests"
 
 
-@contextlib.contextmanager
-def cluster_of(program, has_journals):
-    """The files of a cluster whose nodes run, and how to stop them and start those of other files."""
-    with tempfile.TemporaryDirectory(prefix="tundelca-") as folder, contextlib.ExitStack() as stack:
-        def start(paths):
-            for path in paths:
-                journal = path + ".journal" if has_journals else None
-                if journal is not None:
-                    tundelca.begin(program, path, journal)
-                process = tundelca.start(program, path, journal=journal)
-                stack.callback(process.wait)
-                stack.callback(process.kill)
-
-        ports = list(map(str, tundelca.free_ports(2 * NODES)))
-        words = ["files", os.path.join(folder, "old"), "--nodes", *ports[:NODES], "--clients", *ports[NODES:]]
-        paths = tool(*words, "--roles", *(f"{role}={owner}" for role, owner in ROLES), "--may-lie", MAY_LIE).split()
-        start(paths)
-        yield folder, paths, ports[NODES:], start
-
-
-def wait_for_all(ports, reaches):
-    """Waits until each node has so many commands of each owner: a slow machine may leave one behind for a while."""
-    for port in map(int, ports):
-        with tundelca.Client(port) as node:
-            for owner, reach in enumerate(reaches):
-                node.wait_for_reach(owner, reach, PATIENCE)
-
-
 def nodes_are_seen(program):
     """Of real nodes: how they stand, what they published, who has sessions, and what is told of one that was killed."""
-    with cluster_of(program, True) as (folder, paths, ports, _):
+    with made_by_tool(program, True) as (folder, nodes):
+        paths, ports = nodes.paths, nodes.clients
         commands = os.path.join(folder, "commands")
         with open(commands, "w", encoding="ascii") as file:
             for user in range(500):
@@ -369,7 +234,8 @@ def nodes_are_seen(program):
         judge("node 0: 501 commands" in tool("publish", "--check", commands, *paths), "another way")
         told = tool("publish", commands, *paths)
         judge(re.sub(r" \(.*\)", "", told) == "node 0: 501 commands\nnode 1: 1 command\n", told)
-        wait_for_all(ports, (501, 1))
+        nodes.reach_all(0, 501)
+        nodes.reach_all(1, 1)
         status, table, _ = ended("status", *paths)  # 1 where the disk is slow
         judge("502 commands" in table and status in (READY, BEHIND), table)
         judge(tool("health", ports[0], "--of", *ports[1:]).startswith("ready: node 0"), "not ready")
@@ -393,41 +259,47 @@ def nodes_are_seen(program):
 
 def clusters_begin_anew(program):
     """Three of four nodes keep what the roles hold; the next cluster has it, under new keys and the next number."""
-    with cluster_of(program, False) as (folder, old, ports, start):
+    with made_by_tool(program, False) as (folder, nodes):
+        old, ports = nodes.paths, nodes.clients
         pairs = [{"op": "assign", "user": user, "role": 2} for user in range(PAIRS)]
-        with tundelca.Client(int(ports[0])) as owner:
-            owner.publish(pairs, 0, list(map(int, ports[1:])), MAY_LIE, in_order=False)
+        with nodes.client(0) as owner:
+            owner.publish(pairs, 0, ports[1:], MAY_LIE, in_order=False)
         tool("ask", ports[1], "grant", "role=3", "operation=5", "object=9")
-        wait_for_all(ports, (PAIRS, 1))
+        nodes.reach_all(0, PAIRS)
+        nodes.reach_all(1, 1)
         kept = [os.path.join(folder, name) for name in ("kept", "other")]
         for path, words in zip(kept, (old[1:], [old[0], *ports[2:]])):
             with open(path, "w", encoding="ascii") as file:
                 file.write(tool("begin-anew", "keep", *words))
         judge(tool("begin-anew", "compare", *kept) == f"the same: 2 roles, {PAIRS + 1:,} pairs\n", "not the same")
-        for port in ports:
+        for me, port in enumerate(ports):
             tool("ask", port, "stop")
+            nodes.running[me].wait(PATIENCE)
         new = tool("begin-anew", "files", os.path.join(folder, "new"), *old).split()
-        start(new)
-        tool("begin-anew", "publish", kept[0], *new, "--deadline", "0.02", status=AWAY)
-        told = tool("begin-anew", "publish", kept[0], *new, "--deadline", PATIENCE)
-        due = f"node 0: {PAIRS:,} commands\nnode 1: 1 command\nnode 2: 0 commands\nnode 3: 0 commands\n"
-        judge(re.sub(r" \(.*\)", "", told) == due, told)
-        with tundelca.Client(int(ports[0])) as owner:
-            end = owner.reach(0)
-        wait_for_all(ports, (end, 1))
-        with open(kept[1], "w", encoding="ascii") as file:
-            file.write(tool("begin-anew", "keep", *new))
-        tool("begin-anew", "compare", *kept)
+        with Cluster(program, paths=new, waits=True) as later:
+            holds_again(later, kept)
     return f"{PAIRS + 1:,} pairs"
 
 
-def trials(lab, keeper):
-    """Each trial by its name."""
-    import client_tried  # which take what they need from here
-    import lies_told
-    import standings_tried
+def holds_again(nodes, kept):
+    """What was kept is published at the nodes of the next cluster, and kept there again."""
+    new = nodes.paths
+    tool("begin-anew", "publish", kept[0], *new, "--deadline", "0.02", status=AWAY)
+    told = tool("begin-anew", "publish", kept[0], *new, "--deadline", PATIENCE)
+    due = f"node 0: {PAIRS:,} commands\nnode 1: 1 command\nnode 2: 0 commands\nnode 3: 0 commands\n"
+    judge(re.sub(r" \(.*\)", "", told) == due, told)
+    with nodes.client(0) as owner:
+        end = owner.reach(0)
+    nodes.reach_all(0, end)
+    nodes.reach_all(1, 1)
+    with open(kept[1], "w", encoding="ascii") as file:
+        file.write(tool("begin-anew", "keep", *new))
+    tool("begin-anew", "compare", *kept)
 
-    return [
+
+def cases(given):
+    """The trials of the tool, and of its client, by their names."""
+    tried = [
         ("tools: words", words_are_told),
         *standings_tried.trials(),
         ("tools: colours, --watch", colours_are_for_terminals),
@@ -438,24 +310,12 @@ def trials(lab, keeper):
         *lies_told.trials(),
         *client_tried.trials(),
         ("tools: key, file, check", files_fit_together),
-        ("tools: lab", lambda: policies_are_tested(lab)),
-        ("tools: nodes", lambda: nodes_are_seen(keeper)),
-        ("tools: begin-anew", lambda: clusters_begin_anew(keeper)),
+        ("tools: lab", lambda: policies_are_tested(given.program("role_lab"))),
+        ("tools: nodes", lambda: nodes_are_seen(given.program("tundelca"))),
+        ("tools: begin-anew", lambda: clusters_begin_anew(given.program("tundelca"))),
     ]
-
-
-def main():
-    sys.modules["tools_tried"] = sys.modules["__main__"]
-    lab, keeper = sys.argv[1:] or [os.path.join(TOP, "crates", name, "out", name) for name in ("role_lab", "tundelca")]
-    failed = 0
-    for name, trial in trials(lab, keeper):
-        try:
-            print(f"{name}: {trial()}", flush=True)
-        except (AssertionError, OSError, subprocess.SubprocessError, tundelca.NodeFault) as fault:
-            print(f"{name}: FAILED: {fault}", flush=True)
-            failed += 1
-    sys.exit(1 if failed else 0)
+    return [runner.Case(*trial) for trial in tried]
 
 
 if __name__ == "__main__":
-    main()
+    runner.main("tools", __doc__, cases)
