@@ -9,15 +9,13 @@ role_daemon or a checkout that has one; what this checkout built, if left out. M
 """
 import argparse
 import os
-import sys
 import threading
 import time
 
-sys.dont_write_bytecode = True
-HERE = os.path.dirname(os.path.abspath(__file__))
-sys.path[:0] = [HERE, os.path.join(os.path.dirname(HERE), "checks")]
-from cluster import ROLE, TOP, Cluster, assign, program_of  # noqa: E402
-from peers import Peers  # noqa: E402
+from checkout import TOP
+import built
+from cluster import ROLE, Cluster, assign
+from peers import Peers
 
 PROBES = 60.0  # seconds between two probes for an owner
 SETTLING = 15.0  # seconds before anything is counted
@@ -84,7 +82,7 @@ def main():
     parser.add_argument("program", nargs="?", default=TOP)
     parser.add_argument("--seconds", type=float, default=60.0)
     given = parser.parse_args()
-    program = program_of(given.program)
+    program = built.program("role_daemon", given.program)
     print("| case | of a processor | wake-ups a second | bytes sent a second | reaches |\n|---|---|---|---|---|",
           flush=True)
     case("64 nodes, a command a second", program, 64, 1, given.seconds, True)

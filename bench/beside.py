@@ -34,14 +34,13 @@ import sys
 import tempfile
 import time
 
-sys.dont_write_bytecode = True
-HERE = os.path.dirname(os.path.abspath(__file__))
-sys.path[:0] = [HERE, os.path.join(os.path.dirname(HERE), "checks")]
-from cluster import PATIENCE, ROLE, TOP, Cluster, program_of, tundelca  # noqa: E402
-from journals import MOST_EVENTS, write_journal  # noqa: E402
-from lives import compiled  # noqa: E402
-from loads import Load  # noqa: E402
-from stores import Members, Nodes  # noqa: E402
+from checkout import TOP
+import built
+from cluster import ROLE, Cluster
+from journals import MOST_EVENTS, write_journal
+from lives import compiled
+from loads import Load
+from stores import Members, Nodes
 
 MEMORY = "/dev/shm"
 SLOW = 4_000  # microseconds that each sync takes more in the slow places
@@ -175,48 +174,48 @@ def tables(places):
                   f"{theirs.rate(theirs.loads.get(pace))} | {' | '.join(reads)} |")
 
 
+class Old(Cluster):
+    """Four nodes, of which node 1 alone is a process, with a journal in a folder that is given."""
+
+    def __init__(self, program, folder):
+        self.kept = folder
+        super().__init__(program, 4, 1, running=(), has_journals=True)
+
+    def journal(self, me):
+        return os.path.join(self.kept, "journal")
+
+    def started(self, commands):
+        """The seconds of a start, until it has answered with what it has to, and the most memory in megabytes."""
+        self.start(1)
+        try:
+            self.wait()
+            with self.client(1) as node:
+                reach, seconds = node.reach(0), time.monotonic() - self.begun[1]
+                events = node.length(ROLE + 1)
+            if (reach, events) != (commands, MOST_EVENTS):
+                sys.exit(f"the node has {reach} commands and {events} events")
+            with open(f"/proc/{self.running[1].pid}/status", encoding="ascii") as file:
+                return seconds, next(int(row.split()[1]) / 1024 for row in file if row.startswith("VmHWM"))
+        finally:
+            self.kill(1)
+
+
 def start(program, folder):
     """Starts of a node from journals that are full."""
     print("\n| batches of | batches | MB | written in s | start, s | memory, MB | a sync: median, p99 ms |\n"
           "|---|---|---|---|---|---|---|")
     for a_batch in (9, 1):
-        with contextlib.ExitStack() as stack:
-            kept = stack.enter_context(tempfile.TemporaryDirectory(prefix="beside-", dir=folder))
-            one = stack.enter_context(Cluster(program, 4, 1, running=[]))
-            journal, begin = os.path.join(kept, "journal"), time.monotonic()
+        with tempfile.TemporaryDirectory(prefix="beside-", dir=folder) as kept, Old(program, kept) as one:
+            journal, begin = one.journal(1), time.monotonic()
             batches, commands = write_journal(one.paths[1], journal, ROLE, 0, a_batch)
             os.sync()
             written, took, memory = time.monotonic() - begin, [], 0
             for _ in range(STARTS):
-                seconds, megabytes = started(program, one, journal, commands)
+                seconds, megabytes = one.started(commands)
                 took.append(seconds)
                 memory = max(memory, megabytes)
             print(f"| {a_batch} | {batches:,} | {os.path.getsize(journal) >> 20} | {written:.0f} | "
                   f"{', '.join(f'{seconds:.2f}' for seconds in took)} | {memory:.0f} | {spread(syncs(kept, {}))} |")
-
-
-def started(program, one, journal, commands):
-    """The seconds of a start, until it has answered with what it has to, and the most memory in megabytes."""
-    begin = time.monotonic()
-    words = [program, "serve", "--cluster", one.paths[1], "--journal", journal]
-    with subprocess.Popen(words, stdin=subprocess.DEVNULL) as process:
-        try:
-            while True:
-                try:
-                    with tundelca.Client(one.clients[1], PATIENCE) as node:
-                        reach, seconds = node.reach(0), time.monotonic() - begin
-                        events = node.length(ROLE + 1)
-                    break
-                except tundelca.Unreachable:
-                    if process.poll() is not None:
-                        sys.exit(f"the node ended with status {process.returncode}")
-                    time.sleep(0.005)
-            if (reach, events) != (commands, MOST_EVENTS):
-                sys.exit(f"the node has {reach} commands and {events} events")
-            with open(f"/proc/{process.pid}/status", encoding="ascii") as file:
-                return seconds, next(int(row.split()[1]) / 1024 for row in file if row.startswith("VmHWM"))
-        finally:
-            process.kill()
 
 
 def places_of(disk, library):
@@ -234,7 +233,7 @@ def main():
     words.add_argument("--members", type=int, default=3, help="of etcd (3)")
     words.add_argument("--disk", default=TOP, metavar="FOLDER", help="on the disk that is measured (the checkout)")
     given = words.parse_args()
-    program, begin = program_of(given.checkout, "tundelca"), time.monotonic()
+    program, begin = built.program("tundelca", given.checkout), time.monotonic()
     with tempfile.TemporaryDirectory(prefix="beside-") as folder:
         places = places_of(os.path.abspath(given.disk), compiled("bench/slow_sync.c", folder))
         if given.only:

@@ -5,13 +5,11 @@ import shutil
 import socket
 import struct
 import subprocess
-import sys
 import time
 import urllib.error
 import urllib.request
 
-sys.dont_write_bytecode = True
-from cluster import PATIENCE, tundelca  # noqa: E402
+from cluster import PATIENCE, tundelca
 
 PUT, RANGE = b"/etcdserverpb.KV/Put", b"/etcdserverpb.KV/Range"
 DATA, HEADERS, RESET, SETTINGS, PING, GO_AWAY, WINDOW_UPDATE = 0, 1, 3, 4, 6, 7, 8

@@ -10,7 +10,6 @@ measured by a client in Python, whose own part of a line is tens of microseconds
 """
 import argparse
 import json
-import os
 import socket
 import statistics
 import subprocess
@@ -18,20 +17,12 @@ import sys
 import threading
 import time
 
-sys.dont_write_bytecode = True
-HERE = os.path.dirname(os.path.abspath(__file__))
-sys.path[:0] = [HERE, os.path.join(os.path.dirname(HERE), "checks")]
-from cluster import PATIENCE, ROLE, TOP, Cluster, assign, program_of, tundelca  # noqa: E402
-from peers import Peers  # noqa: E402
+from checkout import TOP
+import built
+from cluster import PATIENCE, ROLE, Cluster, assign, tundelca
+from peers import Peers
 
 SESSIONS = 4_000
-
-
-class InMemory(Cluster):
-    """Nodes of tundelca that keep nothing."""
-
-    def words(self, me):
-        return super().words(me) + ["--in-memory"]
 
 
 def times_of(port, seconds, op, members):
@@ -63,7 +54,7 @@ def probe(port, seconds, op, **members):
 
 def many_nodes(program, seconds):
     nodes = 128
-    with InMemory(program, nodes, (nodes - 1) // 3, nodes, running=()) as cluster:
+    with Cluster(program, nodes, (nodes - 1) // 3, nodes, running=()) as cluster:
         peers = Peers(cluster)
         cluster.start(0)
         cluster.wait()
@@ -96,8 +87,7 @@ def many_nodes(program, seconds):
 
 
 def streams(program, places):
-    with InMemory(program, 4, 1) as cluster:
-        cluster.wait()
+    with Cluster(program, 4, 1, waits=True) as cluster:
         with cluster.client(0) as owner, cluster.client(1) as other:
             commands = [{"op": "assign", "user": user, "role": ROLE} for user in range(places)]
             owner.publish(commands, 0, cluster.clients[1:], 1)
@@ -126,7 +116,7 @@ def main():
     parser.add_argument("--seconds", type=float, default=10.0)
     parser.add_argument("--places", type=int, default=100_000)
     given = parser.parse_args()
-    program = program_of(given.program, "tundelca")
+    program = built.program("tundelca", given.program)
     many_nodes(program, given.seconds)
     streams(program, given.places)
 

@@ -18,23 +18,18 @@ import tempfile
 import threading
 import time
 
-TOP = os.path.dirname(os.path.dirname(os.path.abspath(__file__)))
-sys.dont_write_bytecode = True
-sys.path.insert(0, os.path.join(TOP, "tools"))
-import tundelca  # noqa: E402
+from checkout import TOP  # noqa: F401  first: before the modules of other folders
+import built
+from cluster import Cluster
 
 CRATES = {"lab": "role_lab", "pipe": "role_daemon", "serve": "role_daemon"}
 KINDS = ("lab", "pipe", "million", "serve")
-TIME_LIMIT = 600  # seconds
+TIME_LIMIT, CALL = 600, 10  # seconds, of a script and for an answer
 
 
 def program_of(kind):
     """The built program of a kind of cases."""
-    crate = CRATES[kind]
-    program = os.path.join(TOP, "crates", crate, "out", crate)
-    if not os.path.exists(program):
-        sys.exit(f"{program} is not there: run `rt run` in crates/{crate} first")
-    return program
+    return built.program(CRATES[kind])
 
 
 def flushed(lines):
@@ -185,21 +180,12 @@ def run_scripts(kind, cases, rounds):
     return well
 
 
-class Nodes:
+class Nodes(Cluster):
     """So many nodes, with a client of each."""
 
-    def __init__(self, program, folder, count):
-        ports = tundelca.free_ports(2 * count)
-        own = tempfile.mkdtemp(dir=folder)
-        paths = tundelca.cluster_files(own, [(2, 0)], ports[:count], ports[count:], (count - 1) // 3)
-        self.ports, self.running = ports[count:], [tundelca.start(program, path) for path in paths]
-        self.clients = [tundelca.Client(port) for port in self.ports]
-        self.issued = 0
-
-    def end(self):
-        for process in self.running:
-            process.kill()
-            process.wait()
+    def __init__(self, program, count):
+        super().__init__(program, count, (count - 1) // 3, waits=True)
+        self.callers, self.issued = [self.client(me, CALL) for me in range(count)], 0
 
     def publish(self, count, flight):
         """Publishes so many commands, so many of them in flight, until all nodes have delivered them. A second.
@@ -210,19 +196,19 @@ class Nodes:
         while delivered < goal:
             batch = min(goal, delivered + flight) - self.issued
             if batch > 0:
-                exchange(self.clients[0], [line("assign", user=self.issued + k, role=2) for k in range(batch)])
+                exchange(self.callers[0], [line("assign", user=self.issued + k, role=2) for k in range(batch)])
                 self.issued += batch
-            delivered = min(client.reach(0) for client in self.clients)
+            delivered = min(client.reach(0) for client in self.callers)
         return count / (time.perf_counter() - begin)
 
     def seconds(self):
         """The processor time of all nodes."""
         ticks = os.sysconf("SC_CLK_TCK")
-        return sum(sum(map(int, stat(process.pid)[13:15])) for process in self.running) / ticks
+        return sum(sum(map(int, stat(process.pid)[13:15])) for process in self.running.values()) / ticks
 
     def memory(self):
         """The megabytes that a node takes, as a mean."""
-        pages = sum(int(stat(process.pid)[23]) for process in self.running) / len(self.running)
+        pages = sum(int(stat(process.pid)[23]) for process in self.running.values()) / len(self.running)
         return pages * resource.getpagesize() / 2**20
 
 
@@ -240,8 +226,8 @@ def exchange(client, lines):
 
 def checks(nodes, connections, count, at_once):
     """Checks at node 0, so many on each of so many connections, so many lines at once. A second."""
-    more = [tundelca.Client(nodes.ports[0], TIME_LIMIT) for _ in range(connections - 1)]
-    clients = nodes.clients[:1] + more
+    more = [nodes.client(0, TIME_LIMIT) for _ in range(connections - 1)]
+    clients = nodes.callers[:1] + more
     lines = [CHECK] * at_once
 
     def ask(client):
@@ -264,25 +250,18 @@ def run_serve(small):
     """Runs the cases of serving nodes and prints a row for each."""
     program, scale = program_of("serve"), 10 if small else 1
     print("| case | measured |\n|---|---|")
-    with tempfile.TemporaryDirectory() as folder:
-        nodes = Nodes(program, folder, 4)
-        try:
-            serve_four(nodes, scale)
-        finally:
-            nodes.end()
-        nodes = Nodes(program, folder, 7)
-        try:
-            nodes.publish(100, 10)
-            row("commands at seven nodes, 64 in flight", f"{nodes.publish(5_000 // scale, 64):,.0f} a second")
-        finally:
-            nodes.end()
+    with Nodes(program, 4) as nodes:
+        serve_four(nodes, scale)
+    with Nodes(program, 7) as nodes:
+        nodes.publish(100, 10)
+        row("commands at seven nodes, 64 in flight", f"{nodes.publish(5_000 // scale, 64):,.0f} a second")
     return True
 
 
 def serve_four(nodes, scale):
     """The cases of four nodes."""
     nodes.publish(100, 10)
-    nodes.clients[0].open(7)
+    nodes.callers[0].open(7)
     row("commands at all four nodes, one at a time", f"{nodes.publish(2_000 // scale, 1):,.0f} a second")
     before, count = nodes.seconds(), 10_000 // scale - nodes.issued
     row("commands, 64 in flight", f"{nodes.publish(count, 64):,.0f} a second")

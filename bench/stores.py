@@ -5,22 +5,17 @@ connections of its own, for a process that was forked.
 """
 import contextlib
 import os
-import sys
 import time
 
-sys.dont_write_bytecode = True
-from cluster import PATIENCE, ROLE, Cluster, tundelca  # noqa: E402
-from etcd import PUT, RANGE, Calls, Etcd, put_request, range_request  # noqa: E402
+from cluster import PATIENCE, ROLE, Cluster, tundelca
+from etcd import PUT, RANGE, Calls, Etcd, put_request, range_request
+from runner import Failed
 
 FLIGHT = 64  # commands on their way
 WARM = 200  # commands before anything is timed
 USER = 7  # of the sessions
 REACH = b'{"op":"reach","owner":0}\n'
 KEY, VALUE = b"%08d", b"123456789"
-
-
-class Failed(Exception):
-    pass
 
 
 class Lines:
@@ -88,16 +83,11 @@ class Nodes(Cluster, Store):
     reads = ("check", "check elsewhere", "check behind a line")
 
     def __init__(self, program, folder, preload):
-        self.kept, self.preload, self.lines = folder, preload, []
+        self.kept, self.lines = folder, []
         self.issued, self.reach, self.front = 0, [0] * 4, 0
-        super().__init__(program, 4, 1, 1, running=[])
+        super().__init__(program, 4, 1, has_journals=folder is not None, waits=True, variables=preload)
         try:
-            for me in range(4):
-                if self.kept:
-                    tundelca.begin(program, self.paths[me], self.journal(me))
-                self.start(me)
-            self.wait()
-            self.connect()
+            self.connect_all()
             self.checks, self.acts = self.prepare()
             self.in_flight(WARM)
         except BaseException:
@@ -107,11 +97,7 @@ class Nodes(Cluster, Store):
     def journal(self, me):
         return os.path.join(self.kept, f"journal{me}")
 
-    def words(self, me):
-        serve = super().words(me) + (["--journal", self.journal(me)] if self.kept else ["--in-memory"])
-        return ["env", *(f"{name}={value}" for name, value in self.preload.items()), *serve]
-
-    def connect(self):
+    def connect_all(self):
         self.lines = [Lines(port) for port in self.clients]
 
     def prepare(self):
@@ -130,7 +116,7 @@ class Nodes(Cluster, Store):
 
     def again(self):
         """Takes connections of its own, when what others published has arrived."""
-        self.connect()
+        self.connect_all()
         self.one()
 
     def one(self):

@@ -14,11 +14,9 @@ import subprocess
 import sys
 import tempfile
 
-TOP = os.path.dirname(os.path.dirname(os.path.abspath(__file__)))
-sys.dont_write_bytecode = True
-sys.path.insert(0, os.path.join(TOP, "checks"))
-import rows  # noqa: E402
-import serving_plants  # noqa: E402
+from paths import TOP
+import rows
+import serving_plants
 
 HOST = "layer_tests"
 

@@ -13,12 +13,10 @@ import subprocess
 import sys
 import tempfile
 
-TOP = os.path.dirname(os.path.dirname(os.path.abspath(__file__)))
-FOLDER = os.path.join(TOP, "rows")
-sys.dont_write_bytecode = True
-sys.path.insert(0, os.path.join(TOP, "examples"))
-import built  # noqa: E402
+from paths import TOP
+import built
 
+FOLDER = os.path.join(TOP, "rows")
 PATIENCE = 60  # seconds, for a file
 WITH_MEMORY = "# Memory:"  # a head with this line: each allocation is refused in turn, and every answer stays
 

@@ -18,16 +18,14 @@ import shutil
 import signal
 import subprocess
 import sys
-import tempfile
 import time
 import urllib.error
 import urllib.request
 
-sys.path.insert(0, os.path.join(os.path.dirname(os.path.dirname(os.path.abspath(__file__))), "tools"))
-import tundelca  # noqa: E402
+import built
+import cluster
+import tundelca
 
-HERE = os.path.dirname(os.path.abspath(__file__))
-TOP = os.path.dirname(HERE)
 CORRECT, LIAR, MAY_LIE = range(3), 3, 1
 PORTS = 7_300  # of nodes; those for clients are 100 above, and the gateway's 200
 ROLES = [(2, 0), (3, LIAR)]
@@ -45,43 +43,57 @@ class Ended(Exception):
     """What was started has ended, or doesn't come."""
 
 
-def node_words(program, path, seconds):
-    """The words that start a node, and the folder to say them in."""
-    serve = ["serve", "--cluster", os.path.basename(path), "--in-memory"]
-    if program is not None:
-        return [os.path.abspath(program), *serve], os.path.dirname(path)
-    given = ["--seconds", str(seconds), "--data", f"{os.path.basename(path)}={path}"]
-    return ["rt", "try", *given, "--", *serve], os.path.join(TOP, "crates", "tundelca")
+class Cluster(cluster.Cluster):
+    """The cluster, and the liar and the gateway beside it, each with a file of what it says."""
 
-
-class Cluster:
-    """What runs, each with a file of what it says."""
-
-    def __init__(self, folder, first):
-        self.folder, self.running = folder, {}
+    def __init__(self, program, first, seconds):
         ports = [first + 100 * kind + node for kind in range(3) for node in range(4)]
         ports = ports if first else tundelca.free_ports(9)
-        self.clients, self.gateway = ports[4:8], ports[8]
-        self.files = tundelca.cluster_files(folder, ROLES, ports[:4], self.clients, MAY_LIE)
+        self.gateway, self.seconds, self.beside = ports[8], BUILD + seconds, {}
+        self.is_tried = program is None
+        super().__init__(program or "tundelca", 4, MAY_LIE, roles=ROLES, ports=(ports[:4], ports[4:8]), running=())
+
+    def words(self, me, word="serve"):
+        """`rt try` serves a node in the crate's folder, where it is given the cluster file by its name."""
+        if not self.is_tried:
+            return super().words(me, word)
+        path = self.paths[me]
+        given = ["--seconds", str(self.seconds), "--data", f"{os.path.basename(path)}={path}"]
+        return ["rt", "try", *given, "--", word, "--cluster", os.path.basename(path), "--in-memory"]
+
+    def settings(self, me):
+        said = open(self.said(f"node {me}"), "wb")
+        folder = os.path.join(built.TOP, "crates", "tundelca") if self.is_tried else self.folder.name
+        return {"cwd": folder, "stdout": said, "stderr": said, "start_new_session": True}
 
     def said(self, name):
-        return os.path.join(self.folder, name + ".said")
+        return os.path.join(self.folder.name, name + ".said")
 
-    def start(self, name, words, folder=HERE):
+    def start_beside(self, name, *words):
+        """Starts a program of examples/ beside the nodes."""
         with open(self.said(name), "wb") as file:
-            self.running[name] = subprocess.Popen(
-                words, cwd=folder, stdin=subprocess.DEVNULL, stdout=file, stderr=file, start_new_session=True)
+            self.beside[name] = subprocess.Popen(
+                [sys.executable, *map(str, words)], cwd=os.path.join(built.TOP, "examples"), stdin=subprocess.DEVNULL,
+                stdout=file, stderr=file, start_new_session=True)
 
-    def wait(self, name, port, seconds):
+    def processes(self):
+        """All that runs, by name."""
+        return {**{f"node {me}": process for me, process in self.running.items()}, **self.beside}
+
+    def wait_for(self, name, port, seconds):
         """Waits until somebody listens at the port."""
-        over = time.monotonic() + seconds
+        over, process = time.monotonic() + seconds, self.processes()[name]
         while True:
             with contextlib.suppress(tundelca.Unreachable):
                 return tundelca.Client(port).close()
-            if self.running[name].poll() is not None or time.monotonic() > over:
-                with open(self.said(name), encoding="utf-8", errors="replace") as file:
-                    raise Ended(f"{name} doesn't come:\n{file.read()[-2_000:]}")
+            if process.poll() is not None or time.monotonic() > over:
+                raise Ended(f"{name} doesn't come:\n{self.told(name)[-2_000:]}")
             time.sleep(0.2)
+
+    def told(self, name):
+        """What a program has said."""
+        with open(self.said(name), encoding="utf-8", errors="replace") as file:
+            return file.read().strip()
 
     def post(self, token, path, body):
         """The gateway's answer."""
@@ -93,49 +105,48 @@ class Cluster:
         except urllib.error.HTTPError as error:
             return error.read().decode()
 
-    def end(self):
-        """Stops what runs. Of each node its name, its program's status, and the last line that it said."""
-        for node in CORRECT:
+    def stop_all(self):
+        """Stops what runs. Of each its name, its program's status, and the last line that it said."""
+        for node in self.running:
             with contextlib.suppress(tundelca.NodeFault, subprocess.TimeoutExpired):
-                tundelca.stop(self.clients[node])
-                self.running[f"node {node}"].wait(20)
-        for process in self.running.values():
+                self.stop(node)
+        processes = self.processes()
+        for process in processes.values():
             if process.poll() is None:  # it doesn't listen, or knows no `stop`
                 with contextlib.suppress(ProcessLookupError):
                     os.killpg(process.pid, signal.SIGINT)
-        for name, process in self.running.items():
+        for name, process in processes.items():
             with contextlib.suppress(subprocess.TimeoutExpired):
                 process.wait(20)
             with contextlib.suppress(ProcessLookupError):
                 os.killpg(process.pid, signal.SIGKILL)
             process.wait()
-            with open(self.said(name), encoding="utf-8", errors="replace") as file:
-                yield name, process.returncode, file.read().strip().rpartition("\n")[2]
+            yield name, process.returncode, self.told(name).rpartition("\n")[2]
 
 
-def show(cluster, program, seconds):
+def show(shown):
     """Starts all, publishes, and shows what the nodes and the gateway answer."""
     begun = time.monotonic()
-    if program is None:
+    if shown.is_tried:
         print("rt try compiles tundelca thrice, without a proof: two to three minutes on an idle machine", flush=True)
     for node in CORRECT:
-        cluster.start(f"node {node}", *node_words(program, cluster.files[node], BUILD + seconds))
-    cluster.start("liar", [sys.executable, "liar.py", cluster.files[LIAR]])
+        shown.start(node)
+    shown.start_beside("liar", "liar.py", shown.paths[LIAR])
     for node in CORRECT:
-        cluster.wait(f"node {node}", cluster.clients[node], BUILD)
+        shown.wait_for(f"node {node}", shown.clients[node], BUILD)
     took = time.monotonic() - begun
-    print(f"nodes 0, 1 and 2 answer at ports {cluster.clients[:LIAR]}, after {took:.0f} s; node 3 lies")
-    with tundelca.Client(cluster.clients[0]) as owner:
-        done = owner.publish(COMMANDS, owner=0, others=cluster.clients[1:LIAR], may_lie=MAY_LIE)
+    print(f"nodes 0, 1 and 2 answer at ports {shown.clients[:LIAR]}, after {took:.0f} s; node 3 lies")
+    with shown.client(0) as owner:
+        done = owner.publish(COMMANDS, owner=0, others=shown.clients[1:LIAR], may_lie=MAY_LIE)
     print(f"node 0 has published that user 7 has role 2, and that it may do operation 5 on object 9: {done}")
     for node in CORRECT:
-        with tundelca.Client(cluster.clients[node]) as client:
+        with shown.client(node) as client:
             print(f"node {node}: role 2 is of the users", client.listing("assigned_users", role=2), flush=True)
-    table = os.path.join(cluster.folder, "table.json")
+    table = os.path.join(shown.folder.name, "table.json")
     with open(table, "w", encoding="ascii") as file:
         json.dump(TABLE, file)
-    cluster.start("gateway", [sys.executable, "gateway.py", str(cluster.clients[2]), str(cluster.gateway), table])
-    cluster.wait("gateway", cluster.gateway, 20)
+    shown.start_beside("gateway", "gateway.py", shown.clients[2], shown.gateway, table)
+    shown.wait_for("gateway", shown.gateway, 20)
     for token, path, body in [
         ("secret", "/login", {"roles": ["editor"]}),
         ("secret", "/check", {"operation": "write", "object": "report"}),
@@ -143,8 +154,8 @@ def show(cluster, program, seconds):
         ("hidden", "/login", {"roles": ["editor"]}),
     ]:
         body = json.dumps(body)
-        print(f"curl -d '{body}' -H 'Authorization: Bearer {token}' {tundelca.LOOPBACK}:{cluster.gateway}{path}")
-        print(f"    {cluster.post(token, path, json.loads(body))}", flush=True)
+        print(f"curl -d '{body}' -H 'Authorization: Bearer {token}' {tundelca.LOOPBACK}:{shown.gateway}{path}")
+        print(f"    {shown.post(token, path, json.loads(body))}", flush=True)
 
 
 def main():
@@ -156,15 +167,15 @@ def main():
     if given.program is None and shutil.which("rt") is None:
         sys.exit("first_cluster: there is no `rt` here, the command of the Rattle kit: README.md says which kit")
     signal.signal(signal.SIGTERM, lambda *_: sys.exit(1))
-    with tempfile.TemporaryDirectory(prefix="tundelca-") as folder:
-        cluster, fault = Cluster(folder, given.first_port), None
+    program, fault = given.program and built.program("tundelca", given.program), None
+    with Cluster(program, given.first_port, given.seconds) as shown:
         try:
-            if given.program is None:
+            if shown.is_tried:
                 print("rt try compiles the nodes, in two to five minutes", flush=True)
-            show(cluster, given.program, given.seconds)
+            show(shown)
             print(f"it stands for {given.seconds} s, or until Ctrl-C; look on, and ask on:")
-            ports, tool = " ".join(map(str, cluster.clients[:LIAR])), "python3 tools/tundelca_ctl.py"
-            asked = f"ask {cluster.clients[1]} assigned_users role=2"
+            ports, tool = " ".join(map(str, shown.clients[:LIAR])), "python3 tools/tundelca_ctl.py"
+            asked = f"ask {shown.clients[1]} assigned_users role=2"
             for words in (f"status {ports}", f"board {ports} --port 7600", asked):
                 print(f"{tool} {words}", flush=True)
             time.sleep(given.seconds)
@@ -173,7 +184,7 @@ def main():
         except KeyboardInterrupt:
             print()
         finally:
-            for name, status, last in cluster.end():
+            for name, status, last in shown.stop_all():
                 if name.startswith("node "):
                     print(f"{name} ended with status {status}{': ' + last if last else ''}")
         sys.exit(fault)

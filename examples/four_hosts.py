@@ -13,13 +13,11 @@ import json
 import os
 import subprocess
 import sys
-import tempfile
 import time
 
-sys.dont_write_bytecode = True
-sys.path.insert(0, os.path.join(os.path.dirname(os.path.dirname(os.path.abspath(__file__))), "tools"))
-import built  # noqa: E402
-import tundelca  # noqa: E402
+import built
+import tundelca
+from cluster import Cluster
 
 NODES, MAY_LIE, ROLE, USER = 4, 1, 2, 7
 NODE_PORT, CLIENT_PORT = 7300, 7400
@@ -72,46 +70,28 @@ def lay_cables(stack):
         ip("-n", there, "link", "set", "lo", "up")
 
 
-def give_another_address(host, paths):
-    """The host has another address from now on, and the files of all nodes name that, or its IPv6 address."""
-    there = namespace(host)
-    ip("-n", there, "addr", "del", f"{address(host)}/24", "dev", "cable")
-    ip("-n", there, "addr", "add", f"{later_address(host)}/24", "dev", "cable")
-    for path in paths:
-        with open(path, encoding="ascii") as file:
-            text = json.load(file)
-        text["hosts"][host] = address_6(host) if HAS_IPV6 else later_address(host)
-        with open(path, "w", encoding="ascii") as file:
-            json.dump(text, file)
+class Nodes(Cluster):
+    """A node on each host, with its journal, its files in a folder of its own."""
 
+    def __init__(self, program):
+        self.hosts = [address(host) for host in range(NODES)]
+        super().__init__(program, NODES, MAY_LIE, ports=([NODE_PORT] * NODES, [CLIENT_PORT] * NODES),
+                         hosts=self.hosts, has_journals=True, own_folders=True)
 
-class Nodes:
-    """A node on each host, with its journal."""
+    def words(self, me, word="serve"):
+        return on(me, *super().words(me, word))
 
-    def __init__(self, program, paths, stack):
-        self.program, self.paths, self.running = program, paths, {}
-        for path in paths:
-            tundelca.begin(program, path, f"{path}.journal")
-        stack.callback(self.end)
-        for host in range(NODES):
-            self.start(host)
+    def answers(self, me):
+        return answers(me)
 
-    def start(self, host):
-        words = [self.program, "serve", "--cluster", self.paths[host], "--journal", f"{self.paths[host]}.journal"]
-        self.running[host] = subprocess.Popen(on(host, *words), stdin=subprocess.DEVNULL)
-
-    def start_again(self, host):
-        self.kill(host)
-        self.start(host)
-        wait_until(lambda: answers(host), None)
-
-    def kill(self, host):
-        self.running[host].kill()
-        self.running[host].wait()
-
-    def end(self):
-        for host in self.running:
-            self.kill(host)
+    def give_another_address(self, host):
+        """The host has another address from now on, and the files of all nodes name that, or its IPv6 address."""
+        there = namespace(host)
+        ip("-n", there, "addr", "del", f"{address(host)}/24", "dev", "cable")
+        ip("-n", there, "addr", "add", f"{later_address(host)}/24", "dev", "cable")
+        self.hosts[host] = address_6(host) if HAS_IPV6 else later_address(host)
+        for me in range(NODES):
+            self.rewrite(me, hosts=self.hosts)
 
 
 def ask(host, *requests):
@@ -188,7 +168,7 @@ def run(nodes):
     ip("-n", NETWORK, "link", "set", "to3", "up")
     print("host 3 is joined again")
     wait_until(lambda: reach(3) == 8, "host 3 reaches 8")
-    give_another_address(1, nodes.paths)
+    nodes.give_another_address(1)
     print("host 1 has another address")
     publish(range(8, 10))
     for host in range(NODES):
@@ -205,13 +185,10 @@ def main():
         return answer_requests()
     if os.geteuid() != 0:
         sys.exit("four_hosts makes network namespaces, which needs root")
-    program = os.path.abspath(built.program("tundelca", *sys.argv[1:2]))
-    with tempfile.TemporaryDirectory(prefix="tundelca-") as folder, contextlib.ExitStack() as stack:
+    program = built.program("tundelca", *sys.argv[1:2])
+    with contextlib.ExitStack() as stack:
         lay_cables(stack)
-        hosts = [address(host) for host in range(NODES)]
-        paths = tundelca.cluster_files(folder, [(ROLE, 0)], [NODE_PORT] * NODES, [CLIENT_PORT] * NODES, MAY_LIE,
-                                       hosts=hosts)
-        run(Nodes(program, paths, stack))
+        run(stack.enter_context(Nodes(program)))
 
 
 if __name__ == "__main__":

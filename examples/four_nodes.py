@@ -14,9 +14,8 @@ import signal
 import sys
 import tempfile
 
-sys.path.insert(0, os.path.join(os.path.dirname(os.path.dirname(os.path.abspath(__file__))), "tools"))
-import built  # noqa: E402
-import tundelca  # noqa: E402
+import built
+import tundelca
 
 NODES, MAY_LIE = 4, 1
 USER, ROLE, OPERATION, OBJECT = 7, 2, 5, 9

@@ -35,9 +35,9 @@ import threading
 import time
 from http.server import BaseHTTPRequestHandler, ThreadingHTTPServer
 
-sys.path.insert(0, os.path.join(os.path.dirname(os.path.dirname(os.path.abspath(__file__))), "tools"))
-sys.path.append("/usr/lib/tundelca")  # where the package has it
-import tundelca  # noqa: E402
+with contextlib.suppress(ImportError):  # it is in a checkout alone; where the package is, Python has the client
+    import built  # noqa: F401
+import tundelca
 
 PATIENCE = 2.0  # seconds, for an answer of the node
 IDLE = 30.0  # seconds in which a caller's next request has to be whole

@@ -13,11 +13,10 @@ import json
 import select
 import socket
 import struct
-import os
 import sys
 
-sys.path.insert(0, os.path.join(os.path.dirname(os.path.dirname(os.path.abspath(__file__))), "tools"))
-import tundelca  # noqa: E402
+import built  # noqa: F401  before what lies in tools/
+import tundelca
 
 FRAME = 54  # bytes
 SEND, ECHO, READY = 1, 2, 3

@@ -5,12 +5,11 @@ A row for each client port: how many commands of each owner the node has deliver
 further, and its history's length; dashes where it doesn't answer. `tools/tundelca_ctl.py status` says more.
 """
 import argparse
-import os
 import sys
 import time
 
-sys.path.insert(0, os.path.join(os.path.dirname(os.path.dirname(os.path.abspath(__file__))), "tools"))
-import tundelca  # noqa: E402
+import built  # noqa: F401  before what lies in tools/
+import tundelca
 
 
 def seen(port):

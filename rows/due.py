@@ -7,14 +7,14 @@ each that is another.
 """
 import hmac
 import os
+import runpy
 import shutil
 import subprocess
 import sys
 import tempfile
 
 HERE = os.path.dirname(os.path.abspath(__file__))
-sys.dont_write_bytecode = True
-sys.path.insert(0, os.path.join(os.path.dirname(HERE), "checks"))
+runpy.run_path(os.path.join(os.path.dirname(HERE), "checks", "paths.py"))
 import rows  # noqa: E402
 
 PLACES = 1_048_576

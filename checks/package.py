@@ -1,26 +1,26 @@
 #!/usr/bin/env python3
-"""Makes the package, unpacks it into a scratch root, and runs a cluster from it: packaging/try.py [TUNDELCA ROLE_LAB]
+"""Makes the package, unpacks it into a scratch root, and runs a cluster from it: checks/package.py [CHECKOUT]
 
-Nothing is installed, no service manager is started and nothing runs as another user: the programs are started directly,
-with the words of the unit, which is otherwise judged by reading it. Prints a line for each part and last
-`packaging: N passed, M failed`.
+CHECKOUT is where tundelca and role_lab were built, or these programs; this checkout if it is left out. Nothing is
+installed, no service manager is started and nothing runs as another user: the programs are started directly, with the
+words of the unit, which is otherwise judged by reading it.
 """
 import configparser
-import contextlib
+import functools
 import gzip
 import hashlib
-import json
 import os
 import re
 import shutil
 import subprocess
 import sys
-import tempfile
-import time
 
-HERE = os.path.dirname(os.path.abspath(__file__))
+import runner
+from cluster import TOP, Cluster, tundelca
+from runner import Skipped, judge
+
 PATIENCE = 120  # seconds, for a program
-NODES, ROLE = 4, "2=0"
+NODES, MAY_LIE = 4, 1
 HARDENED = {
     "User": "tundelca", "UMask": "0077", "NoNewPrivileges": "yes", "ProtectSystem": "strict", "Restart": "on-failure",
     "RestartPreventExitStatus": "2 3 6", "StateDirectory": "tundelca/%i", "StateDirectoryMode": "0700",
@@ -29,11 +29,6 @@ HARDENED = {
 SERVE = ["serve", "--cluster", "/etc/tundelca/%i.json", "--journal", "/var/lib/tundelca/%i/node.journal"]
 MODULES = "usr/lib/python3/dist-packages"  # where Debian's Python looks by itself
 LIBC = {"libc.so.6", "libm.so.6", "libpthread.so.0", "ld-linux-x86-64.so.2", "linux-vdso.so.1"}
-
-
-def judge(well, text):
-    if not well:
-        raise AssertionError(text)
 
 
 def said(*words, due=(0,), **more):
@@ -46,8 +41,8 @@ def said(*words, due=(0,), **more):
 class Unpacked:
     """The package in a scratch root."""
 
-    def __init__(self, folder, programs):
-        package = said(os.path.join(HERE, "deb.py"), "--to", folder, *programs).strip()
+    def __init__(self, folder, *programs):
+        package = said(os.path.join(TOP, "packaging", "deb.py"), "--to", folder, *programs).strip()
         self.package, self.root, self.control = package, os.path.join(folder, "root"), os.path.join(folder, "control")
         said("dpkg-deb", "--extract", package, self.root)
         said("dpkg-deb", "--control", package, self.control)
@@ -150,82 +145,62 @@ def client(one, port, reach):
     judge(told == f"{one.path(MODULES)}/tundelca.py {reach}\n", told)
 
 
+class Packaged(Cluster):
+    """Four nodes with journals whose program, files and journals lie as the package has them, in the scratch root."""
+
+    def __init__(self, one):
+        self.one, etc = one, one.path("etc/tundelca")
+        ports = tundelca.free_ports(2 * NODES)
+        files = one.run("tundelca-ctl", "files", etc, "--nodes", *ports[:NODES], "--clients", *ports[NODES:], "--roles",
+                        "2=0", "--may-lie", MAY_LIE)
+        judge(files.count(".json") == NODES, files)
+        paths = [os.path.join(etc, f"node{me}.json") for me in range(NODES)]
+        for me in range(NODES):
+            os.makedirs(os.path.dirname(self.journal(me)), 0o700)
+        super().__init__(one.path("usr/bin/tundelca"), paths=paths, has_journals=True, waits=True)
+
+    def journal(self, me):
+        return os.path.join(self.one.path("var/lib/tundelca"), str(me), "node.journal")
+
+
 def cluster(one):
     """Four nodes with journals and the tool, all from the scratch root; one is killed and started again."""
-    etc, var = one.path("etc/tundelca"), one.path("var/lib/tundelca")
-    sys.path.insert(0, one.path("usr/lib/tundelca"))
-    sys.dont_write_bytecode = True
-    import tundelca
-    ports = tundelca.free_ports(2 * NODES)
-    clients, running = ports[NODES:], {}
     os.umask(0o077)  # as in the unit
-    files = one.run("tundelca-ctl", "files", etc, "--nodes", *ports[:NODES], "--clients", *clients, "--roles", ROLE,
-                    "--may-lie", 1)
-    judge(files.count(".json") == NODES, files)
-    with contextlib.ExitStack() as stack:
-        def start(me):
-            words = ["serve", "--cluster", os.path.join(etc, f"node{me}.json"), "--journal",
-                     os.path.join(var, str(me), "node.journal")]
-            running[me] = subprocess.Popen([one.path("usr/bin/tundelca"), *words], stdin=subprocess.DEVNULL)
-            stack.callback(running[me].wait)
-            stack.callback(running[me].kill)
-
-        def wait(me):
-            over = time.monotonic() + PATIENCE
-            while time.monotonic() < over:
-                judge(running[me].poll() is None, f"node {me} ended with status {running[me].returncode}")
-                with contextlib.suppress(tundelca.Unreachable):
-                    return tundelca.Client(clients[me]).close()
-                time.sleep(0.05)
-            raise AssertionError(f"node {me} doesn't come")
-
-        for me in range(NODES):
-            os.makedirs(os.path.join(var, str(me)), 0o700)
-            one.run("tundelca", "journal", "--cluster", os.path.join(etc, f"node{me}.json"), "--journal",
-                    os.path.join(var, str(me), "node.journal"))
-            start(me)
-        for me in range(NODES):
-            wait(me)
+    with Packaged(one) as nodes:
+        clients = nodes.clients
         one.run("tundelca-ctl", "ask", clients[0], "assign", "user=7", "role=2")
-        running[3].kill()
-        running[3].wait()
+        nodes.kill(3)
         one.run("tundelca-ctl", "ask", clients[0], "grant", "role=2", "operation=5", "object=9")
-        start(3)
-        wait(3)
-        with tundelca.Client(clients[3]) as node:
+        nodes.start(3)
+        nodes.wait([3])
+        with nodes.client(3) as node:
             node.wait_for_reach(0, 2, PATIENCE)
             session = node.open(7)
             node.ask("activate", session=session, user=7, role=2)
             judge(node.check(session, 7, 5, 9).allow, "it isn't allowed")
         client(one, clients[3], 2)
-        for name in ("node.journal", "node.journal-wal"):
-            mode = os.stat(os.path.join(var, "3", name)).st_mode & 0o777
-            judge(mode & 0o077 == 0, f"{name} has mode {mode:o}")
+        for path in (nodes.journal(3), nodes.journal(3) + "-wal"):
+            mode = os.stat(path).st_mode & 0o777
+            judge(mode & 0o077 == 0, f"{path} has mode {mode:o}")
         table = one.run("tundelca-ctl", "status", *clients, due=(0, 1))  # 1: something is to be seen to
         judge(all(str(port) in table for port in clients), table)
-        statuses = [tundelca.stop(port, running[me]) for me, port in enumerate(clients)]
+        statuses = [nodes.stop(me) for me in range(NODES)]
         judge(statuses == [0] * NODES, f"statuses {statuses}")
     return "four nodes, one killed and started again"
 
 
-def main():
-    failed, parts = 0, [checksums, programs, manuals, unit, cluster]
-    if shutil.which("dpkg-deb") is None:
-        return print("packaging: SKIPPED: there is no dpkg-deb here")
-    with tempfile.TemporaryDirectory(prefix="tundelca-") as folder:
-        try:
-            one = Unpacked(folder, sys.argv[1:])
-        except (AssertionError, OSError, subprocess.TimeoutExpired) as fault:
-            sys.exit(f"packaging: FAILED: {fault}")
-        for part in parts:
-            try:
-                print(f"packaging: {part.__name__}: {part(one)}", flush=True)
-            except (AssertionError, OSError, ImportError, subprocess.TimeoutExpired, json.JSONDecodeError) as fault:
-                print(f"packaging: {part.__name__}: FAILED: {fault}", flush=True)
-                failed += 1
-    print(f"packaging: {len(parts) - failed} passed, {failed} failed")
-    sys.exit(1 if failed else 0)
+def cases(given):
+    """What is judged of the package, which is made once."""
+
+    @functools.lru_cache(maxsize=None)
+    def unpacked():
+        if shutil.which("dpkg-deb") is None:
+            raise Skipped("there is no dpkg-deb here")
+        return Unpacked(given.new_folder(), given.program("tundelca"), given.program("role_lab"))
+
+    return [runner.Case(part.__name__, lambda part=part: part(unpacked()))
+            for part in (checksums, programs, manuals, unit, cluster)]
 
 
 if __name__ == "__main__":
-    main()
+    runner.main("packaging", __doc__, cases)
