@@ -69,15 +69,19 @@ class Given:
         self.seed: Optional[int] = None
 
     def program(self, name: str) -> str:
-        """A built program by its name: where it lies. Ends this program in a line where it isn't there."""
-        return built.program(name, self.place_of(name))
+        """A built program by its name: where it lies. The case has failed where it isn't there."""
+        try:
+            return built.program(name, self.place_of(name))
+        except SystemExit as missing:
+            raise Failed(str(missing)) from None
 
     def place_of(self, name: str) -> Optional[str]:
         """What was given for a program: itself by its name, else a checkout, or the only program that was named."""
         paths: List[str] = self.words.programs
         named = [path for path in paths if os.path.basename(path) == name and not os.path.isdir(path)]
         others = [path for path in paths if os.path.isdir(path)] or (paths if len(paths) == 1 else [])
-        return (named or others or [None])[0]
+        found = named or others
+        return found[0] if found else None
 
     def draws(self, name: str) -> random.Random:
         """What is drawn in a case: the same again with the same seed, which is printed."""
