@@ -63,13 +63,14 @@ def moved_apart(path: str) -> str:
 class Cluster:
     """A cluster, and those of its nodes that are processes. All ends with it.
 
-    Node k owns role ROLE + k, for the first `owners` nodes, where no `roles` are given. `running` are the nodes that
-    are started at once, all if left out; the script may speak for others, or play all (`frame`, `play`). A program that keeps
-    journals keeps them where `has_journals`, which are begun here; `waits` until all answer. With `is_apart` the nodes
-    reach each other through `forwarders`, and what the script sends goes beside these. `ports` are those of nodes and of
-    clients, free ones if left out; `hosts` the nodes' addresses, where not all are on 127.0.0.1. With `own_folders` each
-    node's files, and so its keys, lie apart from the others'. From `paths` it takes cluster files that are there, and
-    makes none. A node may open so many `descriptors`, and has `variables` beside its environment.
+    Node k owns role ROLE + k, for the first `owners` nodes, where no `roles` are given. `running` are the nodes
+    that are started at once, all if left out; the script may speak for others, or play all (`frame`, `play`). A
+    program that keeps journals keeps them where `has_journals`, which are begun here; `waits` until all answer.
+    With `is_apart` the nodes reach each other through `forwarders`, and what the script sends goes beside these.
+    `ports` are those of nodes and of clients, free ones if left out; `hosts` the nodes' addresses, where not all
+    are on 127.0.0.1. With `own_folders` each node's files, and so its keys, lie apart from the others'. From
+    `paths` it takes cluster files that are there, and makes none. A node may open so many `descriptors`, and has
+    `variables` beside its environment.
     """
 
     def __init__(self, program: str = "", nodes: int = 1, may_lie: int = 0, owners: int = 1,

@@ -1,7 +1,7 @@
 """Where this checkout lies, and its modules by their names. The one file that changes `sys.path`.
 
-A script of checks/ has it by `cluster` or `runner`, one of examples/ by `built`, one of bench/ by `checkout`: import that
-before what lies in another folder. Where names are twice, the folder of the script that was started comes first.
+A script of checks/ has it by `cluster` or `runner`, one of examples/ by `built`, one of bench/ by `checkout`: they
+import that before what lies in another folder. The folder of the script that was started comes first.
 """
 import os
 import sys

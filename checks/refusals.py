@@ -1,5 +1,5 @@
 #!/usr/bin/env python3
-"""Refuses calls one by one: memory to tests, rows and programs, and to a serving node threads, sockets, reads and writes.
+"""Refuses calls one by one: memory to tests, rows, programs; to a serving node threads, sockets, reads, writes too.
 
     checks/refusals.py [CHECKOUT] [--only WORD] [--every N]
 

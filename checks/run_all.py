@@ -8,6 +8,7 @@ namespaces: where there are none, its line says that it was skipped.
 """
 import contextlib
 import functools
+import itertools
 import json
 import os
 import re
@@ -189,7 +190,8 @@ class Cut(Cluster):
     def __init__(self, program):
         super().__init__(program, NODES, MAY_LIE, running=())
         last, passed, self.forwarder = NODES - 1, tundelca.free_ports(NODES), None
-        self.route({(me, to): passed[to] for me in range(NODES) for to in range(NODES) if me != to and last in (me, to)})
+        pairs = itertools.permutations(range(NODES), 2)
+        self.route({(me, to): passed[to] for me, to in pairs if last in (me, to)})
         self.pairs = [f"{there}={tundelca.LOOPBACK}:{node}" for there, node in zip(passed, self.nodes)]
         try:
             self.join()

@@ -1,3 +1,5 @@
+-- What is owed of a list of shares, share by share: the step by which a loop over the shares is proved.
+
 use Rattle.std.specs.Prelude.{◌≡◌, ℕ, suc, zero, ◌<◌, ◌++◌, ◌==◌, if◌then◌else◌}
 use Rattle.std.specs.Prelude.{List, [], ◌∷◌, length, take, drop, get_or}
 use Rattle.std.proofs.Common.{arith, refl}

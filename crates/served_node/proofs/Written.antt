@@ -1,3 +1,5 @@
+-- Of the list of a connection's answers: all that are there can be written, also after one more is put there.
+
 use Rattle.std.specs.Prelude.{ℕ, List, Option, All, slice_set}
 use Rattle.std.proofs.lemmas.List.Elements.{All-set}
 use Rattle.client_lines.specs.declared.answer.ClientAnswer.{ClientAnswer}
