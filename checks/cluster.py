@@ -184,7 +184,7 @@ class Cluster:
             while not self.answers(me):
                 status = self.running[me].poll()
                 if status is not None:
-                    why = tundelca.STATUSES.get(status, "a signal")
+                    why = "a signal" if status < 0 else tundelca.STATUSES.get(status, "its program knows no such status")
                     raise tundelca.NodeFault(f"node {me} ended with status {status}: {why}")
                 if time.monotonic() > end:
                     raise tundelca.Unreachable(f"node {me} doesn't answer {patience:.0f} s after its start")

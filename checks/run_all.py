@@ -187,9 +187,11 @@ def threads(program):
 class Cut(Cluster):
     """Four nodes, of which the last is reached, and reaches the others, through forward.py, which can be ended."""
 
+    forwarder = None
+
     def __init__(self, program):
         super().__init__(program, NODES, MAY_LIE, running=())
-        last, passed, self.forwarder = NODES - 1, tundelca.free_ports(NODES), None
+        last, passed = NODES - 1, tundelca.free_ports(NODES)
         pairs = itertools.permutations(range(NODES), 2)
         self.route({(me, to): passed[to] for me, to in pairs if last in (me, to)})
         self.pairs = [f"{there}={tundelca.LOOPBACK}:{node}" for there, node in zip(passed, self.nodes)]
