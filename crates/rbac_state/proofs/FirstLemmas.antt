@@ -1,7 +1,7 @@
 -- The first of a list that passes, found by going over the list.
 use Rattle.std.proofs.Common.{◌≡◌, ℕ, ◌+◌, ◌<◌, Bool, true, false, ◌&&◌, cond, List, [], ◌∷◌, ◌++◌, Option}
 use Rattle.std.proofs.Common.{length, get_or, take, drop, None, Some, refl, sym, ap, ◌∙◌}
-use Rattle.std.specs.List.{find}
+use Rattle.std.specs.List.{find, list_any}
 use Rattle.std.specs.Option.{option_or}
 use Rattle.std.proofs.lemmas.List.{take_more, drop_more, take-append-drop}
 use Rattle.std.proofs.lemmas.List.Folds.{find-append}
@@ -64,3 +64,8 @@ pub find_parts : {X : Type 0} (p : X → Bool) (xs front back : List X) (found :
     found ≡ find p front → option_or found (find p back) ≡ find p xs
 find_parts p xs front back found is first =
     ap (λ o. option_or o (find p back)) first ∙ sym (find-append p front back) ∙ ap (find p) (sym is)
+
+-- not one passes
+pub any_never : {X : Type 0} (p : X → Bool) (xs : List X) → ((x : X) → p x ≡ false) → list_any p xs ≡ false
+any_never p [] never = refl
+any_never p (x ∷ xs) never = rw (never x) (any_never p xs never)

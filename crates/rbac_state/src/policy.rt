@@ -1,6 +1,7 @@
 //! The policy: both relations, what a command changes in them, and the review functions.
 
 ghost use Rattle.std.specs.Prelude.{◌≡◌, ℕ, Contains, ◌+◌, ◌<◌, ◌≤◌, ◌&&◌, find, IfOk, OnOk, OnErr};
+ghost use Rattle.std.specs.List.{list_any};
 ghost use Rattle.std.specs.Ordering.{nat_cmp};
 ghost use Rattle.rbac_state.specs.Policies.{permission_cmp, assigned_in, granted_in, HasRole, RoleMay};
 ghost use Rattle.rbac_state.specs.Policies.{UserMay, least_room, IsBlank, SameRelations, IsApplied};
@@ -156,6 +157,13 @@ impl Policy {
             roles,
             number_of((operation, object)),
         )
+    }
+
+    /// Whether the user has one of these roles. However many they are, the user's own are looked up once.
+    pub fn has_one_of(&self, user: u32, roles: &[u16]) -> bool
+        ensures { result ≡ list_any (assigned_in self.now user) roles.now }
+    {
+        select::has_one_of(&self.assigned, user as u64, roles)
     }
 
     /// The users that have the role, in ascending order.

@@ -2,7 +2,7 @@
 
 ghost use Rattle.std.specs.Prelude.{◌≡◌, ◌<◌, ◌≤◌, ◌==◌, ◌&&◌, ◌++◌, length, drop, map, filter, find, IfOk, OnOk};
 ghost use Rattle.std.specs.Ordering.{eq_by_cmp, nat_cmp};
-ghost use Rattle.std.specs.List.{AllByRecursion, flat_map};
+ghost use Rattle.std.specs.List.{AllByRecursion, flat_map, list_any};
 ghost use Rattle.std.specs.List.Sorted.{IsStrictlySortedBy};
 ghost use Rattle.sorted_pairs.specs.Blocks.{items_in};
 ghost use Rattle.rbac_state.specs.inside.PermissionNumbers.{permission_of};
@@ -223,4 +223,44 @@ fn first_of_many(
         }
     }
     None
+}
+
+/// Whether the user has one of these roles. The user's roles are found once for all but the first of these.
+pub fn has_one_of(assigned: &Users, user: u64, roles: &[u16]) -> bool
+    requires user { user < most_firsts }
+    requires users { IsKeptBothWays assigned.now }
+    ensures { result ≡ list_any (relates assigned.now user) roles.now }
+{
+    let (few, rest) = roles.split_at(asked_alone(roles.len()));
+    has_one_of_few(assigned, user, few) || has_one_of_many(assigned, user, rest)
+}
+
+/// As `has_one_of`: each role is asked about by itself.
+fn has_one_of_few(assigned: &Users, user: u64, roles: &[u16]) -> bool
+    requires user { user < most_firsts }
+    requires users { IsKeptBothWays assigned.now }
+    ensures { result ≡ list_any (relates assigned.now user) roles.now }
+{
+    roles.iter().any(|role| assigned.has(user, *role))
+}
+
+/// As `has_one_of`: the user's roles are found once for all of these.
+fn has_one_of_many(assigned: &Users, user: u64, roles: &[u16]) -> bool
+    requires user { user < most_firsts }
+    requires users { IsKeptBothWays assigned.now }
+    ensures { result ≡ list_any (relates assigned.now user) roles.now }
+{
+    if roles.is_empty() {
+        return false;
+    }
+    let of_user = assigned.of_first(user);
+    if of_user.is_empty() {
+        return false;
+    }
+    for role in roles {
+        if of_user.has(&Pair::new(user, *role as u64)) {
+            return true;
+        }
+    }
+    false
 }

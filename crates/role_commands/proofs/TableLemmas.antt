@@ -1,6 +1,7 @@
 -- A table's entries, as a `BTreeMap` keeps them, are a finite map.
 use Rattle.std.proofs.Common.{◌≡◌, ℕ, ◌+◌, ◌<◌, ◌≤◌, Bool, true, false, cond, nat_le, nat_lt, if◌then◌else◌, List}
 use Rattle.std.proofs.Common.{[], ◌∷◌, length, Option, Some, None, is_some, IfSome, sym, refl, ap, ◌∙◌, arith}
+use Rattle.std.proofs.Common.{◌&&◌, T, subst}
 use Rattle.std.proofs.lemmas.Bool.Decides.{nat_tests}
 use Rattle.std.proofs.lemmas.Option.{cond_some}
 use Rattle.std.proofs.lemmas.Map.Keys.{IsDistinct-from_sorted}
@@ -11,10 +12,15 @@ use Rattle.std.specs.BTreeMap as tree
 use Rattle.std.specs.BTreeMap.{BTreeMap, is_at}
 use Rattle.std.specs.Cmp.{nat_cmp_total, eq_by_cmp_equiv}
 use Rattle.std.specs.FinMap as map
-use Rattle.std.specs.FinMap.{find, get-from_entries, get-insert, len-insert}
+use Rattle.std.specs.FinMap.{find, is_sorted, get-from_entries, get-from_sorted, entries-from_sorted, get-insert}
+use Rattle.std.specs.FinMap.{len-insert}
+use Rattle.std.specs.FinMap.Entries.{below_all}
+use Rattle.std.specs.List.{AllByRecursion}
+use Rattle.std.specs.List.Sorted.{IsStrictlySortedBy}
+use Rattle.std.specs.declared.cmp.Ordering.TheVariants.{Less}
 use Rattle.std.specs.FinMap.{get-empty, len-empty, same_map, nat_cmp-IsAntisymmetric}
 use Rattle.std.specs.Map.{lookup, keys_of}
-use Rattle.std.specs.Ordering.{nat_cmp, eq_by_cmp}
+use Rattle.std.specs.Ordering.{nat_cmp, eq_by_cmp, is_lt}
 use Rattle.quorum_sizes.specs.Sizes.{Counts, name_due}
 use Rattle.role_commands.specs.Tables.{Table, AreEntries, table_of, with_role, most_roles}
 use Rattle.role_commands.specs.TableFaults.{add_due}
@@ -125,3 +131,29 @@ extended_entries empty m n none ordered inserts =
     (tree.get nat_cmp empty) m.entries q (IsDistinct-from_sorted nat_cmp (keys_of m.entries) ordered)
     ∙ ap (λ es. option_or (tree.get nat_cmp m q) (lookup (is_at (nat_cmp q)) es)) none
     ∙ or_none (tree.get nat_cmp m q)) exact_unsigned
+
+both : (a b : Bool) → T a → T b → T (a && b)
+both true b p q = q
+both false b p q = p
+
+below_each : (x : ℕ) (es : List (ℕ × ℕ)) → AllByRecursion (λ y. nat_cmp x y ≡ Less) (keys_of es)
+    → T (below_all nat_cmp x es)
+below_each x [] all = tt
+below_each x (e ∷ es) all =
+    both (is_lt (nat_cmp x e.0)) (below_all nat_cmp x es) (subst (λ o. T (is_lt o)) (sym all.0) tt)
+    (below_each x es all.1)
+
+entries_ascend : (es : List (ℕ × ℕ)) → IsStrictlySortedBy nat_cmp (keys_of es) → T (is_sorted nat_cmp es)
+unfolding IsStrictlySortedBy
+entries_ascend [] up = tt
+entries_ascend (e ∷ es) up = both _ _ (below_each e.0 es up.0) (entries_ascend es up.1)
+
+-- the keys of ascending entries are those of the map
+pub keys-entries : (es : List (ℕ × ℕ)) → IsStrictlySortedBy nat_cmp (keys_of es)
+    → map.keys (map.from_entries {R = nat_cmp} es) ≡ keys_of es
+keys-entries es up =
+    let ascend = entries_ascend es up in
+    let same : map.from_entries {R = nat_cmp} es ≡ map.from_sorted es =
+    same_map nat_cmp_total nat_cmp-IsAntisymmetric _ _ (λ q.
+    get-from_entries nat_cmp_total es q ∙ sym (get-from_sorted nat_cmp es q ascend)) in
+    ap map.keys same ∙ ap keys_of (entries-from_sorted nat_cmp es ascend)

@@ -1,5 +1,5 @@
 -- A role table: the sizes of a cluster, and the one owner of each role.
-use Rattle.std.specs.Prelude.{◌≡◌, ℕ, ◌<◌, ◌≤◌, Bool, false, ◌==◌, List, length, IfSome, refl}
+use Rattle.std.specs.Prelude.{◌≡◌, ℕ, ◌<◌, ◌≤◌, Bool, false, ◌==◌, List, length, filter, IfSome, refl}
 use Rattle.std.specs.Option.{option_map_or}
 use Rattle.std.specs.Coded.{Coded, code_by, coded×, coded_ℕ}
 use Rattle.std.specs.FinMap as map
@@ -30,6 +30,10 @@ IsTable t =
 -- the table has the role, with this node as its owner
 abbrev pub owns : Table → ℕ → ℕ → Bool
 owns t node role = option_map_or (λ owner. owner == node) (map.get t.owners role) false
+
+-- the roles of the table that this node owns, in ascending order, as a map has its keys
+abbrev pub roles_of_owner : Table → ℕ → List ℕ
+roles_of_owner t node = filter (owns t node) (map.keys t.owners)
 
 -- the table with no roles
 abbrev pub no_roles : Counts → Table

@@ -2,7 +2,7 @@
 
 ghost use Rattle.std.specs.Prelude.{◌≡◌, ◌<◌, IfSome, IfOk, OnOk, OnErr};
 ghost use Rattle.std.specs.FinMap as map;
-ghost use Rattle.role_commands.specs.Tables.{IsTable, owns, no_roles, with_role};
+ghost use Rattle.role_commands.specs.Tables.{IsTable, owns, roles_of_owner, no_roles, with_role};
 ghost use Rattle.role_commands.specs.TableFaults.{add_due, AnswersDue};
 
 use quorum_sizes::{NodeName, Sizes};
@@ -121,6 +121,21 @@ impl RoleTable {
             Some(owner) => owner == node,
             None => false,
         }
+    }
+
+    /// The roles that this node owns, in ascending order.
+    ///
+    /// # Errors
+    ///
+    /// Only for want of memory.
+    pub fn roles_of_owner(&self, alloc: Global, owner: NodeName) -> Result<Vec<u16>, AllocError>
+        ensures { IfOk result (λ roles. roles.items ≡ roles_of_owner self.now owner) }
+    {
+        self.owners
+            .keys()
+            .copied()
+            .filter(|role| self.is_owned_by(*role, owner))
+            .collect(alloc)
     }
 
     /// The sizes of the cluster.

@@ -11,4 +11,5 @@ pub mod AscendingLemmas
 pub mod PackedLemmas
 pub mod PairLemmas
 pub mod ListedLemmas
+pub mod WordLemmas
 pub mod Exported

@@ -8,7 +8,7 @@ use Rattle.bracha_instance.specs.Broadcast.{echoed, readied}
 use Rattle.owner_streams.specs.Places.{takes_at, stream, reach}
 use Rattle.rbac_state.specs.Assignments.{is_user_assigned, is_permission_granted}
 use Rattle.role_sessions.specs.Sessions.{Session, SessionState, state_of}
-use Rattle.role_sessions.specs.Decisions.{Relations, verdict}
+use Rattle.role_sessions.specs.Decisions.{Relations, verdict, decided}
 use Rattle.role_sessions.specs.declared.verdict.Verdict.{Verdict}
 use Rattle.role_node.specs.declared.event.Event.{Event}
 use Rattle.role_node.specs.declared.event.NodeAgain.{NodeAgain}
@@ -41,6 +41,11 @@ session_at history id = map.get (sessions_at history).open_sessions id
 abbrev pub verdict_at : Table → List Event → ℕ → ℕ → ℕ → ℕ → Verdict
 verdict_at roles history session user operation object =
     verdict (relations_at roles history) (session_at history session) user operation object
+
+-- the decision on an access in which just these roles of the user would be active, without a session
+abbrev pub decided_at : Table → List Event → List ℕ → ℕ → ℕ → ℕ → Verdict
+decided_at roles history active user operation object =
+    decided (relations_at roles history) active user operation object
 
 -- what this node has sent to all at a place of the owner's stream: in its own stream what it issued as that
 -- number, and the ECHO and the READY that the broadcast makes it send

@@ -4,6 +4,7 @@ pub mod Histories
 pub mod Access
 pub mod Answers
 pub mod Nodes
+pub mod Words
 pub mod Windows
 pub mod Questions
 pub mod Listed

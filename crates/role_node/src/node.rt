@@ -7,7 +7,7 @@ ghost use Rattle.owner_streams.specs.Places.{place_count};
 ghost use Rattle.role_sessions.specs.Listed.{listed_from};
 ghost use Rattle.role_node.specs.Configs.{most_events};
 ghost use Rattle.role_node.specs.Histories.{issued};
-ghost use Rattle.role_node.specs.Access.{stream_at, reach_at, sessions_at, verdict_at, sent_at};
+ghost use Rattle.role_node.specs.Access.{stream_at, reach_at, sessions_at, verdict_at, decided_at, sent_at};
 ghost use Rattle.role_node.specs.Windows.{last_vote_at};
 ghost use Rattle.role_node.specs.Listed.{IsWithin};
 ghost use Rattle.role_node.specs.Questions.{ask_due, IsAsked, IsAnswerTo};
@@ -143,6 +143,14 @@ impl Node {
         ensures same { self.new ≡ self.old }
     {
         self.state.check(session, user, operation, object)
+    }
+
+    /// The decision on an access in which just these roles of the user would be active, in this order: the verdict of a
+    /// session of the user in which they are. There is none, nothing is recorded, and it takes no memory.
+    pub fn decide(&self, user: u32, active: &[u16], operation: u16, object: u32) -> Verdict
+        ensures { result ≡ decided_at self.now.config.roles self.now.history active.now user operation object }
+    {
+        self.state.decide(user, active, operation, object)
     }
 
     /// The answer to a question: a decision, or a review of the node's relations and sessions. A decision takes no

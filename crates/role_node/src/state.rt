@@ -9,7 +9,7 @@ ghost use Rattle.rbac_state.specs.Policies.{IsPolicyOf};
 ghost use Rattle.role_sessions.specs.Decisions.{Relations, relations_of};
 ghost use Rattle.role_sessions.specs.Refusals.{AnswersExactly};
 ghost use Rattle.role_sessions.specs.Kept.{KeptAreRight};
-ghost use Rattle.role_node.specs.Access.{verdict_at, sent_at};
+ghost use Rattle.role_node.specs.Access.{verdict_at, decided_at, sent_at};
 ghost use Rattle.role_node.specs.Answers.{issue_fault, take_outlook, act_fault, or_counted, outlook_with_room};
 ghost use Rattle.role_node.specs.Questions.{ask_due, IsAsked, IsAnswerUnder, of_listing_fault};
 ghost use Rattle.role_node.specs.Configs.{most_events};
@@ -29,7 +29,7 @@ use owner_streams::{PLACES, Streams, WINDOW};
 use quorum_sizes::NodeName;
 use rbac_state::Policy;
 use role_commands::{Command, Items, RoleTable};
-use role_sessions::{ClientEvent, SessionFault, Sessions, Verdict};
+use role_sessions::{ClientEvent, SessionFault, Sessions, Verdict, decide};
 use std::alloc::{AllocError, Global};
 
 /// What a node keeps beside its history, to answer by.
@@ -228,6 +228,14 @@ impl State {
     {
         self.sessions
             .check(&self.policy, session, user, operation, object)
+    }
+
+    /// The decision on an access in which just these roles would be active. It takes no memory.
+    pub(crate) fn decide(&self, user: u32, active: &[u16], operation: u16, object: u32) -> Verdict
+        ensures { (roles : Table) (history : List Event) → IsStateAfter roles history self.now →
+            result ≡ decided_at roles history active.now user operation object }
+    {
+        decide(&self.policy, user, active, operation, object)
     }
 
     /// The answer to a question.

@@ -41,6 +41,11 @@ verdict relations (Some session) user operation object =
     else (if length (counted_roles relations session) == 0 then Deny NoneAssigned
     else allowed (find (relations.granted operation object) (counted_roles relations session))))
 
+-- the decision on an access in which just these roles of the user would be active, in this order
+abbrev pub decided : Relations → List ℕ → ℕ → ℕ → ℕ → Verdict
+decided relations roles user operation object =
+    verdict relations (Some (record { user = user; active = roles })) user operation object
+
 -- the code of a rule
 abbrev pub rule_code : Rule → List ℕ
 rule_code NoSession = codes "N1"

@@ -13,10 +13,12 @@ pub mod laws;
 mod open_session;
 mod open_sessions;
 mod session;
+mod sessionless;
 mod sessions;
 mod verdict;
 
 pub use event::ClientEvent;
 pub use faults::{EndFault, SessionFault};
+pub use sessionless::decide;
 pub use sessions::Sessions;
 pub use verdict::{Rule, Verdict};
