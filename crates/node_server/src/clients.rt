@@ -75,27 +75,46 @@ pub fn answer_client<N: HeldNode, K: FrameKeys, R: Wait + Clock>(
     let Some(queue) = slot.begin(server.rt) else {
         return;
     };
-    let mut client = Client {
-        server,
-        slot,
-        number,
-        stream,
-        queue,
-        foreign: None,
-        lines: 0,
-        in_flight: 0,
-        put: 0,
-        asked: false,
-        requests: RequestReader::new(server.alloc),
-        held: Held::new(server.alloc),
-        writer: Watched::new(stream),
-    };
-    if client.serve() {
-        server.end();
-    }
-    server.wake_workers();
-    slot.free(server.rt, client.queue, client.put);
+    let (queue, put) = Client::new(server, slot, number, stream, queue).serve_all();
+    slot.free(server.rt, queue, put);
     server.wake_ports();
+}
+
+impl<'a, 'b, N: HeldNode, K: FrameKeys, R: Wait + Clock> Client<'a, 'b, N, K, R> {
+    /// A connection of which nothing was read.
+    fn new(
+        server: &'b Server<'a, N, K, R>,
+        slot: &'b Slot<'a>,
+        number: u32,
+        stream: &'b TcpStream,
+        queue: JobQueue<'a>,
+    ) -> Client<'a, 'b, N, K, R> {
+        Client {
+            server,
+            slot,
+            number,
+            stream,
+            queue,
+            foreign: None,
+            lines: 0,
+            in_flight: 0,
+            put: 0,
+            asked: false,
+            requests: RequestReader::new(server.alloc),
+            held: Held::new(server.alloc),
+            writer: Watched::new(stream),
+        }
+    }
+
+    /// Answers the lines of the connection, up to its end, which may be the node's. Its way into the inbox then, and
+    /// how many jobs are in flight.
+    fn serve_all(mut self) -> (JobQueue<'a>, u32) {
+        if self.serve() {
+            self.server.end();
+        }
+        self.server.wake_workers();
+        (self.queue, self.put)
+    }
 }
 
 impl<N: HeldNode, K: FrameKeys, R: Wait + Clock> Client<'_, '_, N, K, R> {
@@ -150,21 +169,28 @@ impl<N: HeldNode, K: FrameKeys, R: Wait + Clock> Client<'_, '_, N, K, R> {
             return false;
         }
         for _ in self.server.rt.forever() {
-            let (stops, goes_on) = match ahead.peek(&mut reader, MOST_LINE_BYTES) {
-                Ok(Next::Line(count)) => {
-                    let stops = self.is_stop(&ahead.front()[..count]);
-                    ahead.take(count + 1);
-                    (stops, true)
-                }
-                Ok(Next::Last(_)) => (self.is_stop(ahead.front()), false),
-                Ok(Next::TooLong) => (false, matches!(ahead.pass_line(&mut reader), Ok(true))),
-                Ok(Next::End) | Err(_) => (false, false),
-            };
-            if stops || !goes_on {
+            if let Some(stops) = self.last_stops(ahead, &mut reader) {
                 return stops;
             }
         }
         unreachable!()
+    }
+
+    /// Whether what comes next stops the node, once that is known: with a line that does, or at the end.
+    fn last_stops<S: Read>(&mut self, ahead: &mut Ahead, reader: &mut Watched<S>) -> Option<bool> {
+        match ahead.peek(reader, MOST_LINE_BYTES) {
+            Ok(Next::Line(count)) => {
+                let stops = self.is_stop(&ahead.front()[..count]);
+                ahead.take(count + 1);
+                if stops { Some(true) } else { None }
+            }
+            Ok(Next::Last(_)) => Some(self.is_stop(ahead.front())),
+            Ok(Next::TooLong) => match ahead.pass_line(reader) {
+                Ok(true) => None,
+                _ => Some(false),
+            },
+            Ok(Next::End) | Err(_) => Some(false),
+        }
     }
 
     fn is_stop(&mut self, line: &[u8]) -> bool {
@@ -220,15 +246,18 @@ impl<N: HeldNode, K: FrameKeys, R: Wait + Clock> Client<'_, '_, N, K, R> {
                 AfterLine::Continue => Ok(AfterLine::Close),
                 last => Ok(last),
             },
-            Next::TooLong => {
-                let had_end = ahead.pass_line(&mut Watched::new(self.stream))?;
-                self.say(&ClientAnswer::BadLine(LineFault::NotJson))?;
-                if had_end {
-                    Ok(AfterLine::Continue)
-                } else {
-                    Ok(AfterLine::Close)
-                }
-            }
+            Next::TooLong => self.answer_long(ahead),
+        }
+    }
+
+    /// Answers a line that is too long, once it is read to its end.
+    fn answer_long(&mut self, ahead: &mut Ahead) -> Result<AfterLine, AheadFault> {
+        let had_end = ahead.pass_line(&mut Watched::new(self.stream))?;
+        self.say(&ClientAnswer::BadLine(LineFault::NotJson))?;
+        if had_end {
+            Ok(AfterLine::Continue)
+        } else {
+            Ok(AfterLine::Close)
         }
     }
 

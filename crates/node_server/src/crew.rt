@@ -149,15 +149,25 @@ impl<'a, N: HeldNode, K: FrameKeys, R: Wait + Clock> Server<'a, N, K, R> {
     }
 
     /// Does a batch of jobs with a worker. What is left then is left to others.
-    fn work(&self, mut worker: Worker<'a, N>, mut front: Front<N::Untold>) {
+    fn work(&self, mut worker: Worker<'a, N>, front: Front<N::Untold>) {
+        self.take_batch(&mut worker, front);
+        self.send_and_tell(&mut worker);
+        self.rest(worker);
+    }
+
+    /// Has a worker take jobs, until its batch is full or no more were put since it looked.
+    fn take_batch(&self, worker: &mut Worker<'a, N>, mut front: Front<N::Untold>) {
         for _ in self.rt.forever() {
-            let is_left = self.take_jobs(&mut worker, &mut front);
+            let is_left = self.take_jobs(worker, &mut front);
             match self.takes_on(is_left, front) {
                 Some(kept) => front = kept,
-                None => break,
+                None => return,
             }
         }
-        self.send_and_tell(&mut worker);
+    }
+
+    /// A worker is idle again. What came of its packets is noted.
+    fn rest(&self, mut worker: Worker<'a, N>) {
         let now = millis(self.rt);
         let mut crew = self.crew.lock(self.rt);
         for noted in worker.heard.drain(..) {

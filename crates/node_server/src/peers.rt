@@ -1,6 +1,6 @@
 //! The connections of peers: frames in.
 
-use crate::crew::News;
+use crate::crew::{Credit, News};
 use crate::server::Server;
 use frame_queues::{
     BLOCK_FRAMES, Caller, Came, FrameBlock, FrameKeys, Limits, PeerName, Slots, TURN_FRAMES, Turn,
@@ -11,7 +11,7 @@ use mio::unix::SourceFd;
 use mio::{Interest, Registry, Token};
 use served_node::{Heard, HeldNode, millis};
 use server_locks::{JobQueue, Opened, open_frames};
-use std::alloc::AllocError;
+use std::alloc::{AllocError, Global};
 use std::net::TcpStream;
 use std::os::fd::AsRawFd;
 use std::sync::Wait;
@@ -40,6 +40,27 @@ struct Connection {
 }
 
 impl Connection {
+    /// A connection of which nothing was read, which has no place yet. It never waits.
+    ///
+    /// # Errors
+    ///
+    /// As the system answers; `OutOfMemory` for want of memory.
+    fn new(alloc: Global, stream: TcpStream) -> io::Result<Connection> {
+        stream.set_nodelay(true)?;
+        stream.set_nonblocking(true)?;
+        match FrameBlock::new(alloc) {
+            Ok(block) => Ok(Connection {
+                stream,
+                number: 0,
+                block,
+                opened: None,
+                came: Came::Nothing,
+                has_end: false,
+            }),
+            Err(_) => Err(io::Error::from(io::ErrorKind::OutOfMemory)),
+        }
+    }
+
     /// Reads a block at most, or one frame where none has opened yet: so who can't seal frames takes little of a turn.
     fn read(&mut self) {
         let most = if self.opened.is_some() {
@@ -55,6 +76,23 @@ impl Connection {
     fn frames(&self) -> &[Frame] {
         self.block.frames()
     }
+
+    /// Opens some of these, whose packets are then in this list. The first that opens names the connection; one that
+    /// does not before ends it.
+    fn open<K: FrameKeys>(
+        &mut self,
+        keys: &K,
+        turn: Turn,
+        packets: &mut Vec<Packet>,
+    ) -> Option<Opened> {
+        let frames = self.frames().get(turn.from..turn.to).unwrap_or(&[]);
+        let opened = open_frames(keys, frames, self.opened, packets).ok()?;
+        self.opened = opened.peer;
+        if opened.peer.is_none() && opened.unopened > 0 {
+            self.came = Came::End;
+        }
+        Some(opened)
+    }
 }
 
 /// The connections of peers, each at a place of its own.
@@ -63,6 +101,8 @@ pub struct Peers<'a, 'b, N: HeldNode, K: FrameKeys, R> {
     server: &'b Server<'a, N, K, R>,
     queue: JobQueue<'a>,
     slots: Slots,
+    /// For how many newcomers there is room.
+    pub most_newcomers: usize,
     connections: Vec<Option<Connection>>,
     /// Before this no newcomer's time is over, in milliseconds.
     next_end: u64,
@@ -93,15 +133,12 @@ impl<'a, 'b, N: HeldNode, K: FrameKeys, R: Wait + Clock> Peers<'a, 'b, N, K, R> 
         let nodes = server.keys.sizes().n();
         let slots = Slots::new(alloc, nodes, server.keys.me().index(), limits)?;
         let places = slots.places().len();
-        let mut connections = Vec::with_capacity(alloc, places)?;
-        for _ in 0..places {
-            connections.push(None)?;
-        }
         Ok(Peers {
             server,
             queue,
             slots,
-            connections,
+            most_newcomers: usize::from(limits.newcomers()),
+            connections: no_connections(alloc, places)?,
             next_end: 0,
             ready: Vec::with_capacity(alloc, places)?,
             turns: Turns::new(alloc, places)?,
@@ -137,17 +174,7 @@ impl<'a, 'b, N: HeldNode, K: FrameKeys, R: Wait + Clock> Peers<'a, 'b, N, K, R> 
         let mut crew = server.crew.lock(server.rt);
         if mem::replace(&mut crew.has_credit, false) {
             for (place, credit) in crew.credits.iter_mut().enumerate() {
-                let number = credit.connection;
-                match mem::replace(&mut credit.news, News::Nothing) {
-                    News::Nothing => {}
-                    News::Counted(time) => {
-                        has_ended |= self.slots.counted(place, number, time).is_some();
-                    }
-                    News::Refused => {
-                        self.slots.ends(place, number);
-                        has_ended = true;
-                    }
-                }
+                has_ended |= take_news(&mut self.slots, place, credit);
             }
         }
         drop(crew);
@@ -199,37 +226,27 @@ impl<'a, 'b, N: HeldNode, K: FrameKeys, R: Wait + Clock> Peers<'a, 'b, N, K, R> 
     ///
     /// As the system answers; `OutOfMemory` for want of memory. The connection is closed.
     pub fn add(&mut self, registry: &Registry, now: u64, stream: TcpStream) -> io::Result<()> {
-        stream.set_nodelay(true)?;
-        stream.set_nonblocking(true)?;
-        let Ok(block) = FrameBlock::new(self.server.alloc) else {
-            return Err(io::Error::from(io::ErrorKind::OutOfMemory));
-        };
+        let mut connection = Connection::new(self.server.alloc, stream)?;
+        let place = self.place_for_newcomer(now);
+        connection.number = self.number_at(place);
+        let fd = connection.stream.as_raw_fd();
+        let registered = registry.register(&mut SourceFd(&fd), Token(place), Interest::READABLE);
+        if registered.is_err() {
+            self.slots.ends(place, connection.number);
+        } else if let Some(room) = self.connections.get_mut(place) {
+            *room = Some(connection);
+        }
+        registered
+    }
+
+    /// The place for a newcomer, where another connection may have given way. Nothing is known of the newcomer yet.
+    fn place_for_newcomer(&mut self, now: u64) -> usize {
         self.lot = self.lot.wrapping_mul(LOT_FACTOR).wrapping_add(1);
         let place = self.slots.comes(now, (self.lot >> 32) as usize);
         self.next_end = 0;
-        let number = self.number_at(place);
         self.close(place);
-        self.server.begin_credit(place, number);
-        let fd = stream.as_raw_fd();
-        if let Err(error) = registry.register(
-            &mut SourceFd(&fd),
-            Token(place),
-            Interest::READABLE,
-        ) {
-            self.slots.ends(place, number);
-            return Err(error);
-        }
-        if let Some(room) = self.connections.get_mut(place) {
-            *room = Some(Connection {
-                stream,
-                number,
-                block,
-                opened: None,
-                came: Came::Nothing,
-                has_end: false,
-            });
-        }
-        Ok(())
+        self.server.begin_credit(place, self.number_at(place));
+        place
     }
 
     /// The number of the connection at a place.
@@ -251,6 +268,14 @@ impl<'a, 'b, N: HeldNode, K: FrameKeys, R: Wait + Clock> Peers<'a, 'b, N, K, R> 
     /// Reads of each connection that may have bytes, one block at most, and puts the frames of these blocks in turns, a
     /// few of each: so no connection's block is behind another's. Those that may have more stay ready.
     pub fn read_ready(&mut self, now: u64) {
+        self.read_blocks();
+        self.put_blocks(now);
+        self.take_credit();
+        self.keep_ready();
+    }
+
+    /// Reads a block at most of each connection that may have bytes.
+    fn read_blocks(&mut self) {
         for place in &self.ready {
             if let Some(Some(connection)) = self.connections.get_mut(*place) {
                 connection.read();
@@ -258,6 +283,10 @@ impl<'a, 'b, N: HeldNode, K: FrameKeys, R: Wait + Clock> Peers<'a, 'b, N, K, R> 
                 let _ = self.turns.add(*place, connection.frames().len());
             }
         }
+    }
+
+    /// Puts the frames of the blocks that were read, in turns, and has the jobs done.
+    fn put_blocks(&mut self, now: u64) {
         let mut put = 0usize;
         for _ in self.server.rt.forever() {
             let Some(turn) = self.turns.next() else {
@@ -272,7 +301,10 @@ impl<'a, 'b, N: HeldNode, K: FrameKeys, R: Wait + Clock> Peers<'a, 'b, N, K, R> 
         if put > 0 {
             self.server.wake_workers();
         }
-        self.take_credit();
+    }
+
+    /// Of the connections that were read those stay ready that may have more.
+    fn keep_ready(&mut self) {
         let mut kept = 0usize;
         for at in 0..self.ready.len() {
             let place = self.ready.get(at).copied().unwrap_or(usize::MAX);
@@ -297,35 +329,35 @@ impl<'a, 'b, N: HeldNode, K: FrameKeys, R: Wait + Clock> Peers<'a, 'b, N, K, R> 
             return 0;
         };
         let (before, number) = (connection.opened, connection.number);
-        let frames = connection.frames().get(turn.from..turn.to).unwrap_or(&[]);
-        let opened = open_frames(&server.keys, frames, before, &mut self.packets);
-        let Ok(Opened { peer, unopened }) = opened else {
+        let Some(opened) = connection.open(&server.keys, turn, &mut self.packets) else {
             return 0;
         };
-        connection.opened = peer;
+        if before != opened.peer {
+            self.next_end = 0;
+            self.is_news = true;
+        }
+        self.note_opened(turn.block, opened, now);
         let caller = Caller::Peer {
             place,
             connection: number,
         };
-        if before != peer {
-            self.next_end = 0;
+        self.queue.put_packets(server.rt, &|| server.wake_for_room(), caller, &self.packets)
+    }
+
+    /// Notes what is heard of a peer by frames of a connection, which takes a slot of that peer where one is free.
+    fn note_opened(&mut self, place: usize, opened: Opened, now: u64) {
+        for _ in 0..opened.unopened {
             self.is_news = true;
+            self.heard.note_unopened(opened.peer);
         }
-        self.is_news |= unopened > 0;
-        for _ in 0..unopened {
-            self.heard.note_unopened(peer);
-        }
-        match peer {
-            Some(name) if !self.packets.is_empty() => {
+        if let Some(name) = opened.peer {
+            if !self.packets.is_empty() {
                 self.is_news |= self.heard.note_opened(name.index, now);
-                if let Some(ended) = self.slots.named(turn.block, name.index, now) {
+                if let Some(ended) = self.slots.named(place, name.index, now) {
                     self.close(ended);
                 }
             }
-            None if unopened > 0 => connection.came = Came::End,
-            _ => {}
         }
-        self.queue.put_packets(server.rt, &|| server.wake_for_room(), caller, &self.packets)
     }
 
     /// Whether a connection may have more. It is closed at its end.
@@ -333,16 +365,42 @@ impl<'a, 'b, N: HeldNode, K: FrameKeys, R: Wait + Clock> Peers<'a, 'b, N, K, R> 
         let Some(Some(connection)) = self.connections.get(place) else {
             return false;
         };
-        let number = connection.number;
-        let goes_on = match connection.came {
-            Came::Nothing | Came::End => false,
-            Came::Some => connection.has_end,
+        let (number, has_end) = (connection.number, connection.has_end);
+        match connection.came {
+            Came::Nothing => false,
+            Came::Some => has_end,
             Came::More => true,
-        };
-        if connection.came == Came::End {
-            self.slots.ends(place, number);
-            self.close(place);
+            Came::End => {
+                self.slots.ends(place, number);
+                self.close(place);
+                false
+            }
         }
-        goes_on
+    }
+}
+
+/// Room for so many connections.
+///
+/// # Errors
+///
+/// Only for want of memory.
+fn no_connections(alloc: Global, places: usize) -> Result<Vec<Option<Connection>>, AllocError> {
+    let mut connections = Vec::with_capacity(alloc, places)?;
+    for _ in 0..places {
+        connections.push(None)?;
+    }
+    Ok(connections)
+}
+
+/// Takes over what is new of the connection at a place. Whether a connection ends by it.
+fn take_news(slots: &mut Slots, place: usize, credit: &mut Credit) -> bool {
+    let number = credit.connection;
+    match mem::replace(&mut credit.news, News::Nothing) {
+        News::Nothing => false,
+        News::Counted(time) => slots.counted(place, number, time).is_some(),
+        News::Refused => {
+            slots.ends(place, number);
+            true
+        }
     }
 }

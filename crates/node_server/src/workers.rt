@@ -117,12 +117,17 @@ impl<'a, N: HeldNode> Worker<'a, N> {
         front.tell_by = NEVER;
         for done in self.untold.drain(..) {
             let done = hear(node, &mut self.seat, front, done, now);
-            if let Some(said) = &done.said {
-                if let Some(message) = said.message() {
-                    let _ = self.messages.push(message);
-                }
-            }
+            note_message(&mut self.messages, done.said.as_ref());
             let _ = self.told.push(done);
+        }
+    }
+}
+
+/// Notes the message that what was said has the node send to all, if there is one.
+fn note_message(messages: &mut Vec<Message>, said: Option<&Said>) {
+    if let Some(said) = said {
+        if let Some(message) = said.message() {
+            let _ = messages.push(message);
         }
     }
 }
@@ -176,24 +181,37 @@ impl<'a, N: HeldNode, K: FrameKeys, R: Wait + Clock> Server<'a, N, K, R> {
         worker.messages.clear();
         worker.owed.clear();
         for done in worker.told.drain(..) {
-            match done.caller {
-                Caller::Client { slot, line } => {
-                    if let Some(slot) = self.slots.get(slot as usize) {
-                        slot.tell(self.rt, line, done.said);
-                    }
+            self.tell(&mut worker.heard, done);
+        }
+    }
+
+    /// Tells a client what was said to its line, and notes what came of a peer's packet.
+    fn tell(&self, heard: &mut Vec<Noted>, done: Done<Said>) {
+        match done.caller {
+            Caller::Client { slot, line } => {
+                if let Some(slot) = self.slots.get(slot as usize) {
+                    slot.tell(self.rt, line, done.said);
                 }
-                Caller::Peer { place, connection } => match done.said {
-                    Some(said) if !said.has_counted() => {}
-                    said => {
-                        let _ = worker.heard.push(Noted {
-                            place,
-                            connection,
-                            has_memory: said.is_some(),
-                        });
-                    }
-                },
-                Caller::Nobody => {}
             }
+            Caller::Peer { place, connection } => {
+                note_packet(heard, place, connection, done.said.as_ref());
+            }
+            Caller::Nobody => {}
+        }
+    }
+}
+
+/// Notes that a packet of a connection has counted, or found no memory.
+fn note_packet(heard: &mut Vec<Noted>, place: u32, connection: u16, said: Option<&Said>) {
+    let has_memory = said.is_some();
+    match said {
+        Some(said) if !said.has_counted() => {}
+        _ => {
+            let _ = heard.push(Noted {
+                place,
+                connection,
+                has_memory,
+            });
         }
     }
 }
