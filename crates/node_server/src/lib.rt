@@ -14,6 +14,8 @@
 ghost use denote.Param.Send.{IsSend, IsSync};
 
 mod clients;
+mod connections;
+mod credits;
 mod crew;
 mod fault;
 mod operators;

@@ -88,6 +88,13 @@ fn port_of(poll: &Poll, listener: TcpListener, number: usize) -> io::Result<Port
     })
 }
 
+/// The ports of these listeners, for peers and for clients.
+fn ports_of(poll: &Poll, listeners: (TcpListener, TcpListener)) -> io::Result<(Port, Port)> {
+    let (peers, clients) = listeners;
+    let peer_port = port_of(poll, peers, PEER_PORT)?;
+    Ok((peer_port, port_of(poll, clients, CLIENT_PORT)?))
+}
+
 /// The two ports, the connections of peers and those to them.
 #[derive(Drop)]
 pub struct Ports<'a, 'b, N: HeldNode, K: FrameKeys, R> {
@@ -129,14 +136,14 @@ impl<'a, 'b, N: HeldNode, K: FrameKeys, R: Net + Wait + Clock> Ports<'a, 'b, N, 
         listeners: (TcpListener, TcpListener),
         peers: Peers<'a, 'b, N, K, R>,
     ) -> io::Result<Ports<'a, 'b, N, K, R>> {
+        let (peer_port, client_port) = ports_of(&poll, listeners)?;
         let Ok(events) = Events::with_capacity(server.alloc, MOST_EVENTS) else {
             return Err(io::Error::from(ErrorKind::OutOfMemory));
         };
-        let (peer_port, client_port) = listeners;
         Ok(Ports {
             server,
-            peer_port: port_of(&poll, peer_port, PEER_PORT)?,
-            client_port: port_of(&poll, client_port, CLIENT_PORT)?,
+            peer_port,
+            client_port,
             poll,
             events,
             peers,
@@ -226,7 +233,7 @@ impl<'a, 'b, N: HeldNode, K: FrameKeys, R: Net + Wait + Clock> Ports<'a, 'b, N, 
     /// Takes the connections of peers that have come, no more in a turn than there are places for newcomers: so what
     /// has come of each is read before it may give way to another.
     fn take_peers(&mut self, now: u64) {
-        for _ in 0..self.peers.most_newcomers.min(MOST_NEWCOMERS) {
+        for _ in 0..self.peers.connections.most_newcomers.min(MOST_NEWCOMERS) {
             let Some(stream) = self.peer_port.accept(now) else {
                 return;
             };

@@ -1,7 +1,8 @@
 //! What a server has before the first of its threads begins.
 
 use crate::Site;
-use crate::crew::{Credit, Crew, News};
+use crate::credits::Credits;
+use crate::crew::Crew;
 use crate::server::Server;
 use crate::workers::Worker;
 use frame_queues::{FrameKeys, Limits, MOST_CLIENTS};
@@ -135,18 +136,13 @@ fn crew_of<'a, N: HeldNode, K: FrameKeys, R: Clock>(
     limits: Limits,
 ) -> Result<Crew<'a, N>, AllocError> {
     let (sizes, me) = (keys.sizes(), keys.me());
-    let nothing = Credit {
-        connection: 0,
-        news: News::Nothing,
-    };
     let front = Front::new(alloc, sizes, me, most_batch::<N>(), millis(rt))?;
     Ok(Crew {
         idle,
         front: Some(front),
         jobs: false,
         connected: Vec::with_capacity(alloc, usize::from(sizes.n()))?,
-        credits: Vec::from_elem(alloc, nothing, limits.places(sizes.n(), me.index()))?,
-        has_credit: false,
+        credits: Credits::new(alloc, limits.places(sizes.n(), me.index()))?,
         alarm: Alarm::new(),
         failed: false,
         ended: false,

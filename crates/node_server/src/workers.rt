@@ -3,7 +3,7 @@
 ghost use Rattle.std.specs.Prelude.{◌≤◌};
 ghost use Rattle.peer_windows.specs.Pauses.{most_time};
 
-use crate::crew::Noted;
+use crate::credits::Noted;
 use crate::server::Server;
 use frame_queues::{Caller, FrameKeys};
 use link_frames::{Frame, Message, Packet};
@@ -24,12 +24,32 @@ pub struct Worker<'a, N: HeldNode> {
     /// Jobs that are released now, and those that are.
     untold: Vec<Done<N::Untold>>,
     told: Vec<Done<Said>>,
-    messages: Vec<Message>,
-    /// What goes to single peers.
-    owed: Owed,
-    frames: Vec<Frame>,
+    sending: Sending,
     /// Of which connections of peers a packet has counted, and of which one found no memory.
     pub heard: Vec<Noted>,
+}
+
+/// What a batch of jobs has the node send: messages to all, what goes to single peers, and room for the frames.
+#[derive(Drop)]
+struct Sending {
+    messages: Vec<Message>,
+    owed: Owed,
+    frames: Vec<Frame>,
+}
+
+impl Sending {
+    /// Nothing, with room for so many messages, in a cluster of so many nodes.
+    ///
+    /// # Errors
+    ///
+    /// Only for want of memory.
+    fn new(alloc: Global, most: usize, nodes: u8) -> Result<Sending, AllocError> {
+        Ok(Sending {
+            messages: Vec::with_capacity(alloc, most)?,
+            owed: Owed::new(alloc, nodes)?,
+            frames: Vec::with_capacity(alloc, most)?,
+        })
+    }
 }
 
 impl<'a, N: HeldNode> Worker<'a, N> {
@@ -50,9 +70,7 @@ impl<'a, N: HeldNode> Worker<'a, N> {
             seat,
             untold: Vec::with_capacity(alloc, most)?,
             told: Vec::with_capacity(alloc, most)?,
-            messages: Vec::with_capacity(alloc, most)?,
-            owed: Owed::new(alloc, nodes)?,
-            frames: Vec::with_capacity(alloc, most)?,
+            sending: Sending::new(alloc, most, nodes)?,
             heard: Vec::with_capacity(alloc, most)?,
         })
     }
@@ -117,7 +135,7 @@ impl<'a, N: HeldNode> Worker<'a, N> {
         front.tell_by = NEVER;
         for done in self.untold.drain(..) {
             let done = hear(node, &mut self.seat, front, done, now);
-            note_message(&mut self.messages, done.said.as_ref());
+            note_message(&mut self.sending.messages, done.said.as_ref());
             let _ = self.told.push(done);
         }
     }
@@ -152,7 +170,7 @@ impl<'a, N: HeldNode, K: FrameKeys, R: Wait + Clock> Server<'a, N, K, R> {
         let mut node = self.node.lock(self.rt);
         match worker.take(self, &mut *node, front, now, in_turn) {
             Ok(is_left) => {
-                let (seat, owed) = (&mut worker.seat, &mut worker.owed);
+                let (seat, owed) = (&mut worker.seat, &mut worker.sending.owed);
                 // what a fault leaves out is looked at again, or lost, as on any network
                 let _ = front.gather(
                     self.rt,
@@ -176,10 +194,11 @@ impl<'a, N: HeldNode, K: FrameKeys, R: Wait + Clock> Server<'a, N, K, R> {
 
     /// Sends what a worker's calls have the node send, and tells the clients what was said to their lines.
     pub fn send_and_tell(&self, worker: &mut Worker<'a, N>) {
-        let (shares, owed) = (worker.owed.shares(), worker.owed.messages());
-        self.send(&worker.messages, shares, owed, &mut worker.frames);
-        worker.messages.clear();
-        worker.owed.clear();
+        let sending = &mut worker.sending;
+        let (shares, owed) = (sending.owed.shares(), sending.owed.messages());
+        self.send(&sending.messages, shares, owed, &mut sending.frames);
+        sending.messages.clear();
+        sending.owed.clear();
         for done in worker.told.drain(..) {
             self.tell(&mut worker.heard, done);
         }
