@@ -2,6 +2,7 @@
 
 ghost use Rattle.std.specs.Prelude.{◌≡◌, ◌&&◌, nat_lt, vec_len, is_some, false, None, IfNone, IfSome, OnSome};
 
+use crate::credits::Credits;
 use crate::server::Server;
 use crate::workers::Worker;
 use frame_queues::FrameKeys;
@@ -11,31 +12,6 @@ use server_locks::{Alarm, Front};
 use std::mem;
 use std::sync::Wait;
 use std::time::Clock;
-
-/// What workers have of a connection of peers for the thread of the ports.
-#[derive(Clone, Copy, Debug, PartialEq, Eq)]
-pub enum News {
-    Nothing,
-    /// A packet counted, last at this time, in milliseconds.
-    Counted(u64),
-    /// A packet found no memory, so the connection is to be closed.
-    Refused,
-}
-
-/// What workers have of the connection of peers of this number, the last one at its place.
-#[derive(Clone, Copy, Debug, PartialEq, Eq)]
-pub struct Credit {
-    pub connection: u16,
-    pub news: News,
-}
-
-/// What came of a packet, of the connection of this number at a place: it counted, or found no memory.
-#[derive(Clone, Copy, Debug, PartialEq, Eq)]
-pub struct Noted {
-    pub place: u32,
-    pub connection: u16,
-    pub has_memory: bool,
-}
 
 /// The workers that are idle, and what is there for them and for the thread of the ports.
 #[derive(Drop)]
@@ -47,9 +23,8 @@ pub struct Crew<'a, N: HeldNode> {
     pub jobs: bool,
     /// The peers to which there is a new connection since a worker looked.
     pub connected: Vec<NodeName>,
-    /// What is new of the connection of peers at each place, and whether there is any.
-    pub credits: Vec<Credit>,
-    pub has_credit: bool,
+    /// What is new of the connections of peers.
+    pub credits: Credits,
     /// When something is due for which nobody wakes a worker.
     pub alarm: Alarm,
     /// A port has failed, or what was recorded is not kept.
@@ -64,20 +39,6 @@ impl<'a, N: HeldNode> Crew<'a, N> {
         ensures { result ≡ (self.now.jobs && is_some self.now.front && nat_lt 0 (vec_len self.now.idle)) }
     {
         self.jobs && self.front.is_some() && !self.idle.is_empty()
-    }
-
-    /// Notes what came of a packet, if its connection is still the last one at its place.
-    fn note(&mut self, noted: Noted, now: u64) {
-        if let Some(credit) = self.credits.get_mut(noted.place as usize) {
-            if credit.connection == noted.connection && credit.news != News::Refused {
-                self.has_credit = true;
-                credit.news = if noted.has_memory {
-                    News::Counted(now)
-                } else {
-                    News::Refused
-                };
-            }
-        }
     }
 
     /// An idle worker takes jobs from now on, if none does, with what comes before them.
@@ -149,19 +110,29 @@ impl<'a, N: HeldNode, K: FrameKeys, R: Wait + Clock> Server<'a, N, K, R> {
     }
 
     /// Does a batch of jobs with a worker. What is left then is left to others.
-    fn work(&self, mut worker: Worker<'a, N>, mut front: Front<N::Untold>) {
+    fn work(&self, mut worker: Worker<'a, N>, front: Front<N::Untold>) {
+        self.take_batch(&mut worker, front);
+        self.send_and_tell(&mut worker);
+        self.rest(worker);
+    }
+
+    /// Has a worker take jobs, until its batch is full or no more were put since it looked.
+    fn take_batch(&self, worker: &mut Worker<'a, N>, mut front: Front<N::Untold>) {
         for _ in self.rt.forever() {
-            let is_left = self.take_jobs(&mut worker, &mut front);
+            let is_left = self.take_jobs(worker, &mut front);
             match self.takes_on(is_left, front) {
                 Some(kept) => front = kept,
-                None => break,
+                None => return,
             }
         }
-        self.send_and_tell(&mut worker);
+    }
+
+    /// A worker is idle again. What came of its packets is noted.
+    fn rest(&self, mut worker: Worker<'a, N>) {
         let now = millis(self.rt);
         let mut crew = self.crew.lock(self.rt);
         for noted in worker.heard.drain(..) {
-            crew.note(noted, now);
+            crew.credits.note(noted, now);
         }
         // there is room for each worker
         let _ = crew.idle.push(worker);
@@ -188,17 +159,6 @@ impl<'a, N: HeldNode, K: FrameKeys, R: Wait + Clock> Server<'a, N, K, R> {
             self.left.notify_one();
         }
         None
-    }
-
-    /// There is another connection at this place, of this number, of which nothing is known yet.
-    pub fn begin_credit(&self, place: usize, connection: u16) {
-        let mut crew = self.crew.lock(self.rt);
-        if let Some(credit) = crew.credits.get_mut(place) {
-            *credit = Credit {
-                connection,
-                news: News::Nothing,
-            };
-        }
     }
 
     /// Something may have come of the connection to an outbox's peer. If it is made now, the workers hear of it.

@@ -14,34 +14,33 @@
 ghost use denote.Param.Send.{IsSend, IsSync};
 
 mod clients;
+mod connections;
+mod credits;
 mod crew;
 mod fault;
 mod operators;
 mod peers;
 mod ports;
 mod server;
+mod starting;
 mod workers;
 
 use clients::answer_client;
-use crew::{Credit, Crew, News};
 pub use fault::ServerFault;
 use frame_queues::MOST_CLIENTS;
 pub use frame_queues::{ClusterKeys, FrameKeys, Limits, PeerName};
-use mio::Waker;
 use node_lock::{Inbox, Seat};
 use peers::Peers;
 use ports::{Ports, poll_of};
-use served_node::{Heard, SyncTally, millis};
 pub use served_node::{HeldNode, NotKept, Said};
-use server::Server;
-use server_locks::{Alarm, Front, JobQueue, Outbox, Slot, TicketLock, job_queues, most_batch};
+use server_locks::{JobQueue, job_queues};
+use starting::{Served, server_of};
 use std::alloc::{AllocError, Global};
 use std::net::{Net, SocketAddr, TcpListener, TcpStream};
-use std::sync::{Condvar, Mutex, Wait};
+use std::sync::Wait;
 use std::thread::Threads;
 use std::time::{Clock, Duration};
 use std::{io, thread};
-use workers::Worker;
 
 /// How many workers there are.
 const WORKERS: u8 = 4;
@@ -115,120 +114,45 @@ pub fn serve<N: HeldNode + Send + Drop, K: FrameKeys + Sync + Drop, R>(
 where
     R: Net<Listener = TcpListener, Stream = TcpStream> + Threads + Wait + Clock + Sync,
 {
+    let served = Served { node, seats, keys };
     let (inbox, passes) = Inbox::new(alloc, PASSES)?;
-    let mut queues = job_queues(alloc, &inbox, passes)?;
+    let queues = job_queues(alloc, &inbox, passes)?;
+    serve_queues(rt, alloc, served, queues, site)
+}
+
+/// Serves a node whose threads put jobs and take them by these queues.
+fn serve_queues<N: HeldNode + Send + Drop, K: FrameKeys + Sync + Drop, R>(
+    rt: &R,
+    alloc: Global,
+    served: Served<N, K>,
+    mut queues: Vec<JobQueue<'_>>,
+    site: Site,
+) -> Result<(), ServerFault>
+where
+    R: Net<Listener = TcpListener, Stream = TcpStream> + Threads + Wait + Clock + Sync,
+{
     let queue = queues.pop().ok_or(ServerFault::Memory)?;
-    let outboxes = outboxes(alloc, &keys, &site.addresses)?;
     let (poll, waker) = poll_of(rt).map_err(fault_of)?;
-    let server = server_of(rt, alloc, node, seats, keys, queues, outboxes, waker, &site)?;
+    let server = server_of(rt, alloc, served, queues, waker, &site)?;
     let peers = Peers::new(&server, queue, site.limits)?;
     let listeners = (site.peers, site.clients);
-    run(Ports::new(&server, poll, listeners, peers).map_err(fault_of)?)?;
-    if server.crew.lock(rt).failed {
+    serve_ports(Ports::new(&server, poll, listeners, peers).map_err(fault_of)?)
+}
+
+/// Serves at these ports until the node ends.
+fn serve_ports<N: HeldNode + Send, K: FrameKeys + Sync, R>(
+    ports: Ports<'_, '_, N, K, R>,
+) -> Result<(), ServerFault>
+where
+    R: Net<Listener = TcpListener, Stream = TcpStream> + Threads + Wait + Clock + Sync,
+{
+    let server = ports.server;
+    run(ports)?;
+    if server.crew.lock(server.rt).failed {
         Err(ServerFault::Device)
     } else {
         Ok(())
     }
-}
-
-/// An empty outbox for each other node, by its address.
-fn outboxes<K: FrameKeys>(
-    alloc: Global,
-    keys: &K,
-    addresses: &[SocketAddr],
-) -> Result<Vec<Outbox>, AllocError> {
-    let sizes = keys.sizes();
-    let mut made = Vec::new(alloc);
-    for (index, address) in (0..sizes.n()).zip(addresses) {
-        if let Some(name) = sizes.name(index) {
-            if name != keys.me() {
-                made.push(Outbox::new(alloc, name, *address))?;
-            }
-        }
-    }
-    Ok(made)
-}
-
-/// What the threads share, before the first of them begins.
-///
-/// # Errors
-///
-/// Want of memory, and where there are fewer queues or seats.
-fn server_of<'a, N: HeldNode + Drop, K: FrameKeys + Drop, R: Clock>(
-    rt: &'a R,
-    alloc: Global,
-    node: N,
-    mut seats: Vec<Seat<N::Ledger>>,
-    keys: K,
-    mut queues: Vec<JobQueue<'a>>,
-    outboxes: Vec<Outbox>,
-    waker: Waker,
-    site: &Site,
-) -> Result<Server<'a, N, K, R>, AllocError> {
-    let view_seat = seats.pop().ok_or(AllocError)?;
-    let mut slots = Vec::new(alloc);
-    for _ in 0..MOST_CLIENTS {
-        slots.push(Slot::new(alloc, queues.pop().ok_or(AllocError)?)?)?;
-    }
-    let (most, now) = (most_batch::<N>(), millis(rt));
-    let front = Front::new(alloc, keys.sizes(), keys.me(), most, now)?;
-    let places = site.limits.places(keys.sizes().n(), keys.me().index());
-    let crew = crew_of(alloc, seats, queues, front, keys.sizes().n(), places)?;
-    let heard = Heard::new(alloc, keys.sizes().n())?;
-    Ok(Server {
-        rt,
-        alloc,
-        node: Mutex::new(node),
-        turns: TicketLock::new(),
-        view_seat: Mutex::new(view_seat),
-        listing: Mutex::new(()),
-        keys,
-        crew: Mutex::new(crew),
-        left: Condvar::new(),
-        outboxes,
-        slots,
-        waker,
-        idle: site.idle,
-        operators: site.operators,
-        syncs: Mutex::new(SyncTally::new()),
-        heard: Mutex::new(heard),
-    })
-}
-
-/// An idle worker for each seat, with a queue of its own, and what comes before these, beside so many connections of
-/// peers.
-///
-/// # Errors
-///
-/// Want of memory, and where there are fewer queues.
-fn crew_of<'a, N: HeldNode>(
-    alloc: Global,
-    seats: Vec<Seat<N::Ledger>>,
-    mut queues: Vec<JobQueue<'a>>,
-    front: Front<N::Untold>,
-    nodes: u8,
-    places: usize,
-) -> Result<Crew<'a, N>, AllocError> {
-    let mut idle = Vec::new(alloc);
-    for seat in seats {
-        let queue = queues.pop().ok_or(AllocError)?;
-        idle.push(Worker::new(alloc, queue, seat, nodes)?)?;
-    }
-    let nothing = Credit {
-        connection: 0,
-        news: News::Nothing,
-    };
-    Ok(Crew {
-        idle,
-        front: Some(front),
-        jobs: false,
-        connected: Vec::with_capacity(alloc, usize::from(nodes))?,
-        credits: Vec::from_elem(alloc, nothing, places)?,
-        has_credit: false,
-        alarm: Alarm::new(),
-        failed: false,
-        ended: false,
-    })
 }
 
 /// Serves in this thread, which is that of the ports, and those that it starts, until the node ends.

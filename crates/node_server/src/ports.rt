@@ -35,7 +35,7 @@ const LONGEST_WAIT: u64 = 5_000;
 /// The milliseconds after which it looks again at the connections to peers.
 const NEXT_LOOK: u64 = 1_000;
 
-/// How many connections of each port are taken in a turn. With fewer, who floods the port fills its queue.
+/// How many connections of each port are taken in a turn at most. With fewer, who floods the port fills its queue.
 const MOST_NEWCOMERS: usize = 32;
 
 /// The milliseconds until a listener is asked again that has failed.
@@ -88,6 +88,13 @@ fn port_of(poll: &Poll, listener: TcpListener, number: usize) -> io::Result<Port
     })
 }
 
+/// The ports of these listeners, for peers and for clients.
+fn ports_of(poll: &Poll, listeners: (TcpListener, TcpListener)) -> io::Result<(Port, Port)> {
+    let (peers, clients) = listeners;
+    let peer_port = port_of(poll, peers, PEER_PORT)?;
+    Ok((peer_port, port_of(poll, clients, CLIENT_PORT)?))
+}
+
 /// The two ports, the connections of peers and those to them.
 #[derive(Drop)]
 pub struct Ports<'a, 'b, N: HeldNode, K: FrameKeys, R> {
@@ -129,14 +136,14 @@ impl<'a, 'b, N: HeldNode, K: FrameKeys, R: Net + Wait + Clock> Ports<'a, 'b, N, 
         listeners: (TcpListener, TcpListener),
         peers: Peers<'a, 'b, N, K, R>,
     ) -> io::Result<Ports<'a, 'b, N, K, R>> {
+        let (peer_port, client_port) = ports_of(&poll, listeners)?;
         let Ok(events) = Events::with_capacity(server.alloc, MOST_EVENTS) else {
             return Err(io::Error::from(ErrorKind::OutOfMemory));
         };
-        let (peer_port, client_port) = listeners;
         Ok(Ports {
             server,
-            peer_port: port_of(&poll, peer_port, PEER_PORT)?,
-            client_port: port_of(&poll, client_port, CLIENT_PORT)?,
+            peer_port,
+            client_port,
             poll,
             events,
             peers,
@@ -154,7 +161,7 @@ impl<'a, 'b, N: HeldNode, K: FrameKeys, R: Net + Wait + Clock> Ports<'a, 'b, N, 
         let now = millis(server.rt);
         let wait = server.wait_until_due(now, self.wait_until(now));
         let time = Duration::from_millis(wait);
-        let polled = self.poll.poll(&mut self.events, Some(time));
+        let has_polled = self.poll.poll(&mut self.events, Some(time)).is_ok();
         if server.has_ended() {
             return false;
         }
@@ -167,7 +174,7 @@ impl<'a, 'b, N: HeldNode, K: FrameKeys, R: Net + Wait + Clock> Ports<'a, 'b, N, 
         }
         self.take_peers(now);
         self.take_clients(now);
-        if polled.is_err() {
+        if !has_polled {
             server.fail();
         }
         true
@@ -223,9 +230,10 @@ impl<'a, 'b, N: HeldNode, K: FrameKeys, R: Net + Wait + Clock> Ports<'a, 'b, N, 
         }
     }
 
-    /// Takes the connections of peers that have come.
+    /// Takes the connections of peers that have come, no more in a turn than there are places for newcomers: so what
+    /// has come of each is read before it may give way to another.
     fn take_peers(&mut self, now: u64) {
-        for _ in 0..MOST_NEWCOMERS {
+        for _ in 0..self.peers.connections.most_newcomers.min(MOST_NEWCOMERS) {
             let Some(stream) = self.peer_port.accept(now) else {
                 return;
             };

@@ -3,7 +3,7 @@
 ghost use Rattle.std.specs.Prelude.{◌≤◌};
 ghost use Rattle.peer_windows.specs.Pauses.{most_time};
 
-use crate::crew::Noted;
+use crate::credits::Noted;
 use crate::server::Server;
 use frame_queues::{Caller, FrameKeys};
 use link_frames::{Frame, Message, Packet};
@@ -24,12 +24,32 @@ pub struct Worker<'a, N: HeldNode> {
     /// Jobs that are released now, and those that are.
     untold: Vec<Done<N::Untold>>,
     told: Vec<Done<Said>>,
-    messages: Vec<Message>,
-    /// What goes to single peers.
-    owed: Owed,
-    frames: Vec<Frame>,
+    sending: Sending,
     /// Of which connections of peers a packet has counted, and of which one found no memory.
     pub heard: Vec<Noted>,
+}
+
+/// What a batch of jobs has the node send: messages to all, what goes to single peers, and room for the frames.
+#[derive(Drop)]
+struct Sending {
+    messages: Vec<Message>,
+    owed: Owed,
+    frames: Vec<Frame>,
+}
+
+impl Sending {
+    /// Nothing, with room for so many messages, in a cluster of so many nodes.
+    ///
+    /// # Errors
+    ///
+    /// Only for want of memory.
+    fn new(alloc: Global, most: usize, nodes: u8) -> Result<Sending, AllocError> {
+        Ok(Sending {
+            messages: Vec::with_capacity(alloc, most)?,
+            owed: Owed::new(alloc, nodes)?,
+            frames: Vec::with_capacity(alloc, most)?,
+        })
+    }
 }
 
 impl<'a, N: HeldNode> Worker<'a, N> {
@@ -50,9 +70,7 @@ impl<'a, N: HeldNode> Worker<'a, N> {
             seat,
             untold: Vec::with_capacity(alloc, most)?,
             told: Vec::with_capacity(alloc, most)?,
-            messages: Vec::with_capacity(alloc, most)?,
-            owed: Owed::new(alloc, nodes)?,
-            frames: Vec::with_capacity(alloc, most)?,
+            sending: Sending::new(alloc, most, nodes)?,
             heard: Vec::with_capacity(alloc, most)?,
         })
     }
@@ -117,12 +135,17 @@ impl<'a, N: HeldNode> Worker<'a, N> {
         front.tell_by = NEVER;
         for done in self.untold.drain(..) {
             let done = hear(node, &mut self.seat, front, done, now);
-            if let Some(said) = &done.said {
-                if let Some(message) = said.message() {
-                    let _ = self.messages.push(message);
-                }
-            }
+            note_message(&mut self.sending.messages, done.said.as_ref());
             let _ = self.told.push(done);
+        }
+    }
+}
+
+/// Notes the message that what was said has the node send to all, if there is one.
+fn note_message(messages: &mut Vec<Message>, said: Option<&Said>) {
+    if let Some(said) = said {
+        if let Some(message) = said.message() {
+            let _ = messages.push(message);
         }
     }
 }
@@ -147,7 +170,7 @@ impl<'a, N: HeldNode, K: FrameKeys, R: Wait + Clock> Server<'a, N, K, R> {
         let mut node = self.node.lock(self.rt);
         match worker.take(self, &mut *node, front, now, in_turn) {
             Ok(is_left) => {
-                let (seat, owed) = (&mut worker.seat, &mut worker.owed);
+                let (seat, owed) = (&mut worker.seat, &mut worker.sending.owed);
                 // what a fault leaves out is looked at again, or lost, as on any network
                 let _ = front.gather(
                     self.rt,
@@ -171,29 +194,43 @@ impl<'a, N: HeldNode, K: FrameKeys, R: Wait + Clock> Server<'a, N, K, R> {
 
     /// Sends what a worker's calls have the node send, and tells the clients what was said to their lines.
     pub fn send_and_tell(&self, worker: &mut Worker<'a, N>) {
-        let (shares, owed) = (worker.owed.shares(), worker.owed.messages());
-        self.send(&worker.messages, shares, owed, &mut worker.frames);
-        worker.messages.clear();
-        worker.owed.clear();
+        let sending = &mut worker.sending;
+        let (shares, owed) = (sending.owed.shares(), sending.owed.messages());
+        self.send(&sending.messages, shares, owed, &mut sending.frames);
+        sending.messages.clear();
+        sending.owed.clear();
         for done in worker.told.drain(..) {
-            match done.caller {
-                Caller::Client { slot, line } => {
-                    if let Some(slot) = self.slots.get(slot as usize) {
-                        slot.tell(self.rt, line, done.said);
-                    }
+            self.tell(&mut worker.heard, done);
+        }
+    }
+
+    /// Tells a client what was said to its line, and notes what came of a peer's packet.
+    fn tell(&self, heard: &mut Vec<Noted>, done: Done<Said>) {
+        match done.caller {
+            Caller::Client { slot, line } => {
+                if let Some(slot) = self.slots.get(slot as usize) {
+                    slot.tell(self.rt, line, done.said);
                 }
-                Caller::Peer { place, connection } => match done.said {
-                    Some(said) if !said.has_counted() => {}
-                    said => {
-                        let _ = worker.heard.push(Noted {
-                            place,
-                            connection,
-                            has_memory: said.is_some(),
-                        });
-                    }
-                },
-                Caller::Nobody => {}
             }
+            Caller::Peer { place, connection } => {
+                note_packet(heard, place, connection, done.said.as_ref());
+            }
+            Caller::Nobody => {}
+        }
+    }
+}
+
+/// Notes that a packet of a connection has counted, or found no memory.
+fn note_packet(heard: &mut Vec<Noted>, place: u32, connection: u16, said: Option<&Said>) {
+    let has_memory = said.is_some();
+    match said {
+        Some(said) if !said.has_counted() => {}
+        _ => {
+            let _ = heard.push(Noted {
+                place,
+                connection,
+                has_memory,
+            });
         }
     }
 }

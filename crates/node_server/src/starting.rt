@@ -1,0 +1,172 @@
+//! What a server has before the first of its threads begins.
+
+use crate::Site;
+use crate::credits::Credits;
+use crate::crew::Crew;
+use crate::server::Server;
+use crate::workers::Worker;
+use frame_queues::{FrameKeys, Limits, MOST_CLIENTS};
+use mio::Waker;
+use node_lock::Seat;
+use served_node::{Heard, HeldNode, SyncTally, millis};
+use server_locks::{Alarm, Front, JobQueue, Outbox, Slot, TicketLock, most_batch};
+use std::alloc::{AllocError, Global};
+use std::net::SocketAddr;
+use std::sync::{Condvar, Mutex};
+use std::time::Clock;
+
+/// A node, its seats and its keys.
+#[derive(Drop)]
+pub struct Served<N: HeldNode, K> {
+    pub node: N,
+    pub seats: Vec<Seat<N::Ledger>>,
+    pub keys: K,
+}
+
+/// What a server has beside its node and keys that takes memory.
+#[derive(Drop)]
+struct Beside<'a, N: HeldNode> {
+    view_seat: Seat<N::Ledger>,
+    crew: Crew<'a, N>,
+    outboxes: Vec<Outbox>,
+    slots: Vec<Slot<'a>>,
+    heard: Heard,
+}
+
+/// What the threads share, before the first of them begins.
+///
+/// # Errors
+///
+/// Want of memory, and where there are fewer queues or seats.
+pub fn server_of<'a, N: HeldNode + Drop, K: FrameKeys + Drop, R: Clock>(
+    rt: &'a R,
+    alloc: Global,
+    served: Served<N, K>,
+    queues: Vec<JobQueue<'a>>,
+    waker: Waker,
+    site: &Site,
+) -> Result<Server<'a, N, K, R>, AllocError> {
+    let Served { node, seats, keys } = served;
+    let beside = beside_of::<N, K, R>(rt, alloc, seats, queues, &keys, site)?;
+    Ok(Server {
+        rt,
+        alloc,
+        node: Mutex::new(node),
+        turns: TicketLock::new(),
+        view_seat: Mutex::new(beside.view_seat),
+        listing: Mutex::new(()),
+        keys,
+        crew: Mutex::new(beside.crew),
+        left: Condvar::new(),
+        outboxes: beside.outboxes,
+        slots: beside.slots,
+        waker,
+        idle: site.idle,
+        operators: site.operators,
+        syncs: Mutex::new(SyncTally::new()),
+        heard: Mutex::new(beside.heard),
+    })
+}
+
+fn beside_of<'a, N: HeldNode, K: FrameKeys, R: Clock>(
+    rt: &R,
+    alloc: Global,
+    mut seats: Vec<Seat<N::Ledger>>,
+    mut queues: Vec<JobQueue<'a>>,
+    keys: &K,
+    site: &Site,
+) -> Result<Beside<'a, N>, AllocError> {
+    let view_seat = seats.pop().ok_or(AllocError)?;
+    let slots = slots_of(alloc, &mut queues)?;
+    let idle = workers_of(alloc, seats, queues, keys.sizes().n())?;
+    Ok(Beside {
+        view_seat,
+        crew: crew_of(rt, alloc, idle, keys, site.limits)?,
+        outboxes: outboxes_of(alloc, keys, &site.addresses)?,
+        slots,
+        heard: Heard::new(alloc, keys.sizes().n())?,
+    })
+}
+
+/// A free slot for each client, with a queue of its own.
+///
+/// # Errors
+///
+/// Want of memory, and where there are fewer queues.
+fn slots_of<'a>(
+    alloc: Global,
+    queues: &mut Vec<JobQueue<'a>>,
+) -> Result<Vec<Slot<'a>>, AllocError> {
+    let mut slots = Vec::new(alloc);
+    for _ in 0..MOST_CLIENTS {
+        slots.push(Slot::new(alloc, queues.pop().ok_or(AllocError)?)?)?;
+    }
+    Ok(slots)
+}
+
+/// A worker for each seat, with a queue of its own, in a cluster of so many nodes.
+///
+/// # Errors
+///
+/// Want of memory, and where there are fewer queues.
+fn workers_of<'a, N: HeldNode>(
+    alloc: Global,
+    seats: Vec<Seat<N::Ledger>>,
+    mut queues: Vec<JobQueue<'a>>,
+    nodes: u8,
+) -> Result<Vec<Worker<'a, N>>, AllocError> {
+    let mut workers = Vec::new(alloc);
+    for seat in seats {
+        let queue = queues.pop().ok_or(AllocError)?;
+        workers.push(Worker::new(alloc, queue, seat, nodes)?)?;
+    }
+    Ok(workers)
+}
+
+/// Idle workers, and what comes before the jobs that they take, beside so many connections of peers.
+///
+/// # Errors
+///
+/// Only for want of memory.
+fn crew_of<'a, N: HeldNode, K: FrameKeys, R: Clock>(
+    rt: &R,
+    alloc: Global,
+    idle: Vec<Worker<'a, N>>,
+    keys: &K,
+    limits: Limits,
+) -> Result<Crew<'a, N>, AllocError> {
+    let (sizes, me) = (keys.sizes(), keys.me());
+    let front = Front::new(alloc, sizes, me, most_batch::<N>(), millis(rt))?;
+    Ok(Crew {
+        idle,
+        front: Some(front),
+        jobs: false,
+        connected: Vec::with_capacity(alloc, usize::from(sizes.n()))?,
+        credits: Credits::new(alloc, limits.places(sizes.n(), me.index()))?,
+        alarm: Alarm::new(),
+        failed: false,
+        ended: false,
+    })
+}
+
+/// An empty outbox for each other node, by its address.
+///
+/// # Errors
+///
+/// Only for want of memory.
+fn outboxes_of<K: FrameKeys>(
+    alloc: Global,
+    keys: &K,
+    addresses: &[SocketAddr],
+) -> Result<Vec<Outbox>, AllocError> {
+    let sizes = keys.sizes();
+    let mut made = Vec::new(alloc);
+    for (index, address) in (0..sizes.n()).zip(addresses) {
+        if let Some(name) = sizes.name(index) {
+            if name != keys.me() {
+                made.push(Outbox::new(alloc, name, *address))?;
+            }
+        }
+    }
+    Ok(made)
+}
