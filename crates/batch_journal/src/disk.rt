@@ -23,6 +23,8 @@ pub(crate) fn read_all<D: Disk>(alloc: Global, disk: &mut D) -> Result<Vec<u8>, 
     ensures device { result ≡ Err fault.Device → MoreFaults (D.Disk.faults disk.old) (D.Disk.faults disk.new) }
     ensures long { result ≡ Err fault.Unopened → IsTrue (D.Disk.is_clean disk.new) →
         536870912 < length (D.Disk.seen disk.old) }
+    ensures short { result ≡ Err fault.Memory → IsTrue (D.Disk.is_clean disk.new) →
+        length (D.Disk.seen disk.old) ≤ 536870912 }
     ensures faults { OnOk result (D.Disk.faults disk.new ≡ D.Disk.faults disk.old) }
     ensures seen { D.Disk.seen disk.new ≡ D.Disk.seen disk.old }
     ensures clean { IsTrue (D.Disk.is_clean disk.new) → IsTrue (D.Disk.is_clean disk.old) }
