@@ -2,6 +2,7 @@
 --     sent_is_pooled, pooled_is_sent      the pool of a cluster run is what its correct nodes have sent
 --     has_sent_is, is_has_sent, has_sent_stays      a message was sent where its command was, and stays so
 --     history_of-..      a node's history in a run that is put together
+--     fronts_are_runs, front_of_history      the first events of a run are one, and those of a history are one's history
 --     empty_run, cluster_run_push, after_step_runs, after_steps_runs      a world's run is a cluster run, and stays one
 --     pool-length      how many packets the messages of a run are
 --     consistency, integrity, same_policy, at_rest      the laws of every run, or of one at rest
@@ -18,6 +19,7 @@ pub use Rattle.byz_world.proofs.Numbering.{pool-length}
 pub use Rattle.byz_world.proofs.Pushing.{history_of-append, history_of-none, history_of-own, history_of-other}
 pub use Rattle.byz_world.proofs.Pushing.{history_of-push, history_of-push_other, messages-push, messages-none}
 pub use Rattle.byz_world.proofs.Growing.{empty_run, cluster_run_push}
+pub use Rattle.byz_world.proofs.Fronts.{fronts_are_runs, front_of_history}
 pub use Rattle.byz_world.proofs.Stepping.{after_step_runs, after_steps_runs, may_arrive, refused_after}
 pub use Rattle.byz_world.proofs.Safety.{consistency, integrity, ready_for_one, deliver_one}
 pub use Rattle.byz_world.proofs.Safety.{delivered_was_ready, ready_was_issued, delivered_was_issued, streamed}

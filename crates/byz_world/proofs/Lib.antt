@@ -10,6 +10,7 @@ pub mod Numbering
 pub mod Recording
 pub mod Lists
 pub mod Histories
+pub mod Fronts
 pub mod Votes
 pub mod Sound
 pub mod Safety

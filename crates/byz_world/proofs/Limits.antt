@@ -7,7 +7,6 @@ use Rattle.std.proofs.lemmas.Bool.Decides.{nat_tests}
 use Rattle.std.proofs.lemmas.List.{length-take-le}
 use Rattle.std.proofs.lemmas.Option.{slice_get_within}
 use Rattle.quorum_sizes.specs.NodeSets.{Nodes}
-use Rattle.role_commands.proofs.Exported.{filter_map-length}
 use Rattle.bracha_instance.specs.declared.instance.Effect.{Effect}
 use Rattle.bracha_instance.specs.declared.instance.Effect.TheVariants as effect
 use Rattle.role_node.specs.Answers.{outlook_with_room, unless_full, answered, reply_to, is_recorded, IsLegal}
@@ -16,7 +15,8 @@ use Rattle.role_node.specs.declared.event.Event.{Event}
 use Rattle.role_node.specs.declared.event.Reply.{Reply}
 use Rattle.role_node.specs.declared.faults.NodeFault.{NodeFault}
 use Rattle.byz_world.specs.Limits.{with_limit, IsRunUnderLimits, LimitsMayDiffer}
-use Rattle.byz_world.specs.Runs.{Run, event_at, history_of, IsClusterRun}
+use Rattle.byz_world.specs.Runs.{Run, history_of, IsClusterRun}
+use Rattle.byz_world.proofs.Pushing.{history-length}
 
 -- what is recorded is, where there is more room
 recorded_still : (full fuller : Bool) (o : Result Effect NodeFault) (r : Reply) → (full ≡ false → fuller ≡ false) →
@@ -50,10 +50,6 @@ limits_may_differ config liars run limits most h is = record {
   sound = is.sound;
   links = is.links;
 }
-
-history-length : (node : ℕ) (run : Run) → length (history_of node run) ≤ length run
-unfolding history_of
-history-length node run = filter_map-length (event_at node) run
 
 roomy_still : (config : ConfigValue) (limit most me : ℕ) (history : List Event) → length history < most →
     IsLegal (with_limit config limit) me history → IsLegal (with_limit config most) me history

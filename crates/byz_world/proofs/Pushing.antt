@@ -1,10 +1,11 @@
 -- A run with one pair more: its histories, and what was sent in it.
-use Rattle.std.proofs.Common.{◌≡◌, ℕ, false, ◌==◌, [], ◌∷◌, ◌++◌, Some, None}
-use Rattle.std.proofs.Common.{refl, sym, ap, ◌∙◌, append-nil, append_assoc}
+use Rattle.std.proofs.Common.{◌≡◌, ℕ, ◌+◌, ◌≤◌, false, ◌==◌, [], ◌∷◌, ◌++◌, length, Some, None}
+use Rattle.std.proofs.Common.{refl, sym, ap, ◌∙◌, append-nil, append_assoc, length-append, arith}
 use Rattle.std.specs.Prelude.{if◌then◌else◌}
 use Rattle.std.specs.List.{filter_map, cons_option}
 use Rattle.std.proofs.lemmas.List.Elements.{filter_map-append}
 use Rattle.std.proofs.lemmas.Bool.{eq-eqb}
+use Rattle.role_commands.proofs.Exported.{filter_map-length}
 use Rattle.role_node.specs.Configs.{ConfigValue}
 use Rattle.role_node.specs.declared.event.Event.{Event}
 use Rattle.byz_world.specs.Runs.{Run, event_at, history_of}
@@ -45,6 +46,18 @@ history_of-push_other node pair run other =
     history_of-append node run (pair ∷ [])
     ∙ ap (λ es. history_of node run ++ es) (history_of-other node pair [] other ∙ history_of-none node)
     ∙ append-nil (history_of node run)
+
+-- a history is no longer than its run, and grows by no more than that does
+pub history-length : (node : ℕ) (run : Run) → length (history_of node run) ≤ length run
+unfolding history_of
+history-length node run = filter_map-length (event_at node) run
+
+pub prolonged-length : (node : ℕ) (run more : Run) →
+    length (history_of node (run ++ more)) ≤ length (history_of node run) + length more
+prolonged-length node run more =
+    let long : length (history_of node (run ++ more)) ≡ length (history_of node run) + length (history_of node more) =
+    ap length (history_of-append node run more) ∙ length-append (history_of node run) (history_of node more) in
+    omega (arith, long, history-length node more)
 
 messages_after-push : (config : ConfigValue) (past run : Run) (pair : ℕ × Event) →
     messages_after config past (run ++ pair ∷ [])

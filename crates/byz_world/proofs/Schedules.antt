@@ -1,6 +1,6 @@
 -- Schedules of packets of the pool: they end, and where none counts any more the cluster is at rest.
 use Rattle.std.proofs.Common.{◌≡◌, ℕ, ◌⊎◌, inl, inr, ⊎_elim, Bool, true, false, ◌&&◌}
-use Rattle.std.proofs.Common.{◌++◌, Some}
+use Rattle.std.proofs.Common.{◌++◌, Some, arith}
 use Rattle.std.specs.Prelude.{slice_get, Contains}
 use Rattle.std.proofs.lemmas.Bool.{and_parts}
 use Rattle.quorum_sizes.specs.NodeSets.{Nodes}
@@ -12,6 +12,7 @@ use Rattle.byz_world.specs.Runs.{Run, is_correct}
 use Rattle.byz_world.proofs.Elements.{number_of, one_passes}
 use Rattle.byz_world.proofs.GivenOut.{given_out_is_at_rest}
 use Rattle.byz_world.proofs.Prolonging.{prolonged_is_run, prolonging_ends}
+use Rattle.byz_world.proofs.Pushing.{prolonged-length}
 use Rattle.byz_world.proofs.Rest.{at_rest}
 
 -- A packet that counts, or none.
@@ -38,6 +39,9 @@ giving_comes_to_rest config liars run more cluster prolongs =
     record {
       is_run = whole;
       ends = λ places below. prolonging_ends config liars run more places cluster below prolongs;
+      has_room = λ places below room node correct.
+          let few = prolonging_ends config liars run more places cluster below prolongs in
+          omega (arith, room node correct, few, prolonged-length node run more);
       goes_on = λ room.
           ⊎_elim
           (λ (given : IsGivenOut config liars (run ++ more)).

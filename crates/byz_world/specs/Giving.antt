@@ -1,5 +1,5 @@
 -- A cluster in which nothing happens any more but that packets which correct nodes have sent are given.
-use Rattle.std.specs.Prelude.{◌≡◌, ℕ, ◌*◌, ◌<◌, ◌≤◌, ◌⊎◌, ◌↔◌, Bool, false, IsTrue}
+use Rattle.std.specs.Prelude.{◌≡◌, ℕ, ◌+◌, ◌*◌, ◌<◌, ◌≤◌, ◌⊎◌, ◌↔◌, Bool, false, IsTrue}
 use Rattle.std.specs.Prelude.{◌++◌, length, take, slice_get, Contains, Some}
 use Rattle.quorum_sizes.specs.Sizes.{Counts}
 use Rattle.quorum_sizes.specs.NodeSets.{Nodes}
@@ -58,11 +58,15 @@ abbrev pub IsPoolBelow : ConfigValue → Run → ℕ → Type 0
 IsPoolBelow config run places = (p : PacketValue) → Contains (pool config run) p → p.place < places
 
 -- What holds of a run that is prolonged by packets of the pool, in whatever order they are given. It is a run of a
--- cluster, and gets only so much longer, whatever liars did before; and while no history is full, some packet counts
--- until the cluster is at rest, and where none does, all is delivered.
+-- cluster, and gets only so much longer, whatever liars did before, so it fills no history that has room for that; and
+-- while no history is full, some packet counts until the cluster is at rest, and where none does, all is delivered.
 pub record ComesToRest (config : ConfigValue) (liars : Nodes) (run more : Run) : Type 0 where
   pub is_run : IsClusterRun config liars (run ++ more)
   pub ends : (places : ℕ) → IsPoolBelow config run places → length more ≤ most_work config.roles.sizes places
+  pub has_room : (places : ℕ) → IsPoolBelow config run places →
+      ((node : ℕ) → IsCorrect config liars node →
+      length (history_of node run) + most_work config.roles.sizes places < config.limit) →
+      HasRoom config liars (run ++ more)
   pub goes_on : HasRoom config liars (run ++ more) →
       IsAtRest config liars (run ++ more) ⊎ ((p : PacketValue) × IsGivable config liars (run ++ more) p)
   pub settles : HasRoom config liars (run ++ more) → IsGivenOut config liars (run ++ more) →

@@ -1,5 +1,5 @@
 -- The promises of the cluster, about every run of it.
-use Rattle.std.specs.Prelude.{◌≡◌, ℕ, ◌<◌, ◌≤◌, min, IsTrue, slice_get, Contains, ◌↔◌, Option, Some}
+use Rattle.std.specs.Prelude.{◌≡◌, ℕ, ◌<◌, ◌≤◌, min, IsTrue, take, slice_get, Contains, ◌↔◌, Option, Some}
 use Rattle.std.specs.FinSet as sets
 use Rattle.quorum_sizes.specs.Sizes.{amplify_of}
 use Rattle.quorum_sizes.specs.NodeSets.{Nodes}
@@ -26,6 +26,12 @@ readied_by config run node owner place =
 
 abbrev pub delivered_by : ConfigValue → Run → ℕ → ℕ → ℕ → Option Command
 delivered_by config run node owner place = delivered_at config.roles.sizes owner place (packets (history_of node run))
+
+-- The first events of a cluster run, however many, are a cluster run.
+abbrev pub FrontsAreRuns : Type 0
+FrontsAreRuns =
+    (config : ConfigValue) (liars : Nodes) (run : Run) (count : ℕ) → IsClusterRun config liars run →
+    IsClusterRun config liars (take count run)
 
 -- A packet stands in the pool of a cluster run exactly where its sender is a correct node that has sent its message,
 -- and its receiver is a node.

@@ -4,8 +4,8 @@
 ghost use Rattle.byz_world.specs.AfterSteps.{HeadlineOfSteps};
 ghost use Rattle.byz_world.specs.Example.{AnExample};
 ghost use Rattle.byz_world.specs.Headline.{Headline};
-ghost use Rattle.byz_world.specs.Laws.{PoolIsWhatWasSent, PoolIsSound, Consistency, Integrity, SamePolicy, ReadyByAll};
-ghost use Rattle.byz_world.specs.Laws.{DeliveredByAll, IssuedReachesAll, AtRest};
+ghost use Rattle.byz_world.specs.Laws.{FrontsAreRuns, PoolIsWhatWasSent, PoolIsSound, Consistency, Integrity};
+ghost use Rattle.byz_world.specs.Laws.{SamePolicy, ReadyByAll, DeliveredByAll, IssuedReachesAll, AtRest};
 ghost use Rattle.byz_world.specs.Limits.{LimitsMayDiffer};
 ghost use Rattle.byz_world.specs.Progress.{QuietIsComplete, EachOwnerGoesOn, WantedIsRecorded, HistoryIsBounded};
 ghost use Rattle.byz_world.specs.Progress.{WorkIsBounded};
@@ -16,6 +16,11 @@ ghost use Rattle.byz_world.specs.Windows.{VoteShowsReach, WindowsSuffice, IsComp
 /// so that all that is said here holds of it.
 pub fn limits_may_differ()
     ensures { LimitsMayDiffer }
+{}
+
+/// The first events of a run of a cluster, however many, are one, so that all that is said here held at each moment.
+pub fn fronts_are_runs()
+    ensures { FrontsAreRuns }
 {}
 
 /// The packets that stand in the pool are those of the messages that correct nodes have sent, one to each node.
