@@ -6,7 +6,7 @@ use Rattle.role_node.proofs.node.Node.record.Goals as goal
 
 pub invariant_of-self : goal.invariant_of-self
 invariant_of-self c =
-    inside_stays c.self.invariant refl refl c.try_reserve.ensures.items (λ roles history h. h)
+    inside_stays c.self.invariant refl refl c.try_reserve.ensures.items refl (λ roles history h. h)
 
 pub returns-in_err-try_reserve-clause-legal : goal.returns-in_err-try_reserve-clause-legal
 returns-in_err-try_reserve-clause-legal c =
@@ -29,7 +29,7 @@ answer-requires-clause-counts c =
 
 pub invariant_of-self-in_err-entry : goal.invariant_of-self-in_err-entry
 invariant_of-self-in_err-entry c =
-    inside_stays c.self.invariant refl refl c.try_reserve.ensures.items c.in_err-entry.ensures.err
+    inside_stays c.self.invariant refl refl c.try_reserve.ensures.items refl c.in_err-entry.ensures.err
 
 pub returns-in_err-entry-clause-legal : goal.returns-in_err-entry-clause-legal
 returns-in_err-entry-clause-legal c =
