@@ -204,7 +204,7 @@ prefix_by (x ∷ xs) (y ∷ ys) h =
     let first : Some y ≡ Some x = h 0 x refl in
     let same : y ≡ x = cc in
     let rest = prefix_by xs ys (λ k c e. h (suc k) c e) in
-    (rest.0, λ i. same (~ i) ∷ rest.1 i)
+    (rest.0, λ i. (sym same) i ∷ rest.1 i)
 
 within : (xs : List Command) (k : ℕ) (c : Command) → slice_get xs k ≡ Some c → k < length xs
 within [] k c e = absurd cc
@@ -289,8 +289,8 @@ begun_twice_is_seen s me history = record {
   seen = (
     (λ e.
     let found = begun_found s me history e in
-    (found.0, found.1, λ front. clash _ (is_as_issued-from s me (take found.0 history) front) found.2)),
-    (λ at. by at.0 at.1 at.2 (is_as_issued s me (take at.0 history)) refl),
+    (found.0, (found.1, λ front. clash _ (is_as_issued-from s me (take found.0 history) front) found.2))),
+    (λ at. by at.0 at.1.0 at.1.1 (is_as_issued s me (take at.0 history)) refl),
   );
   stays = λ more e. begun_stays s me history more e;
 }
