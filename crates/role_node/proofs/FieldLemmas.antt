@@ -28,8 +28,22 @@ use Rattle.role_node.specs.declared.faults.NodeFault.TheVariants as fault
 use Rattle.role_node.specs.declared.node.Node.TheInside.{Inside}
 use Rattle.role_node.specs.declared.state.State.{State}
 use Rattle.role_node.proofs.HistoryLemmas.{client_events-length}
-use Rattle.role_node.proofs.EntryLemmas.{entries_push, events-push, events-length}
+use Rattle.role_node.proofs.EntryLemmas.{no_entries, entries_push, events-push, events-length}
 use Rattle.role_node.proofs.EntryLemmas.{counted_is_due, counted_is_recorded, counted_with_room}
+
+-- a node that has recorded nothing
+pub inside_begins : {a : Inside} → a.me < a.config.roles.sizes.nodes → a.config.limit ≤ most_events →
+    a.entries.items ≡ [] → IsStateAfter a.config.roles [] a.state → IsNotedOf a.config.roles.sizes a.me [] a.noted →
+    IsNode a
+inside_begins {a = a} me limit none state noted =
+    record {
+      me = me;
+      limit = limit;
+      within = rw none (omega arith);
+      entries = rw none (no_entries a.config a.me);
+      state = rw none state;
+      noted = rw none noted;
+    }
 
 -- room that was made changes nothing of this
 pub inside_stays : {a b : Inside} → IsNode a → b.config ≡ a.config → b.me ≡ a.me → b.entries.items ≡ a.entries.items

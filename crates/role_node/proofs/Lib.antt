@@ -8,6 +8,7 @@ pub mod RefusalLemmas
 pub mod FieldLemmas
 pub mod LegalLemmas
 pub mod BegunLemmas
+pub mod NotingLemmas
 pub mod WorkLemmas
 pub mod AscendingLemmas
 pub mod PackedLemmas

@@ -1,7 +1,8 @@
-use Rattle.std.proofs.Common.{[], ◌∷◌, ◌++◌, refl, ◌∙◌}
+use Rattle.std.proofs.Common.{[], ◌∷◌, ◌++◌, refl, ap, ◌∙◌}
 use Rattle.role_node.specs.inside.Kept.{events}
 use Rattle.role_node.proofs.EntryLemmas.{legal, counted_with_room}
 use Rattle.role_node.proofs.FieldLemmas.{inside_stays, inside_grows, counts_inside, in_range, events_are_few}
+use Rattle.role_node.proofs.FieldLemmas.{acts_are_few}
 use Rattle.role_node.proofs.node.Node.record.Goals as goal
 
 pub invariant_of-self : goal.invariant_of-self
@@ -40,9 +41,17 @@ invariant_of-self-2 c =
     let counts = counts_inside c.self.inside c.args.self.now c.args.event.now c.self.view_is c.requires in
     let pushed = c.push_reserved.ensures.items
     ∙ (λ i. c.try_reserve.ensures.items i ++ c.in_ok-entry.entry ∷ []) in
+    let a = c.self.inside in
+    let history = events a.entries.items in
+    let state = c.in_ok-entry.ensures.ok a.config.roles history c.self.invariant.state in
+    let entry = c.in_ok-entry.ensures.entry a.config.roles history c.self.invariant.state in
     inside_grows c.args.event.now c.self.invariant refl refl pushed
     c.in_ok-entry.ensures.ok counts c.in_ok-entry.ensures.entry
+    (c.note.ensures a.config.roles history c.self.invariant.noted state (ap (λ e. e.reply) entry))
 
 pub returns-clause-legal : goal.returns-clause-legal
 returns-clause-legal c =
     legal c.self.inside.config c.self.inside.me c.push_reserved.new.self.items (invariant_of-self-2 c).entries
+
+pub note-requires-clause-few : goal.note-requires-clause-few
+note-requires-clause-few c = acts_are_few c.self.inside c.self.invariant
