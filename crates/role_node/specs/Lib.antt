@@ -5,6 +5,8 @@ pub mod Access
 pub mod Answers
 pub mod Nodes
 pub mod Words
+pub mod Begun
+pub mod Work
 pub mod Windows
 pub mod Questions
 pub mod Listed
