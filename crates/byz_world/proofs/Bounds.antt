@@ -12,10 +12,10 @@ use Rattle.owner_streams.specs.Places.{take_of, takes_at}
 use Rattle.role_node.proofs.Exported.{packets-Take}
 use Rattle.role_node.specs.Configs.{ConfigValue}
 use Rattle.role_node.specs.Histories.{packets}
+use Rattle.role_node.specs.Work.{most_at_place}
 use Rattle.role_node.specs.declared.event.Event.{Event}
 use Rattle.role_node.specs.declared.event.Event.TheVariants as event
 use Rattle.byz_world.specs.Progress.{is_about}
-use Rattle.byz_world.specs.Progress.{most_at_place}
 use Rattle.byz_world.specs.Runs.{Run, history_of, IsClusterRun}
 use Rattle.byz_world.proofs.Histories.{taken_by}
 use Rattle.byz_world.proofs.Prolonging.{total, total_most, total_keeps, total_more, longer}

@@ -2,12 +2,12 @@
 --     sent_is_pooled, pooled_is_sent      the pool of a cluster run is what its correct nodes have sent
 --     has_sent_is, is_has_sent, has_sent_stays      a message was sent where its command was, and stays so
 --     history_of-..      a node's history in a run that is put together
---     fronts_are_runs, front_of_history      the first events of a run are one, and those of a history are one's history
+--     fronts_are_runs, front_of_history      the first events of a run are one, and of a history its history there
 --     empty_run, cluster_run_push, after_step_runs, after_steps_runs      a world's run is a cluster run, and stays one
 --     pool-length      how many packets the messages of a run are
 --     consistency, integrity, same_policy, at_rest      the laws of every run, or of one at rest
 --     quiet_is_complete, each_owner_goes_on, wanted_is_recorded      how each owner's stream goes on
---     history_is_bounded, work_is_bounded      how much can be recorded
+--     history_is_bounded, work_is_bounded, taken_are_sound      how much can be recorded, and of what
 --     vote_shows_reach, windows_suffice, complete_or_lacked, windows_heal      how windows heal a cluster
 --     given_out_is_at_rest, giving_comes_to_rest      the laws of runs that go on by packets of the pool alone
 --     settled_prolongs, settled_is, settled-config      a world that has settled
@@ -28,6 +28,7 @@ pub use Rattle.byz_world.proofs.Rest.{ready_by_all, delivered_by_all, issued_rea
 pub use Rattle.byz_world.proofs.Quiet.{quiet_is_complete}
 pub use Rattle.byz_world.proofs.GoesOn.{each_owner_goes_on}
 pub use Rattle.byz_world.proofs.Wanted.{wanted_is_recorded}
+pub use Rattle.byz_world.proofs.Work.{taken_are_sound}
 pub use Rattle.byz_world.proofs.LongHistories.{history_is_bounded}
 pub use Rattle.byz_world.proofs.Prolonging.{work_is_bounded}
 pub use Rattle.byz_world.proofs.Voted.{vote_shows_reach}

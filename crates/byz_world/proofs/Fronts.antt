@@ -71,6 +71,9 @@ front_by node k pair run false other fronts =
 
 pub front_of_history : (node : ℕ) (run : Run) (k : ℕ) → IsFrontAt node run (take k (history_of node run))
 front_of_history node run zero = record { count = 0; is = sym (history_of-none node) }
-front_of_history node [] (suc k) = record { count = 0; is = ap (take (suc k)) (history_of-none node) ∙ sym (history_of-none node) }
+front_of_history node [] (suc k) = record {
+  count = 0;
+  is = ap (take (suc k)) (history_of-none node) ∙ sym (history_of-none node);
+}
 front_of_history node (pair ∷ run) (suc k) =
     front_by node k pair run (pair.0 == node) refl (λ j. front_of_history node run j)

@@ -11,14 +11,15 @@ use Rattle.role_node.specs.Configs.{ConfigValue}
 use Rattle.role_node.specs.Histories.{packets}
 use Rattle.role_node.specs.Windows.{last_vote_at, window_from, window_to, IsInWindow}
 use Rattle.role_node.specs.declared.event.Event.TheVariants as event
-use Rattle.byz_world.specs.Progress.{IsWanted, IsComplete, is_about, most_at_place}
+use Rattle.role_node.specs.Work.{most_at_place}
+use Rattle.byz_world.specs.Progress.{IsWanted, IsComplete, is_about}
 use Rattle.byz_world.specs.Runs.{Run, history_of, IsClusterRun}
 use Rattle.byz_world.specs.Windows.{IsLacked, IsHealed, IsHealing, IsCompleteOrLacked, WindowsHeal}
 use Rattle.byz_world.proofs.Bounds.{about_is_bounded}
+use Rattle.byz_world.proofs.Histories.{taken_in_run}
 use Rattle.byz_world.proofs.GivenOut.{wanted_is_new}
 use Rattle.byz_world.proofs.Pushing.{history_of-append}
 use Rattle.byz_world.proofs.Quiet.{packets-append, wanted_of}
-use Rattle.byz_world.proofs.Voted.{taken_in_run}
 use Rattle.byz_world.proofs.Windows.{windows_suffice}
 
 abbrev in_window : Option ℕ → ℕ → Bool

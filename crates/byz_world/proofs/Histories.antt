@@ -2,6 +2,7 @@
 use Rattle.std.proofs.Common.{◌≡◌, ℕ, ◌<◌, Bool, true, false, ◌==◌, ◌&&◌, if◌then◌else◌, List, [], ◌∷◌, take, slice_get}
 use Rattle.std.proofs.Common.{Some, None, Result, Err, refl, sym, ap, ◌∙◌, subst, eqb-true, ltb-true, take_all, le_refl}
 use Rattle.std.proofs.Common.{length}
+use Rattle.std.specs.Prelude.{Contains}
 use Rattle.std.specs.List.{filter_map}
 use Rattle.std.proofs.lemmas.Bool.{and_parts, and_from, eq-eqb}
 use Rattle.std.proofs.lemmas.Option.{cond_some}
@@ -18,6 +19,7 @@ use Rattle.role_node.specs.declared.event.Reply.{Reply}
 use Rattle.role_node.specs.declared.faults.NodeFault.{NodeFault}
 use Rattle.role_node.specs.declared.faults.NodeFault.TheVariants as fault
 use Rattle.byz_world.specs.Runs.{Run, event_at, history_of}
+use Rattle.byz_world.proofs.Elements.{number_of}
 use Rattle.byz_world.proofs.Lists.{IsIn, IsPicked, picked_from, IsFront, in_front}
 use Rattle.byz_world.proofs.Lists.{front_taken, front_picked, slice_get-taken}
 
@@ -121,6 +123,27 @@ some_taken run node owner place some =
     let in_whole : IsIn (taken_by (take (length run) run) node owner place) one.0 =
     subst (λ ts. IsIn ts one.0) (sym (taken_whole run node owner place)) one.1 in
     (one.0, taken_in (length run) run node owner place one.0 in_whole)
+
+-- where the run has a packet that a node took
+pub taken_event : (run : Run) (node : ℕ) (p : PacketValue) → Contains (packets (history_of node run)) p →
+    IsIn (history_of node run) (event.Take p)
+unfolding packets
+taken_event run node p taken =
+    let found = number_of (packets (history_of node run)) p taken in
+    let from : IsPicked packet_in (history_of node run) p =
+    picked_from packet_in (history_of node run) p found.0 found.1 in
+    (from.1.0, from.1.1 ∙ ap Some (packet_of_event from.0 p from.2))
+
+pub taken_in_run : (run : Run) (node : ℕ) (p : PacketValue) → Contains (packets (history_of node run)) p →
+    (at : ℕ) × (at < length run) × (slice_get run at ≡ Some (node, event.Take p))
+taken_in_run run node p taken =
+    let there = taken_event run node p taken in
+    let whole : take (length run) run ≡ run = take_all (length run) run (le_refl _) in
+    pair_in (length run) run node (event.Take p) (
+      there.0,
+      ap (λ r. slice_get (history_of node r) there.0) whole
+          ∙ there.1,
+    )
 
 -- A packet that was recorded is between nodes.
 

@@ -106,7 +106,7 @@ open_by true true place end step e = absurd cc
 open_by true false place end step e = (refl, refl)
 
 -- a packet that was recorded was open then
-pub was_open : (config : ConfigValue) (me : ℕ) (history : List Event) (p : PacketValue) →
+was_open : (config : ConfigValue) (me : ℕ) (history : List Event) (p : PacketValue) →
     is_recorded (answer_due config me history (event.Take p)) ≡ true → IsOpen config.roles.sizes me (packets history) p
 unfolding step_due
 was_open config me history p recorded =

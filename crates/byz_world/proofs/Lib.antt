@@ -14,7 +14,9 @@ pub mod Fronts
 pub mod Votes
 pub mod Sound
 pub mod Safety
+pub mod Begun
 pub mod Policy
+pub mod Deciding
 pub mod Counts
 pub mod Rest
 pub mod Computed

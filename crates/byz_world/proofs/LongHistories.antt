@@ -7,10 +7,10 @@ use Rattle.link_frames.specs.frames.Packets.{PacketValue}
 use Rattle.owner_streams.proofs.Exported.{takes_at-own, takes_at-append}
 use Rattle.owner_streams.specs.Places.{take_of, takes_at}
 use Rattle.role_node.specs.Histories.{packet_in, packets, issued, client_events}
+use Rattle.role_node.specs.Work.{most_at_place}
 use Rattle.role_node.specs.declared.event.Event.{Event}
 use Rattle.role_node.specs.declared.event.Event.TheVariants as event
 use Rattle.byz_world.specs.Progress.{HistoryIsBounded}
-use Rattle.byz_world.specs.Progress.{most_at_place}
 use Rattle.byz_world.specs.Runs.{history_of}
 use Rattle.byz_world.proofs.Elements.{contained}
 use Rattle.byz_world.proofs.Histories.{packet_of_event, routed}

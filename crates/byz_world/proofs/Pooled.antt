@@ -131,7 +131,7 @@ said_is_sent config past (pair ∷ run) node m legal now =
     (node, m)). inr (Contains-append_right _ (messages_after config step run) (node, m) later))
     (said_is_sent config step run node m (subst P split legal) (subst Q split now))
 
-pub nothing_taken : (owner place : ℕ) → takes_at owner place [] ≡ []
+nothing_taken : (owner place : ℕ) → takes_at owner place [] ≡ []
 unfolding takes_at
 nothing_taken owner place = refl
 

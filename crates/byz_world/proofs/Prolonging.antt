@@ -21,13 +21,13 @@ use Rattle.role_node.proofs.Exported.{packets-Take}
 use Rattle.role_node.specs.Answers.{outlook, answered, answer_due, reply_to, said_at, sent_by_answer}
 use Rattle.role_node.specs.Configs.{ConfigValue}
 use Rattle.role_node.specs.Histories.{packets}
+use Rattle.role_node.specs.Work.{most_at_place}
 use Rattle.role_node.specs.declared.event.Event.{Event}
 use Rattle.role_node.specs.declared.event.Event.TheVariants as event
 use Rattle.role_node.specs.declared.faults.NodeFault.{NodeFault}
 use Rattle.std.specs.Prelude.{Result, Ok, Err}
 use Rattle.byz_world.specs.Runs.{reach_of}
 use Rattle.byz_world.specs.Pools.{Sent, sends_next, listed, messages, packets_of, pool}
-use Rattle.byz_world.specs.Progress.{most_at_place}
 use Rattle.byz_world.specs.Giving.{IsGivable, IsProlongation, IsPoolBelow, most_work}
 use Rattle.byz_world.specs.Progress.{WorkIsBounded}
 use Rattle.byz_world.specs.Runs.{Run, history_of, has_sent, IsClusterRun}

@@ -166,7 +166,7 @@ sends_ready e r c h k = λ i. sent_for (h i) (k i)
 
 -- The message of a packet's own instance.
 
-pub own_instance : (a b c d : ℕ) → ((a == b) && (c == d)) ≡ true → (b ≡ a) × (d ≡ c)
+own_instance : (a b c d : ℕ) → ((a == b) && (c == d)) ≡ true → (b ≡ a) × (d ≡ c)
 own_instance a b c d e =
     let both = and_parts _ _ e in
     (sym (exact_unsigned_eq a b both.0), sym (exact_unsigned_eq c d both.1))

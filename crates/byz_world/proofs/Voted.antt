@@ -10,39 +10,16 @@ use Rattle.owner_streams.proofs.Exported.{is_vote, last_vote-stands, last_vote-m
 use Rattle.owner_streams.specs.LastVotes.{vote_place}
 use Rattle.owner_streams.specs.Places.{window}
 use Rattle.role_node.specs.Configs.{ConfigValue}
-use Rattle.role_node.specs.Histories.{packet_in, packets}
+use Rattle.role_node.specs.Histories.{packets}
 use Rattle.role_node.specs.Windows.{last_vote_at, voted_to}
 use Rattle.role_node.specs.declared.event.Event.TheVariants as event
 use Rattle.byz_world.specs.Runs.{Run, history_of, reach_of, is_correct, IsClusterRun}
 use Rattle.byz_world.specs.Windows.{VoteShowsReach}
-use Rattle.byz_world.proofs.Elements.{number_of}
-use Rattle.byz_world.proofs.Histories.{packet_of_event, pair_in}
+use Rattle.byz_world.proofs.Histories.{taken_event, taken_in_run}
 use Rattle.byz_world.proofs.Idle.{taken_is_open}
-use Rattle.byz_world.proofs.Lists.{IsIn, IsPicked, picked_from}
 use Rattle.byz_world.proofs.Pooled.{has_sent_is}
 use Rattle.byz_world.proofs.Progress.{sent_within}
 use Rattle.byz_world.proofs.Votes.{said_by, said_stays}
-
--- where the run has a packet that a node took
-taken_event : (run : Run) (node : ℕ) (p : PacketValue) → Contains (packets (history_of node run)) p →
-    IsIn (history_of node run) (event.Take p)
-unfolding packets
-taken_event run node p taken =
-    let found = number_of (packets (history_of node run)) p taken in
-    let from : IsPicked packet_in (history_of node run) p =
-    picked_from packet_in (history_of node run) p found.0 found.1 in
-    (from.1.0, from.1.1 ∙ ap Some (packet_of_event from.0 p from.2))
-
-pub taken_in_run : (run : Run) (node : ℕ) (p : PacketValue) → Contains (packets (history_of node run)) p →
-    (at : ℕ) × (at < length run) × (slice_get run at ≡ Some (node, event.Take p))
-taken_in_run run node p taken =
-    let there = taken_event run node p taken in
-    let whole : take (length run) run ≡ run = take_all (length run) run (le_refl _) in
-    pair_in (length run) run node (event.Take p) (
-      there.0,
-      ap (λ r. slice_get (history_of node r) there.0) whole
-          ∙ there.1,
-    )
 
 -- all places to which there is a vote are below this one
 voted_below : (last : Option ℕ) (end : ℕ) → ((place : ℕ) → last ≡ Some place → place < end) → voted_to last ≤ end

@@ -6,11 +6,11 @@ use Rattle.quorum_sizes.specs.NodeSets.{Nodes}
 use Rattle.link_frames.specs.frames.Packets.{PacketValue}
 use Rattle.role_node.specs.Answers.{answer_due, is_recorded}
 use Rattle.role_node.specs.Configs.{ConfigValue}
+use Rattle.role_node.specs.Work.{most_at_place}
 use Rattle.role_node.specs.declared.event.Event.{Event}
 use Rattle.role_node.specs.declared.event.Event.TheVariants.{Take}
 use Rattle.byz_world.specs.Laws.{HasSettled}
 use Rattle.byz_world.specs.Pools.{pool}
-use Rattle.byz_world.specs.Progress.{most_at_place}
 use Rattle.byz_world.specs.Resting.{IsAtRest}
 use Rattle.byz_world.specs.Runs.{Run, history_of, IsCorrect, IsClusterRun}
 

@@ -3,14 +3,16 @@ use Rattle.std.specs.Prelude.{◌≡◌, ℕ, ◌<◌, ◌≤◌, min, IsTrue, t
 use Rattle.std.specs.FinSet as sets
 use Rattle.quorum_sizes.specs.Sizes.{amplify_of}
 use Rattle.quorum_sizes.specs.NodeSets.{Nodes}
+use Rattle.role_commands.specs.Tables.{roles_of_owner}
 use Rattle.role_commands.specs.declared.command.Command.{Command}
 use Rattle.bracha_instance.specs.Broadcast.{echoed, readied}
 use Rattle.owner_streams.specs.Laws.{IsPrefixOf}
 use Rattle.owner_streams.specs.Places.{takes_at, delivered_at}
 use Rattle.link_frames.specs.frames.Packets.{PacketValue, IsSound}
+use Rattle.role_sessions.specs.declared.verdict.Verdict.{Verdict}
 use Rattle.role_node.specs.Configs.{ConfigValue}
 use Rattle.role_node.specs.Histories.{issued, packets}
-use Rattle.role_node.specs.Access.{relations_at}
+use Rattle.role_node.specs.Access.{relations_at, decided_at}
 use Rattle.byz_world.specs.Runs.{Run, history_of, stream_of, reach_of, IsCorrect, IsClusterRun}
 use Rattle.byz_world.specs.Pools.{pool, WasSent}
 use Rattle.byz_world.specs.Resting.{IsAtRest}
@@ -87,6 +89,29 @@ SamePolicy =
     IsCorrect config liars i → IsCorrect config liars j →
     ((owner : ℕ) → owner < config.roles.sizes.nodes → reach_of config run i owner ≡ reach_of config run j owner) →
     HaveSameRelations config run i j
+
+-- the decision on an access by one owner's word, as the node makes it after the run: in all roles of that owner
+abbrev pub decided_by : ConfigValue → Run → ℕ → ℕ → ℕ → ℕ → ℕ → Verdict
+decided_by config run node owner user operation object =
+    decided_at config.roles (history_of node run) (roles_of_owner config.roles owner) user operation object
+
+-- Correct nodes at which the owner's stream reaches equally far decide alike by its word, however far the streams of
+-- other owners reach.
+abbrev pub SameReachDecidesAlike : Type 0
+SameReachDecidesAlike =
+    (config : ConfigValue) (liars : Nodes) (run : Run) (i j owner user operation object : ℕ) →
+    IsClusterRun config liars run → IsCorrect config liars i → IsCorrect config liars j →
+    reach_of config run i owner ≡ reach_of config run j owner →
+    decided_by config run i owner user operation object ≡ decided_by config run j owner user operation object
+
+-- So they do at two moments of the run: the reach tells all.
+abbrev pub SameReachWheneverAsked : Type 0
+SameReachWheneverAsked =
+    (config : ConfigValue) (liars : Nodes) (run : Run) (i j one other owner user operation object : ℕ) →
+    IsClusterRun config liars run → IsCorrect config liars i → IsCorrect config liars j →
+    reach_of config (take one run) i owner ≡ reach_of config (take other run) j owner →
+    decided_by config (take one run) i owner user operation object
+    ≡ decided_by config (take other run) j owner user operation object
 
 -- Of a cluster at rest, whoever the owner is: a command for which so many correct nodes are ready as amplify asks, each
 -- correct node is ready for.

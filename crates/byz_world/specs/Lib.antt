@@ -8,6 +8,7 @@ pub mod Faults
 pub mod Resting
 pub mod Agreement
 pub mod Laws
+pub mod Begun
 pub mod Limits
 pub mod Progress
 pub mod Windows

@@ -3,7 +3,6 @@
 use Rattle.std.specs.Prelude.{◌≡◌, ℕ, ◌+◌, ◌*◌, ◌<◌, ◌≤◌, ◌==◌, ◌⊎◌, Bool, ◌&&◌, nat_lt, false, [], ◌∷◌, ◌++◌}
 use Rattle.std.specs.Prelude.{length, take, filter, Contains, Ok}
 use Rattle.std.specs.Option.{option_map_or}
-use Rattle.quorum_sizes.specs.Sizes.{Counts}
 use Rattle.quorum_sizes.specs.NodeSets.{Nodes}
 use Rattle.link_frames.specs.frames.Packets.{PacketValue}
 use Rattle.bracha_instance.specs.declared.instance.Effect.TheVariants.{Counted}
@@ -11,6 +10,7 @@ use Rattle.owner_streams.specs.Places.{window, takes_at}
 use Rattle.role_node.specs.Answers.{take_outlook}
 use Rattle.role_node.specs.Configs.{ConfigValue}
 use Rattle.role_node.specs.Histories.{packet_in, packets, issued, client_events}
+use Rattle.role_node.specs.Work.{most_at_place}
 use Rattle.role_node.specs.declared.event.Event.{Event}
 use Rattle.role_node.specs.declared.event.Event.TheVariants.{Take}
 use Rattle.byz_world.specs.Limits.{IsRunUnderLimits}
@@ -41,10 +41,6 @@ abbrev pub QuietIsComplete : Type 0
 QuietIsComplete =
     (config : ConfigValue) (liars : Nodes) (run : Run) (owner places : ℕ) → IsClusterRun config liars run →
     IsQuiet config liars run owner places → IsComplete config liars run owner places
-
--- so many packets about a place can count at a node: a SEND of the owner, and an ECHO and a READY of each node
-abbrev pub most_at_place : Counts → ℕ
-most_at_place s = 2 * s.nodes + 1
 
 -- the event is a packet about the owner's places before this one
 abbrev pub is_about : ℕ → ℕ → ℕ × Event → Bool

@@ -6,8 +6,9 @@ use Rattle.link_frames.specs.frames.Packets.{PacketValue}
 use Rattle.owner_streams.specs.Places.{window}
 use Rattle.role_node.specs.Configs.{ConfigValue}
 use Rattle.role_node.specs.Histories.{packets}
+use Rattle.role_node.specs.Work.{most_at_place}
 use Rattle.role_node.specs.Windows.{last_vote_at, IsInWindow}
-use Rattle.byz_world.specs.Progress.{IsWanted, IsComplete, most_at_place}
+use Rattle.byz_world.specs.Progress.{IsWanted, IsComplete}
 use Rattle.byz_world.specs.Runs.{Run, history_of, reach_of, IsCorrect, IsClusterRun}
 
 -- A vote of a correct node at a place, wherever it was taken, shows that its stream reaches above that place less what

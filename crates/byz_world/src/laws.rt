@@ -2,10 +2,12 @@
 //!
 //! Each function's contract is its law, and its body is empty. `specs/Laws.antt` spells the laws out.
 ghost use Rattle.byz_world.specs.AfterSteps.{HeadlineOfSteps};
+ghost use Rattle.byz_world.specs.Begun.{BegunOnce, NobodyVotesAhead, FewVoteAhead};
 ghost use Rattle.byz_world.specs.Example.{AnExample};
 ghost use Rattle.byz_world.specs.Headline.{Headline};
 ghost use Rattle.byz_world.specs.Laws.{FrontsAreRuns, PoolIsWhatWasSent, PoolIsSound, Consistency, Integrity};
-ghost use Rattle.byz_world.specs.Laws.{SamePolicy, ReadyByAll, DeliveredByAll, IssuedReachesAll, AtRest};
+ghost use Rattle.byz_world.specs.Laws.{SamePolicy, SameReachDecidesAlike, SameReachWheneverAsked, ReadyByAll};
+ghost use Rattle.byz_world.specs.Laws.{DeliveredByAll, IssuedReachesAll, AtRest};
 ghost use Rattle.byz_world.specs.Limits.{LimitsMayDiffer};
 ghost use Rattle.byz_world.specs.Progress.{QuietIsComplete, EachOwnerGoesOn, WantedIsRecorded, HistoryIsBounded};
 ghost use Rattle.byz_world.specs.Progress.{WorkIsBounded};
@@ -44,10 +46,33 @@ pub fn law_integrity()
     ensures { Integrity }
 {}
 
+/// No correct node is begun twice, so none that follows the rules is ever refused for it: at each moment of a run, what
+/// a correct node delivers of its own stream is the beginning of what it had published.
+pub fn law_begun_once()
+    ensures { BegunOnce }
+{}
+
+/// What a correct node sends about a correct owner's stream is about a place that the owner has published. So in the
+/// names of at most `f` nodes a correct owner is ever given anything about its own stream at a place that it hasn't
+/// published by then.
+pub fn nobody_votes_ahead()
+    ensures sent { NobodyVotesAhead }
+    ensures few { FewVoteAhead }
+{}
+
 /// Correct nodes whose streams reach equally far have the same relations.
 pub fn law_same_policy()
     ensures { SamePolicy }
 {}
+
+/// Correct nodes at which an owner's stream reaches equally far decide alike by that owner's word, in all its roles: at
+/// the end of a run, and at any two moments of it.
+pub fn same_reach_decides_alike()
+    ensures alike { SameReachDecidesAlike }
+    ensures whenever { SameReachWheneverAsked }
+{
+    role_node::laws::one_owners_word();
+}
 
 /// Of a cluster at rest: a command for which so many correct nodes are ready as amplify asks, each correct node is
 /// ready for.

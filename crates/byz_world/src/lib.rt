@@ -19,8 +19,8 @@ mod world;
 pub use faults::WorldFault;
 pub use keys::lab_key;
 pub use laws::{
-    law_at_rest, law_consistency, law_fair_schedules_settle, law_headline, law_integrity,
-    law_nothing_is_stuck, law_same_policy, law_windows_heal, law_windows_suffice,
+    law_at_rest, law_begun_once, law_consistency, law_fair_schedules_settle, law_headline,
+    law_integrity, law_nothing_is_stuck, law_same_policy, law_windows_heal, law_windows_suffice,
     law_work_is_bounded,
 };
 pub use step::{Step, StepReply};

@@ -115,7 +115,7 @@ nothing_is_taken_back config liars acts k later node life le =
 -- Nobody is told two stories.
 
 -- what has left a node is said by its history at each later moment
-left_is_said : (config : ConfigValue) (liars : Nodes) (acts : List Act) (k later node : ℕ) (message : Message) →
+pub left_is_said : (config : ConfigValue) (liars : Nodes) (acts : List Act) (k later node : ℕ) (message : Message) →
     IsLife config liars acts → k ≤ later → IsTrue (has_left config.roles.sizes (moment acts k) node message) →
     IsTrue (has_sent config.roles.sizes (moment acts later).run node message)
 left_is_said config liars acts k later node message life le left =

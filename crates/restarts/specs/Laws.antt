@@ -1,12 +1,14 @@
 -- What holds of each life of a cluster, whatever its correct nodes record, sync and lose in crashes.
-use Rattle.std.specs.Prelude.{◌≡◌, ℕ, ◌≤◌, IsTrue, List, ◌∷◌, [], ◌++◌, take, length}
+use Rattle.std.specs.Prelude.{◌≡◌, ℕ, ◌<◌, ◌≤◌, false, IsTrue, List, ◌∷◌, [], ◌++◌, take, length}
 use Rattle.std.specs.List.{flat_map}
 use Rattle.quorum_sizes.specs.NodeSets.{Nodes}
 use Rattle.link_frames.specs.declared.frames.packet.Message.{Message}
+use Rattle.role_node.specs.Begun.{is_begun_twice}
 use Rattle.role_node.specs.Configs.{ConfigValue}
+use Rattle.role_node.specs.Histories.{issued}
 use Rattle.role_node.specs.declared.event.Event.{Event}
 use Rattle.byz_world.specs.Headline.{KeepsThePromise}
-use Rattle.byz_world.specs.Runs.{Run, history_of, IsClusterRun}
+use Rattle.byz_world.specs.Runs.{Run, history_of, IsCorrect, IsClusterRun}
 use Rattle.restarts.specs.Lives.{Act, Records, Syncs, Moment, moment, has_left, IsLife}
 
 -- What stands at any moment of a life is a run of a cluster: a node that crashed and was restored with all that it had
@@ -50,6 +52,23 @@ abbrev pub RestartsKeepThePromise : Type 0
 RestartsKeepThePromise =
     (config : ConfigValue) (liars : Nodes) (acts : List Act) (k : ℕ) → IsLife config liars acts →
     KeepsThePromise config liars (moment acts k).run
+
+-- No correct node is begun twice at any moment of a life, whatever it lost in crashes: what it delivers of its own
+-- stream is the beginning of what it had published.
+abbrev pub RestartsBeginOnce : Type 0
+RestartsBeginOnce =
+    (config : ConfigValue) (liars : Nodes) (acts : List Act) (k node : ℕ) → IsLife config liars acts →
+    IsCorrect config liars node →
+    is_begun_twice config.roles.sizes node (history_of node (moment acts k).run) ≡ false
+
+-- What had left a correct node at a moment of a life is about no place of a correct owner's stream that the owner
+-- hasn't published at that moment, or at a later one, whatever it lost in crashes between.
+abbrev pub NothingLeftIsAhead : Type 0
+NothingLeftIsAhead =
+    (config : ConfigValue) (liars : Nodes) (acts : List Act) (k later node : ℕ) (m : Message) →
+    IsLife config liars acts → k ≤ later → IsCorrect config liars node → IsCorrect config liars m.owner →
+    IsTrue (has_left config.roles.sizes (moment acts k) node m) →
+    m.place < length (issued (history_of m.owner (moment acts later).run))
 
 -- Nobody is told two stories: what has left a correct node at two moments, whatever crashed between them, is one
 -- message of a kind about a place. (A liar has no events here, so by these words nothing has left it.)

@@ -3,7 +3,8 @@
 //! Each function's contract is its law, and its body is empty, or calls the laws that it follows from.
 ghost use Rattle.restarts.specs.Example.{AnExample};
 ghost use Rattle.restarts.specs.Laws.{RestartsAreRuns, RunsAreLives, NothingIsTakenBack};
-ghost use Rattle.restarts.specs.Laws.{RestartsKeepThePromise, NobodyIsToldTwoStories};
+ghost use Rattle.restarts.specs.Laws.{RestartsKeepThePromise, RestartsBeginOnce};
+ghost use Rattle.restarts.specs.Laws.{NothingLeftIsAhead, NobodyIsToldTwoStories};
 
 use byz_world::law_headline;
 
@@ -28,6 +29,23 @@ pub fn law_restarts_keep_the_promise()
 {
     law_restarts_are_runs();
     law_headline();
+}
+
+/// No correct node is begun twice at any moment of a life, whatever it lost in crashes: so none is refused for it.
+pub fn law_begun_once()
+    ensures { RestartsBeginOnce }
+{
+    law_restarts_are_runs();
+    byz_world::law_begun_once();
+}
+
+/// What had left a correct node about a correct owner's stream is about a place that the owner has published, then and
+/// at each later moment, whatever the owner lost in crashes.
+pub fn nothing_left_is_ahead()
+    ensures { NothingLeftIsAhead }
+{
+    law_restarts_are_runs();
+    byz_world::laws::nobody_votes_ahead();
 }
 
 /// At no two moments of a life, across any crashes, have two different messages of one kind about one place left a

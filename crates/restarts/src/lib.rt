@@ -8,6 +8,6 @@
 pub mod laws;
 
 pub use laws::{
-    law_nobody_is_told_two_stories, law_nothing_is_taken_back, law_restarts_are_runs,
-    law_restarts_keep_the_promise,
+    law_begun_once, law_nobody_is_told_two_stories, law_nothing_is_taken_back,
+    law_restarts_are_runs, law_restarts_keep_the_promise,
 };
