@@ -1,12 +1,11 @@
 -- No correct node is taken for one that was begun twice: at each moment its own stream is the beginning of what it had
 -- issued, as at any node, and correct nodes vote for that alone.
-use Rattle.std.proofs.Common.{◌≡◌, ℕ, ◌<◌, ◌≤◌, ⊎_elim, ◌==◌, List, length, take, slice_get, Some, sym, ap, ◌∙◌, subst}
-use Rattle.std.proofs.Common.{arith, eqb-true}
-use Rattle.std.specs.Prelude.{IsTrue}
+use Rattle.std.proofs.Common.{◌≡◌, ℕ, ◌<◌, ◌≤◌, ⊎_elim, ◌==◌, List, length, take, slice_get, Some, sym, subst, arith}
+use Rattle.std.proofs.Common.{eqb-true}
 use Rattle.std.specs.FinSet as sets
 use Rattle.std.proofs.lemmas.Bool.{false_from_ne_true, cases_lt}
 use Rattle.std.proofs.lemmas.Option.{slice_get_within}
-use Rattle.quorum_sizes.specs.NodeSets.{Nodes, AreNodes}
+use Rattle.quorum_sizes.specs.NodeSets.{Nodes}
 use Rattle.quorum_sizes.specs.Sizes.{Counts}
 use Rattle.role_commands.proofs.Exported.{if_some}
 use Rattle.role_commands.specs.declared.command.Command.{Command}
@@ -21,7 +20,7 @@ use Rattle.role_node.specs.Configs.{ConfigValue}
 use Rattle.role_node.specs.Histories.{issued}
 use Rattle.role_node.specs.declared.event.Event.{Event}
 use Rattle.byz_world.specs.Begun.{BegunOnce, NobodyVotesAhead, VotedAhead, FewVoteAhead}
-use Rattle.byz_world.specs.Runs.{Run, history_of, IsCorrect, has_sent, IsClusterRun}
+use Rattle.byz_world.specs.Runs.{Run, history_of, IsCorrect, IsClusterRun}
 use Rattle.byz_world.proofs.Fronts.{fronts_are_runs, front_of_history}
 use Rattle.byz_world.proofs.Pooled.{has_sent_is}
 use Rattle.byz_world.proofs.Safety.{integrity, correct_among, ready_was_issued}

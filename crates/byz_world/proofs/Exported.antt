@@ -7,7 +7,7 @@
 --     pool-length      how many packets the messages of a run are
 --     consistency, integrity, same_policy, at_rest      the laws of every run, or of one at rest
 --     quiet_is_complete, each_owner_goes_on, wanted_is_recorded      how each owner's stream goes on
---     history_is_bounded, work_is_bounded, taken_are_sound      how much can be recorded, and of what
+--     history_is_bounded, work_is_bounded      how much can be recorded
 --     vote_shows_reach, windows_suffice, complete_or_lacked, windows_heal      how windows heal a cluster
 --     given_out_is_at_rest, giving_comes_to_rest      the laws of runs that go on by packets of the pool alone
 --     settled_prolongs, settled_is, settled-config      a world that has settled
@@ -28,7 +28,6 @@ pub use Rattle.byz_world.proofs.Rest.{ready_by_all, delivered_by_all, issued_rea
 pub use Rattle.byz_world.proofs.Quiet.{quiet_is_complete}
 pub use Rattle.byz_world.proofs.GoesOn.{each_owner_goes_on}
 pub use Rattle.byz_world.proofs.Wanted.{wanted_is_recorded}
-pub use Rattle.byz_world.proofs.Work.{taken_are_sound}
 pub use Rattle.byz_world.proofs.LongHistories.{history_is_bounded}
 pub use Rattle.byz_world.proofs.Prolonging.{work_is_bounded}
 pub use Rattle.byz_world.proofs.Voted.{vote_shows_reach}

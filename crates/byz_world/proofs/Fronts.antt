@@ -1,18 +1,17 @@
 -- The first events of a run are a run, and the first events of a node's history are its history in such a one.
-use Rattle.std.proofs.Common.{◌≡◌, ℕ, zero, suc, ◌==◌, ◌<◌, ◌≤◌, Bool, true, false, List, [], ◌∷◌, ◌++◌, length, take}
+use Rattle.std.proofs.Common.{◌≡◌, ℕ, zero, suc, ◌==◌, ◌<◌, Bool, true, false, List, [], ◌∷◌, length, take}
 use Rattle.std.proofs.Common.{Some, refl, sym, ap, ◌∙◌, subst, arith}
 use Rattle.std.specs.Prelude.{IsTrue, slice_get}
 use Rattle.std.proofs.lemmas.List.{take-append-le, take-take}
 use Rattle.std.proofs.lemmas.Map.Views.{exact_unsigned_eq}
 use Rattle.std.proofs.lemmas.Option.{slice_get_within}
-use Rattle.quorum_sizes.specs.NodeSets.{Nodes}
-use Rattle.link_frames.specs.frames.Packets.{PacketValue, message_of}
+use Rattle.link_frames.specs.frames.Packets.{message_of}
 use Rattle.role_node.specs.Answers.{answer_due, is_recorded, IsLegal}
 use Rattle.role_node.specs.Configs.{ConfigValue}
 use Rattle.role_node.specs.declared.event.Event.{Event}
 use Rattle.role_node.specs.declared.event.Event.TheVariants.{Take}
 use Rattle.byz_world.specs.Laws.{FrontsAreRuns}
-use Rattle.byz_world.specs.Runs.{Run, history_of, has_sent, IsClusterRun}
+use Rattle.byz_world.specs.Runs.{Run, history_of, has_sent}
 use Rattle.byz_world.proofs.Elements.{at_front}
 use Rattle.byz_world.proofs.Histories.{history_front}
 use Rattle.byz_world.proofs.Lists.{IsFront, slice_get-taken}

@@ -1,7 +1,6 @@
 -- What the votes that stand in a node's history say: of who sent them, and of the node.
-use Rattle.std.proofs.Common.{◌≡◌, ℕ, ◌+◌, ◌<◌, ◌≤◌, true, length, take, Option, Some, None, refl, sym, ap, ◌∙◌}
-use Rattle.std.proofs.Common.{subst, arith, take_all, le_refl}
-use Rattle.std.specs.Prelude.{slice_get, Contains}
+use Rattle.std.proofs.Common.{◌≡◌, ℕ, ◌+◌, ◌<◌, ◌≤◌, true, take, Option, Some, None, refl, sym, subst, arith}
+use Rattle.std.specs.Prelude.{Contains}
 use Rattle.std.proofs.lemmas.Bool.{leb-false}
 use Rattle.quorum_sizes.specs.Sizes.{Counts}
 use Rattle.quorum_sizes.specs.NodeSets.{Nodes}
@@ -12,7 +11,6 @@ use Rattle.owner_streams.specs.Places.{window}
 use Rattle.role_node.specs.Configs.{ConfigValue}
 use Rattle.role_node.specs.Histories.{packets}
 use Rattle.role_node.specs.Windows.{last_vote_at, voted_to}
-use Rattle.role_node.specs.declared.event.Event.TheVariants as event
 use Rattle.byz_world.specs.Runs.{Run, history_of, reach_of, is_correct, IsClusterRun}
 use Rattle.byz_world.specs.Windows.{VoteShowsReach}
 use Rattle.byz_world.proofs.Histories.{taken_event, taken_in_run}

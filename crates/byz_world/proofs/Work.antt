@@ -13,7 +13,7 @@ use Rattle.byz_world.proofs.Elements.{contained}
 use Rattle.byz_world.proofs.Histories.{taken_by, taken_in_run}
 
 -- each packet that a node of a run took is sound
-pub taken_are_sound : (config : ConfigValue) (liars : Nodes) (run : Run) (node : ℕ) → IsClusterRun config liars run →
+taken_are_sound : (config : ConfigValue) (liars : Nodes) (run : Run) (node : ℕ) → IsClusterRun config liars run →
     All IsSound (packets (history_of node run))
 taken_are_sound config liars run node cluster k d within =
     let taken : List PacketValue = packets (history_of node run) in
