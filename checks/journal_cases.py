@@ -2,6 +2,7 @@
 import contextlib
 import json
 import os
+import re
 import resource
 import signal
 import subprocess
@@ -229,7 +230,8 @@ def damage(path, left):
 def said(program, rng, _):
     """Words: help and the version, and those that are refused; and what is said of a cluster file."""
     version, help_text = run([program, "--version"]), run([program, "--help"])
-    if version[0] or "kit rattle-kit" not in version[1] or "journal 1" not in version[1] or version[2]:
+    has_logic = re.search(r"(?m)^logic [0-9a-f]{16}$", version[1])
+    if version[0] or not has_logic or "journal 1" not in version[1] or version[2]:
         raise Failed(f"--version: {version}")
     if help_text[0] or not all(word in help_text[1] for word in ("serve", "journal", "check")):
         raise Failed(f"--help: {help_text}")
