@@ -52,7 +52,17 @@ def revokes(count: int) -> List[Command]:
     return [{"op": "deassign", "role": ROLE, "user": user} for user in range(count)]
 
 
-def begun_twice(program: str, has_journals: bool) -> str:
+def begun_twice(program: str, rng: Any, folder: str) -> str:
+    """An owner whose journal is begun anew, or of which an old copy is put back."""
+    return all_ways(program, True)
+
+
+def forgotten(program: str, rng: Any, folder: str) -> str:
+    """An owner in memory that is started again."""
+    return all_ways(program, False)
+
+
+def all_ways(program: str, has_journals: bool) -> str:
     """Each way, and how soon the node said so at the latest."""
     longest, refused, some = 0.0, 0, ways(has_journals)
     for way in some:
@@ -87,6 +97,7 @@ def tried(cluster: Cluster, way: Way) -> Tuple[float, int]:
 def forget(cluster: Cluster, way: Way) -> None:
     """The owner publishes, all deliver it, and the owner is ended and has forgotten some of it, or all."""
     half = way.count // 2
+    cluster.forgetful = {0}
     publish(cluster, assigns(0, half))
     journal = cluster.journal(0)
     if way.how == "old copy":
@@ -166,11 +177,11 @@ def holds(cluster: Cluster, way: Way, node: tundelca.Client) -> None:
             judge(list(again.ask_all(revokes(1)))[0] == {"error": tundelca.REFUSES}, "its next life takes a command")
 
 
-def same_again(program: str, has_journals: bool) -> str:
+def same_again(program: str, rng: Any, folder: str) -> str:
     """A node that has forgotten all publishes the same again, before it hears anybody: nothing is said, and all is in
     force. What it publishes behind that is in force too."""
     counts = [count for count in (*COUNTS, 60) if count < tundelca.WINDOW]
-    for count in counts:
+    for count, has_journals in [(count, has_journals) for count in counts for has_journals in (True, False)]:
         with Cluster(program, NODES, MAY_LIE, has_journals=has_journals, waits=True) as cluster:
             forget(cluster, Way("anew" if has_journals else "memory", count, True, False))
             for me in range(1, NODES):
@@ -189,4 +200,5 @@ def same_again(program: str, has_journals: bool) -> str:
                 publish(cluster, assigns(count, 5))
                 judge(node.ask("status")["begun_twice"] is False, f"the same {count} again, and it says begun twice")
             cluster.reach_all(0, count + 5)
+            cluster.forgetful = set()
     return f"{', '.join(map(str, counts))} commands, and no word"

@@ -8,6 +8,7 @@ import signal
 import subprocess
 import time
 
+import journals
 from cluster import PATIENCE, ROLE, Cluster, read_text, tundelca, write_text
 from lives import compiled
 from runner import Failed
@@ -213,6 +214,19 @@ def of_another(one):
             expect(run(one.words(0)), status, due + fault, str(members))
     write_text(one.path, text)
     return len(others) + len(later)
+
+
+def damaged(program, rng, _):
+    """Each of D1 to D18 that can be made, with its status and of two that hold the first, so that damage is told as want
+    of memory nowhere; and what a crash may leave is read."""
+    with One(program, nodes=4) as one:
+        one.begin_life()
+        try:
+            if one.talk(3) != [0, 1, 2]:
+                raise Failed("commands aren't published")
+        finally:
+            one.kill(0)
+        return journals.tried(run, lambda word: one.words(0, word), one.journal_path, one.path)
 
 
 def contents(path):

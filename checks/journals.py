@@ -1,6 +1,6 @@
 """A journal's file as docs/FORMATS.md has it, read and written by a script, and what a node says to one that is refused.
 
-For crashes.py, whose case begins the journal and has it served.
+For journal_cases.py, whose case begins the journal and has it served.
 """
 import hashlib
 import hmac
@@ -8,6 +8,8 @@ import json
 import os
 import shutil
 from typing import Callable, Dict, Iterator, List, NamedTuple, Tuple
+
+from runner import Failed, judge
 
 BASE, ZERO = 120, 129  # of digits: their base, and the byte of the digit 0
 HEAD, BATCH, SEAL = 249, 250, 251  # the bytes that begin a head, a batch and a seal
@@ -98,7 +100,7 @@ def damaged(journal: Written) -> Iterator[Tuple[str, bytes]]:
         yield damage, changed(whole, at, whole[at] ^ 2)
     yield damage, whole[:first] + bytes(len(journal.batches[0])) + whole[first + len(journal.batches[0]):]
     yield damage, changed(whole, end - 1, 0)
-    for behind in (b"\x07", bytes([ZERO]), bytes([BATCH, 1]), bytes([SEAL]), bytes([0, BATCH])):
+    for behind in (b"\x07", bytes([ZERO]), bytes([SEAL]), bytes([0, BATCH])):
         yield damage, journal.file(journal.batches, behind)
     yield damage, journal.file(journal.batches, bytes(500 * 1024) + bytes([BATCH]))
     front = journal.batch(digits(0, 100))
@@ -110,7 +112,7 @@ def damaged(journal: Written) -> Iterator[Tuple[str, bytes]]:
 def accepted(journal: Written) -> Iterator[bytes]:
     """What a crash may leave behind the last batch."""
     front = journal.batch(digits(0, 100))
-    for behind in (b"", front[:1], front[:7], front[:60], front[:-1], bytes(40) + front[40:70].replace(b"\xfa", b"\0")):
+    for behind in (b"", front[:1], bytes([BATCH, 1]), front[:7], front[:60], front[:-1], bytes(40) + front[40:70].replace(b"\xfa", b"\0")):
         yield journal.file(journal.batches, behind)
     yield (journal.file(journal.batches))[:len(journal.head) + sum(map(len, journal.batches)) + MIB]
 
@@ -143,11 +145,11 @@ class Refusals:
         for step in steps:
             came = self.run(self.words(step))
             if (came[0], came[2]) != (status, f"tundelca: {fault}\n"):
-                raise AssertionError(f"{step}: {fault} and status {status} are due, and {came[2]!r}, {came[0]} came")
+                raise Failed(f"{step}: {fault} and status {status} are due, and {came[2]!r}, {came[0]} came")
             self.count += 1
         after = os.stat(self.journal) if os.path.isfile(self.journal) else None
-        if (before and (before.st_size, before.st_mtime_ns)) != (after and (after.st_size, after.st_mtime_ns)):
-            raise AssertionError(f"{fault}: the file that is refused isn't as it was")
+        judge((before and (before.st_size, before.st_mtime_ns)) == (after and (after.st_size, after.st_mtime_ns)),
+              f"{fault}: the file that is refused isn't as it was")
         self.seen[fault.split()[0]] = self.seen.get(fault.split()[0], 0) + 1
 
     def beside(self, end: str, text: bytes) -> None:
@@ -162,8 +164,7 @@ def tried(run: Run, words: Callable[[str], List[str]], journal: str, cluster_fil
     with open(cluster_file, encoding="ascii") as file:
         text = json.load(file)
     good, one = written(journal, bytes.fromhex(text["keys"][text["me"]])), Refusals(run, words, journal)
-    if len(good.batches) < 2:
-        raise AssertionError(f"{journal} has {len(good.batches)} batches, too few")
+    judge(len(good.batches) > 1, f"{journal} has {len(good.batches)} batches, too few")
     for fault, file_text in [*other_heads(good), *damaged(good), *(("D12 Illegal", it) for it in illegal(good))]:
         one.put(file_text)
         one.due(fault)
@@ -174,12 +175,10 @@ def tried(run: Run, words: Callable[[str], List[str]], journal: str, cluster_fil
     for file_text in accepted(good):
         one.put(file_text)
         came = run(words("check"))
-        if came[0] or came[2]:
-            raise AssertionError(f"what a crash may leave is refused: {came}")
+        judge(not came[0] and not came[2], f"what a crash may leave is refused: {came}")
     one.put(good.file(good.batches))
     due = {f"D{code}" for code in range(1, 19)} - {"D2"}
-    if due - set(one.seen):
-        raise AssertionError(f"not tried: {sorted(due - set(one.seen))}")
+    judge(not due - set(one.seen), f"not tried: {sorted(due - set(one.seen))}")
     return f"{one.count} refusals by name, of {len(one.seen)} codes, and what crashes leave is read"
 
 
