@@ -160,7 +160,7 @@ def stands(cluster: Cluster, way: Way, place: int) -> Any:
 
 def holds(cluster: Cluster, way: Way, node: tundelca.Client) -> None:
     """From then on no command is taken, all else is, and no other node says so of itself. With a journal the next life
-    says so too."""
+    says so too, as soon as it has connections."""
     for command in revokes(3):
         answer = list(node.ask_all([command]))[0]
         judge(answer == {"error": tundelca.REFUSES}, f"begun twice, it answers {answer} to a command")
@@ -173,7 +173,10 @@ def holds(cluster: Cluster, way: Way, node: tundelca.Client) -> None:
     if way.how != "memory":
         cluster.start_again(0)
         with cluster.client(0) as again:
-            judge(again.ask("status")["begun_twice"], "its next life doesn't say so")
+            end = connected(again) + SOON
+            while not again.ask("status")["begun_twice"]:
+                judge(time.monotonic() < end, "its next life doesn't say so")
+                time.sleep(0.005)
             judge(list(again.ask_all(revokes(1)))[0] == {"error": tundelca.REFUSES}, "its next life takes a command")
 
 
