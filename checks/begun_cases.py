@@ -8,7 +8,7 @@ import os
 import shutil
 import signal
 import time
-from typing import Any, Dict, List, NamedTuple, Tuple
+from typing import Any, Dict, List, NamedTuple, Optional, Tuple
 
 from cluster import PATIENCE, ROLE, Cluster, tundelca
 from runner import Failed, judge
@@ -18,8 +18,9 @@ SOON = 2.0  # seconds from its connections to the node's own word
 COUNTS = (3, 11, 70, 300)  # commands before
 MANY = 40  # commands behind
 AWAY = 3  # the node that is away
-BUSY = {"error": "F3 Busy"}
+BUSY, REFUSED = {"error": "F3 Busy"}, {"error": tundelca.REFUSES}
 Command = Dict[str, Any]
+Answer = Dict[str, Any]
 
 
 class Way(NamedTuple):
@@ -83,15 +84,16 @@ def tried(cluster: Cluster, way: Way) -> Tuple[float, int]:
     cluster.start(0)
     cluster.wait([0])
     with cluster.client(0) as node:
-        if not way.at_once:
-            node.wait_for_reach(0, 1 if way.how != "old copy" else way.count // 2 + 1, PATIENCE)
-        sent = revokes(MANY)
-        answers = list(node.ask_all(sent))
-        begun = connected(node)
-        took = said(cluster, way, node, sent, answers, begun)
+        if way.at_once:
+            sent = revokes(MANY)
+            answers = list(node.ask_all(sent))
+            took = said(cluster, node, sent, answers, connected(node))
+        else:
+            took, answers = told(node, connected(node)), list(node.ask_all(revokes(MANY)))
+            judge(all(answer == REFUSED for answer in answers), "it has said so, and takes commands")
         if took is not None:
             holds(cluster, way, node)
-        return took or 0.0, sum(answer.get("error") == tundelca.REFUSES for answer in answers)
+        return took or 0.0, answers.count(REFUSED)
 
 
 def forget(cluster: Cluster, way: Way) -> None:
@@ -134,25 +136,32 @@ def connected(node: tundelca.Client) -> float:
     raise Failed("the node has no connections")
 
 
-def said(cluster: Cluster, way: Way, node: tundelca.Client, sent: List[Command], answers: List[Command],
-         begun: float) -> Any:
-    """How long the node took to say that it was begun twice; None where all that it took is in force as it was sent."""
-    odd = [answer for answer in answers if "issued" not in answer and answer not in (BUSY, {"error": tundelca.REFUSES})]
-    judge(not odd, f"answered {odd[:1]}")
-    given = [(command, answer["issued"]) for command, answer in zip(sent, answers) if "issued" in answer]
-    judge(way.at_once or not given, f"it has heard votes, and takes {len(given)} commands")
+def told(node: tundelca.Client, begun: float) -> float:
+    """How many seconds after this moment the node says that it was begun twice."""
     while True:
         looked = time.monotonic()
         if node.ask("status")["begun_twice"]:
             return max(0.0, looked - begun)
-        if all(stands(cluster, way, place) == command for command, place in given):
-            return None
-        judge(looked < begun + SOON, f"after {SOON:.0f} s not a word, and of {len(given)} commands that it took some are "
-                                     f"not in force as they were sent: the first at place {given[0][1] if given else None}")
+        judge(looked < begun + SOON, f"it doesn't say so within {SOON:.0f} s")
         time.sleep(0.005)
 
 
-def stands(cluster: Cluster, way: Way, place: int) -> Any:
+def said(cluster: Cluster, node: tundelca.Client, sent: List[Command], answers: List[Answer],
+         begun: float) -> Optional[float]:
+    """The same, or None where all commands that it took are in force as they were sent."""
+    odd = [answer for answer in answers if "issued" not in answer and answer not in (BUSY, REFUSED)]
+    judge(not odd, f"answered {odd[:1]}")
+    given = [(command, answer["issued"]) for command, answer in zip(sent, answers) if "issued" in answer]
+    try:
+        return told(node, begun)
+    except Failed as fault:
+        lost = [place for command, place in given if stands(cluster, place) != command]
+        judge(not lost and REFUSED not in answers,
+              f"{fault}, and of {len(given)} commands that it took {len(lost)} are lost, the first at {lost[:1]}")
+        return None
+
+
+def stands(cluster: Cluster, place: int) -> Optional[Command]:
     """The owner's command at a place, as another node has it."""
     with cluster.client(1) as other:
         return other.ask("command", owner=0, place=place)["command"]
@@ -163,7 +172,7 @@ def holds(cluster: Cluster, way: Way, node: tundelca.Client) -> None:
     says so too, as soon as it has connections."""
     for command in revokes(3):
         answer = list(node.ask_all([command]))[0]
-        judge(answer == {"error": tundelca.REFUSES}, f"begun twice, it answers {answer} to a command")
+        judge(answer == REFUSED, f"begun twice, it answers {answer} to a command")
     session = node.open(7)
     node.check(session, 7, 1, 1)
     node.ask("close", session=session, user=7)
@@ -173,11 +182,8 @@ def holds(cluster: Cluster, way: Way, node: tundelca.Client) -> None:
     if way.how != "memory":
         cluster.start_again(0)
         with cluster.client(0) as again:
-            end = connected(again) + SOON
-            while not again.ask("status")["begun_twice"]:
-                judge(time.monotonic() < end, "its next life doesn't say so")
-                time.sleep(0.005)
-            judge(list(again.ask_all(revokes(1)))[0] == {"error": tundelca.REFUSES}, "its next life takes a command")
+            told(again, connected(again))
+            judge(list(again.ask_all(revokes(1))) == [REFUSED], "its next life takes a command")
 
 
 def same_again(program: str, rng: Any, folder: str) -> str:
