@@ -1,6 +1,8 @@
 //! How many places of its stream each owner has, and what that answers to events.
 
 ghost use Rattle.std.specs.Prelude.{◌≡◌, ◌≤◌};
+ghost use Rattle.std.specs.FinSet as sets;
+ghost use Rattle.quorum_sizes.specs.Sizes.{most_nodes};
 ghost use Rattle.owner_shares.specs.Answers.{answer_of_shares, answer_to_act as act_answer};
 ghost use Rattle.role_node.specs.declared.event.Event.TheVariants.{Issue};
 ghost use Rattle.owner_shares.specs.Shares.{owners_of, places_each, share_in, shares_of, published_events};
@@ -48,10 +50,9 @@ impl Shares {
         ensures { result ≡ shares_of roles.now }
     {
         let owners = owners_in(roles);
-        let places = 2 * u32::from(roles.sizes().n()) + 1;
         Shares {
             owners,
-            each: PUBLISHED_EVENTS / (owners.len() as u32 * places + 1),
+            each: places_for(owners.len() as u32, roles.sizes().n()),
         }
     }
 
@@ -110,7 +111,8 @@ fn answer_to_act(node: &Node, event: &Event) -> Option<ShareAnswer>
 
 /// The nodes that own a role of the table.
 fn owners_in(roles: &RoleTable) -> NodeSet
-    ensures { result ≡ owners_of roles.now }
+    ensures owners { result ≡ owners_of roles.now }
+    ensures few { sets.len result ≤ most_nodes }
 {
     let mut owners = NodeSet::new();
     for role in 0..ROLE_NUMBERS {
@@ -119,4 +121,13 @@ fn owners_in(roles: &RoleTable) -> NodeSet
         }
     }
     owners
+}
+
+/// The places of each of so many owners, in a cluster of so many nodes.
+fn places_for(owners: u32, nodes: u8) -> u32
+    requires owners { owners ≤ most_nodes }
+    requires nodes { nodes ≤ most_nodes }
+    ensures { result ≡ places_each owners nodes }
+{
+    PUBLISHED_EVENTS / (owners * (2 * u32::from(nodes) + 1) + 1)
 }
