@@ -19,6 +19,7 @@ use Rattle.role_node.specs.Answers.{reply_to}
 use Rattle.role_node.specs.inside.Fields.{IsNode, node_value}
 use Rattle.role_node.specs.Nodes.{NodeValue}
 use Rattle.role_node.specs.inside.Kept.{IsStateAfter, Stays, Follows, IsEntryFor, IsInRange, events}
+use Rattle.role_node.specs.inside.Noting.{IsNotedOf}
 use Rattle.role_node.specs.declared.event.Event.{Event}
 use Rattle.role_node.specs.declared.event.Event.TheVariants.{Issue, Take, Client}
 use Rattle.role_node.specs.declared.event.Reply.{Reply}
@@ -27,27 +28,42 @@ use Rattle.role_node.specs.declared.faults.NodeFault.TheVariants as fault
 use Rattle.role_node.specs.declared.node.Node.TheInside.{Inside}
 use Rattle.role_node.specs.declared.state.State.{State}
 use Rattle.role_node.proofs.HistoryLemmas.{client_events-length}
-use Rattle.role_node.proofs.EntryLemmas.{entries_push, events-push, events-length}
+use Rattle.role_node.proofs.EntryLemmas.{no_entries, entries_push, events-push, events-length}
 use Rattle.role_node.proofs.EntryLemmas.{counted_is_due, counted_is_recorded, counted_with_room}
+
+-- a node that has recorded nothing
+pub inside_begins : {a : Inside} → a.me < a.config.roles.sizes.nodes → a.config.limit ≤ most_events →
+    a.entries.items ≡ [] → IsStateAfter a.config.roles [] a.state → IsNotedOf a.config.roles.sizes a.me [] a.noted →
+    IsNode a
+inside_begins {a = a} me limit none state noted =
+    record {
+      me = me;
+      limit = limit;
+      within = rw none (omega arith);
+      entries = rw none (no_entries a.config a.me);
+      state = rw none state;
+      noted = rw none noted;
+    }
 
 -- room that was made changes nothing of this
 pub inside_stays : {a b : Inside} → IsNode a → b.config ≡ a.config → b.me ≡ a.me → b.entries.items ≡ a.entries.items
-    → Stays a.state b.state → IsNode b
-inside_stays {a = a} is ec em ee stays =
+    → b.noted ≡ a.noted → Stays a.state b.state → IsNode b
+inside_stays {a = a} is ec em ee en stays =
     record {
       me = rw (ec, em) is.me;
       limit = rw ec is.limit;
       within = rw (ec, ee) is.within;
       entries = rw (ec, em, ee) is.entries;
       state = rw (ec, ee) (stays a.config.roles (events a.entries.items) is.state);
+      noted = rw (ec, em, ee, en) is.noted;
     }
 
 -- an event that counts is recorded
 pub inside_grows : {a b : Inside} {entry : EntryValue} (event : Event) → IsNode a → b.config ≡ a.config → b.me ≡ a.me →
     b.entries.items ≡ a.entries.items ++ entry ∷ [] → Follows event a.state b.state →
     outlook a.config a.me (events a.entries.items) event ≡ Ok effect.Counted → IsEntryFor a.me event a.state entry →
-    IsNode b
-inside_grows {a = a} event is ec em pushed follows counts is_entry =
+    IsNotedOf a.config.roles.sizes a.me (events a.entries.items ++ event ∷ []) b.noted → IsNode b
+inside_grows {a = a} event is ec em pushed follows counts is_entry noted =
     let history : List Event = events a.entries.items in
     let r : Reply = reply_to a.config.roles a.me history event in
     let entry : EntryValue = record { event = event; reply = r } in
@@ -66,6 +82,7 @@ inside_grows {a = a} event is ec em pushed follows counts is_entry =
           (counted_is_due a.config a.me history event r counts refl)
           (counted_is_recorded a.config.roles a.me history event r refl));
       state = rw (ec, ee, events-push a.entries.items entry) (follows a.config.roles history is.state);
+      noted = rw (ec, em, ee, events-push a.entries.items entry) noted;
     }
 
 -- that an event counts, by the fields
@@ -84,19 +101,19 @@ second_test true b c e = absurd cc
 second_test false true c e = absurd cc
 second_test false false c e = refl
 
-routed_by : (routed : Bool) (r : Result Effect NodeFault)
+pub routed_by : (routed : Bool) (r : Result Effect NodeFault)
     → (if routed then r else Err fault.Misrouted) ≡ Ok effect.Counted
     → routed ≡ true
 routed_by true r e = refl
 routed_by false r e = absurd cc
 
-last_two : (a b c : Bool) → (a && b && c) ≡ true → (b ≡ true) × (c ≡ true)
+pub last_two : (a b c : Bool) → (a && b && c) ≡ true → (b ≡ true) × (c ≡ true)
 last_two true true true e = (refl, refl)
 last_two true true false e = absurd cc
 last_two true false c e = absurd cc
 last_two false b c e = absurd cc
 
-counted_by : (routed : Bool) (r : Result Effect StreamFault)
+pub counted_by : (routed : Bool) (r : Result Effect StreamFault)
     → (if routed then of_effect_due r else Err fault.Misrouted) ≡ Ok effect.Counted → r ≡ Ok effect.Counted
 counted_by true (Ok e) h = cc
 counted_by true (Err f) h = absurd cc
@@ -133,3 +150,9 @@ events_are_few a is =
     let within = is.within in
     let limit = is.limit in
     omega (arith, events-length a.entries.items)
+
+-- .. and no more acts of clients stand in it
+pub acts_are_few : (a : Inside) → IsNode a → a.noted.acts ≤ most_events
+acts_are_few a is =
+    let acts = client_events-length (events a.entries.items) in
+    omega (arith, acts, is.noted.acts, events_are_few a is)

@@ -39,7 +39,7 @@ along_legal config me P keeps past (e ∷ rest) legal was =
     subst P (sym split)
     (along_legal config me P keeps (past ++ e ∷ []) rest (subst (IsLegal config me) split legal) next)
 
-recorded_counts : (o : Result Effect NodeFault) (r : Reply) → is_recorded (answered o r) ≡ true → o ≡ Ok effect.Counted
+pub recorded_counts : (o : Result Effect NodeFault) (r : Reply) → is_recorded (answered o r) ≡ true → o ≡ Ok effect.Counted
 recorded_counts (Ok effect.Idle) r e = absurd cc
 recorded_counts (Ok effect.Counted) r e = refl
 recorded_counts (Err f) r e = absurd cc

@@ -7,6 +7,9 @@ pub mod KeptLemmas
 pub mod RefusalLemmas
 pub mod FieldLemmas
 pub mod LegalLemmas
+pub mod BegunLemmas
+pub mod NotingLemmas
+pub mod WorkLemmas
 pub mod AscendingLemmas
 pub mod PackedLemmas
 pub mod PairLemmas

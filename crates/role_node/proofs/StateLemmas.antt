@@ -9,7 +9,7 @@ use Rattle.role_commands.specs.declared.command.Command.{Command}
 use Rattle.link_frames.specs.frames.Packets.{PacketValue, SentByOwner}
 use Rattle.bracha_instance.specs.declared.instance.Effect.{Effect}
 use Rattle.bracha_instance.specs.declared.instance.Effect.TheVariants as effect
-use Rattle.owner_streams.specs.Places.{stream, reach, places_end, answers_from}
+use Rattle.owner_streams.specs.Places.{stream, reach}
 use Rattle.owner_streams.specs.Steps.{step_of, step_due, effect_due, IsAnswer}
 use Rattle.owner_streams.specs.Values.{IsStateOf}
 use Rattle.owner_streams.specs.declared.steps.StreamStep.{StreamStep}
@@ -34,7 +34,7 @@ use Rattle.role_node.specs.declared.state.State.{State}
 use Rattle.role_node.proofs.HistoryLemmas.{issued-Issue, issued-Take, issued-Client, packets-Issue, packets-Take}
 use Rattle.role_node.proofs.HistoryLemmas.{packets-Client, client_events-Issue, client_events-Take}
 use Rattle.role_node.proofs.HistoryLemmas.{client_events-Client, issued-none, packets-none, client_events-none}
-use Rattle.role_node.proofs.StreamLemmas.{obeyed_none, obeyed_all, policy_same, stream_same}
+use Rattle.role_node.proofs.StreamLemmas.{obeyed_none, obeyed_all, policy_same, stream_same, stream_of_nothing}
 
 parts_same : {roles : Table} {commands commands' : List Command} {taken taken' : List PacketValue}
     {acts acts' : List ClientEvent} {a : State} → commands ≡ commands' → taken ≡ taken' → acts ≡ acts' →
@@ -198,10 +198,6 @@ pub stays_on_err : {X Fault : Type 0} (r : Result X Fault) {old new : State} →
     SameRelations old.policy new.policy → new.sessions ≡ old.sessions → OnErr r (Stays old new)
 stays_on_err (Ok reply) i s same t = tt
 stays_on_err (Err f) i s same t = λ roles history h. stays_with_room roles history h i s same t
-
-stream_of_nothing : (s : Counts) (owner : ℕ) → stream s owner [] ≡ []
-unfolding stream places_end answers_from
-stream_of_nothing s owner = refl
 
 -- the parts before the first event
 pub parts_of_nothing : (roles : Table) {a : State} → a.issued.items ≡ [] → a.streams.sizes ≡ roles.sizes

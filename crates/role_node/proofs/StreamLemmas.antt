@@ -10,7 +10,7 @@ use Rattle.quorum_sizes.specs.Sizes.{Counts}
 use Rattle.role_commands.specs.declared.command.Command.{Command}
 use Rattle.link_frames.specs.frames.Packets.{PacketValue}
 use Rattle.bracha_instance.specs.Broadcast.{delivered}
-use Rattle.owner_streams.specs.Places.{stream, reach}
+use Rattle.owner_streams.specs.Places.{stream, reach, places_end, answers_from}
 use Rattle.owner_streams.proofs.Exported.{takes_at-other, stream_is_exact_lem, stream_is_one_lem, stream_grows_lem}
 use Rattle.rbac_state.specs.Assignments.{with_command}
 use Rattle.rbac_state.specs.Policies.{PolicyValue, IsApplied, IsPolicyOf}
@@ -19,6 +19,10 @@ use Rattle.role_node.specs.inside.Kept.{obeyed}
 
 not_both : (b c : Bool) → b ≡ false → (b && c) ≡ false
 not_both b c e = ap (λ x. x && c) e
+
+pub stream_of_nothing : (s : Counts) (owner : ℕ) → stream s owner [] ≡ []
+unfolding stream places_end answers_from
+stream_of_nothing s owner = refl
 
 -- another owner's stream stays
 pub stream_other : (s : Counts) (owner : ℕ) (taken : List PacketValue) (p : PacketValue) → (p.owner == owner) ≡ false →

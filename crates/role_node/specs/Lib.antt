@@ -4,6 +4,8 @@ pub mod Histories
 pub mod Access
 pub mod Answers
 pub mod Nodes
+pub mod Begun
+pub mod Work
 pub mod Windows
 pub mod Questions
 pub mod Listed

@@ -11,6 +11,7 @@ mod event;
 mod faults;
 pub mod laws;
 mod node;
+mod noted;
 mod question;
 mod state;
 

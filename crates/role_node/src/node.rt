@@ -6,7 +6,8 @@ ghost use Rattle.bracha_instance.specs.declared.instance.Effect.TheVariants.{Cou
 ghost use Rattle.owner_streams.specs.Places.{place_count};
 ghost use Rattle.role_sessions.specs.Listed.{listed_from};
 ghost use Rattle.role_node.specs.Configs.{most_events};
-ghost use Rattle.role_node.specs.Histories.{issued};
+ghost use Rattle.role_node.specs.Histories.{issued, client_events};
+ghost use Rattle.role_node.specs.Begun.{is_begun_twice};
 ghost use Rattle.role_node.specs.Access.{stream_at, reach_at, sessions_at, verdict_at, sent_at};
 ghost use Rattle.role_node.specs.Windows.{last_vote_at};
 ghost use Rattle.role_node.specs.Listed.{IsWithin};
@@ -18,6 +19,7 @@ use crate::config::Config;
 use crate::entry::Entry;
 use crate::event::{Event, NodeAgain, Reply};
 use crate::faults::{AskFault, NodeFault};
+use crate::noted::Noted;
 use crate::question::{Answer, Question, within};
 use crate::state::State;
 use bracha_instance::Effect;
@@ -36,6 +38,7 @@ pub struct Node {
     me: NodeName,
     entries: Vec<Entry>,
     state: State,
+    noted: Noted,
 }
 
 impl Model for Node {
@@ -68,6 +71,7 @@ impl Node {
             me,
             entries: Vec::new(alloc),
             state,
+            noted: Noted::new(),
         })
     }
 
@@ -133,6 +137,7 @@ impl Node {
         self.entries.try_reserve(1)?;
         let entry = self.state.answer(self.me, event)?;
         self.entries.push_reserved(entry);
+        self.noted.note(&self.state, self.me, event, &entry);
         Ok(entry)
     }
 
@@ -186,6 +191,24 @@ impl Node {
         ensures most { result ≤ most_events }
     {
         self.state.issued.len() as u32
+    }
+
+    /// How many acts of its clients the node has recorded: how often one opened or closed a session, activated or
+    /// dropped a role.
+    pub fn acts(&self) -> u32
+        ensures count { result ≡ length (client_events self.now.history) }
+        ensures most { result ≤ most_events }
+    {
+        self.noted.acts
+    }
+
+    /// Whether the history shows that the node was begun twice, as it is where a node is begun anew or from an old copy
+    /// of its journal: what it delivers of its own stream is, or once was, no beginning of what it had issued by then.
+    /// Once this is so it stays so. It takes no memory, and reads no history.
+    pub fn is_begun_twice(&self) -> bool
+        ensures { result ≡ is_begun_twice self.now.config.roles.sizes self.now.me self.now.history }
+    {
+        self.noted.begun_twice
     }
 
     /// How many sessions are open.
