@@ -9,13 +9,10 @@ use Rattle.std.specs.List.{cons_option}
 use Rattle.bracha_instance.specs.Broadcast.{Take}
 use Rattle.owner_streams.specs.Places.{take_of, takes_at}
 use Rattle.owner_streams.specs.Steps.{SendsAreOwners}
-use Rattle.role_node.specs.Answers.{IsLegal}
-use Rattle.role_node.specs.Configs.{ConfigValue}
 use Rattle.role_node.specs.Histories.{packets}
 use Rattle.role_node.specs.Work.{most_at_place}
-use Rattle.role_node.specs.declared.event.Event.{Event}
 use Rattle.role_node.proofs.Exported.{few_at_place}
-use Rattle.owner_shares.specs.Laws.{AreSound, is_before, OwnerIsBounded}
+use Rattle.owner_shares.specs.Laws.{is_before, OwnerIsBounded}
 use Rattle.owner_shares.proofs.Counting.{count-cons, count_none, count_either, none_below}
 
 -- the next place is at this one, or before it

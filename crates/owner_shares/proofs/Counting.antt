@@ -1,5 +1,5 @@
 -- How many packets of a list pass a test.
-use Rattle.std.proofs.Common.{◌≡◌, ℕ, suc, ◌+◌, ◌<◌, ◌≤◌, ◌⊎◌, ⊎_elim, Bool, true, false, cond, ◌&&◌, List, [], ◌∷◌}
+use Rattle.std.proofs.Common.{◌≡◌, ℕ, suc, ◌+◌, ◌≤◌, ◌⊎◌, ⊎_elim, Bool, true, false, cond, List, [], ◌∷◌}
 use Rattle.std.proofs.Common.{length, refl, ap, ◌∙◌, arith}
 use Rattle.std.specs.Prelude.{nat_lt, count_by, All}
 use Rattle.std.proofs.lemmas.Bool.Decides.{nat_tests}
@@ -48,9 +48,14 @@ pub count_either : (p q r : PacketValue → Bool) (xs : List PacketValue) → Al
     count_by p xs ≤ count_by q xs + count_by r xs
 count_either p q r [] either = omega arith
 count_either p q r (x ∷ xs) either =
-    omega (arith, count-cons p x xs, count-cons q x xs, count-cons r x xs,
-    one_or_other (p x) (q x) (r x) (All-head (IsEither p q r) x xs either),
-    count_either p q r xs (All-tail (IsEither p q r) x xs either))
+    omega (
+      arith,
+      count-cons p x xs,
+      count-cons q x xs,
+      count-cons r x xs,
+      one_or_other (p x) (q x) (r x) (All-head (IsEither p q r) x xs either),
+      count_either p q r xs (All-tail (IsEither p q r) x xs either),
+    )
 
 pub none_below : (n : ℕ) → nat_lt n 0 ≡ false
 none_below n = grind (arith, nat_tests)

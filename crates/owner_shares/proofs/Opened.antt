@@ -1,6 +1,6 @@
 -- How many sessions are open, as clients act.
-use Rattle.std.proofs.Common.{◌≡◌, ℕ, zero, suc, ◌+◌, ◌-◌, ◌≤◌, ◌<◌, Bool, true, false, cond, not, List, [], ◌∷◌, ◌++◌, length}
-use Rattle.std.proofs.Common.{Option, Some, None, Result, Ok, Err, refl, sym, ap, ◌∙◌, subst, arith, ◌==◌}
+use Rattle.std.proofs.Common.{◌≡◌, ℕ, zero, suc, ◌+◌, ◌-◌, ◌≤◌, Bool, true, false, cond, not, List, [], ◌∷◌, ◌++◌, length}
+use Rattle.std.proofs.Common.{Option, Some, None, Ok, refl, sym, ap, ◌∙◌, arith, ◌==◌}
 use Rattle.std.specs.Prelude.{if◌then◌else◌, nat_le, is_some}
 use Rattle.std.proofs.lemmas.Bool.Decides.{nat_tests}
 use Rattle.std.specs.Cmp.{nat_cmp_total}
@@ -14,17 +14,15 @@ use Rattle.bracha_instance.specs.declared.instance.Effect.TheVariants as effect
 use Rattle.role_sessions.proofs.Exported.{state_of-none, state_of-opened, state_of-activated, state_of-dropped}
 use Rattle.role_sessions.proofs.Exported.{state_of-closed}
 use Rattle.role_sessions.specs.Decisions.{Relations}
-use Rattle.role_sessions.specs.Refusals.{most_sessions, most_active_roles, is_active, open_due, activate_in, close_in}
-use Rattle.role_sessions.specs.Refusals.{activate_due, drop_due, close_due}
+use Rattle.role_sessions.specs.Refusals.{most_sessions, most_active_roles, open_due, activate_in, close_in}
+use Rattle.role_sessions.specs.Refusals.{activate_due, close_due}
 use Rattle.role_sessions.specs.Sessions.{Session, SessionState, state_of}
 use Rattle.role_sessions.specs.declared.event.ClientEvent.{ClientEvent}
 use Rattle.role_sessions.specs.declared.event.ClientEvent.TheVariants.{Open, Activate, DropRole, Close}
-use Rattle.role_sessions.specs.declared.faults.EndFault.{EndFault}
-use Rattle.role_sessions.specs.declared.faults.EndFault.TheVariants as end
 use Rattle.role_sessions.specs.declared.faults.SessionFault.{SessionFault}
 use Rattle.role_sessions.specs.declared.faults.SessionFault.TheVariants as session
 use Rattle.role_node.specs.Access.{relations_at, sessions_at}
-use Rattle.role_node.specs.Answers.{act_fault, or_counted, answer_due, is_recorded, IsLegal, outlook_with_room}
+use Rattle.role_node.specs.Answers.{act_fault, or_counted, answer_due, is_recorded, IsLegal}
 use Rattle.role_node.specs.Configs.{ConfigValue}
 use Rattle.role_node.specs.Faults.{of_session_fault}
 use Rattle.role_node.specs.Histories.{client_events}
@@ -181,8 +179,11 @@ pub few_next : (config : ConfigValue) (me : ℕ) (past : List Event) (e : Event)
 few_next config me past (event.Issue c) recorded few = omega (arith, open_count-Issue past c, few)
 few_next config me past (event.Take p) recorded few = omega (arith, open_count-Take past p, few)
 few_next config me past (event.Client act) recorded few =
-    omega (arith, open_count-Client past act,
-    few_after config me past act (not_refused config me past act recorded) few)
+    omega (
+      arith,
+      open_count-Client past act,
+      few_after config me past act (not_refused config me past act recorded) few,
+    )
 
 pub none_open : open_count [] ≡ 0
 none_open =
@@ -203,5 +204,8 @@ pub one_fewer_open : (config : ConfigValue) (me : ℕ) (past : List Event) (id u
 one_fewer_open config me past id user recorded =
     let none = not_refused config me past (Close id user) recorded in
     let due = none_mapped fault.End (close_due (sessions_at past) id user) none in
-    omega (arith, open_count-Client past (Close id user),
-    after_close (client_events past) id user (is_open _ user due))
+    omega (
+      arith,
+      open_count-Client past (Close id user),
+      after_close (client_events past) id user (is_open _ user due),
+    )

@@ -1,6 +1,6 @@
 -- The set of the owners, as one role more is looked up.
-use Rattle.std.proofs.Common.{◌≡◌, ℕ, zero, suc, ◌+◌, ◌<◌, Bool, true, false, ◌||◌, ◌&&◌, ◌==◌, List, [], ◌∷◌, ◌++◌}
-use Rattle.std.proofs.Common.{Option, Some, None, refl, sym, ap, ◌∙◌, arith, append-nil, IsTrue, nat_lt}
+use Rattle.std.proofs.Common.{◌≡◌, ℕ, zero, suc, ◌+◌, ◌<◌, Bool, true, false, ◌||◌, ◌&&◌, ◌==◌, [], ◌∷◌, ◌++◌}
+use Rattle.std.proofs.Common.{Some, None, refl, sym, ap, ◌∙◌, arith, append-nil, nat_lt}
 use Rattle.std.proofs.lemmas.Bool.{lt-ltb, eqb-true}
 use Rattle.std.proofs.lemmas.List.Elements.{filter_map-append}
 use Rattle.std.specs.Cmp.{nat_cmp_total}
@@ -12,7 +12,7 @@ use Rattle.quorum_sizes.specs.Sizes.{Counts}
 use Rattle.quorum_sizes.specs.NodeSets.{Nodes, AreNodes, nodes_among}
 use Rattle.quorum_sizes.proofs.Exported.{same_names, contains-insert, contains-nodes_among}
 use Rattle.role_commands.specs.Tables.{Table}
-use Rattle.owner_shares.specs.Shares.{owners_below, owners_of}
+use Rattle.owner_shares.specs.Shares.{owners_below}
 
 -- the owners, as one role more is looked up
 

@@ -1,5 +1,5 @@
 -- What a history consists of, and what one more event adds to what shares are about.
-use Rattle.std.proofs.Common.{◌≡◌, ℕ, ◌+◌, ◌<◌, true, List, [], ◌∷◌, ◌++◌, length, Result, Ok, Err, ap, ◌∙◌, arith}
+use Rattle.std.proofs.Common.{◌≡◌, ℕ, ◌+◌, true, List, [], ◌∷◌, ◌++◌, length, Result, Ok, Err, ap, ◌∙◌, arith}
 use Rattle.std.proofs.Common.{refl, length-append}
 use Rattle.std.specs.FinMap as map
 use Rattle.link_frames.specs.frames.Packets.{PacketValue}

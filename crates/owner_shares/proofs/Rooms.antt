@@ -1,5 +1,5 @@
 -- What has a share finds room.
-use Rattle.std.proofs.Common.{◌≡◌, ◌≢◌, ℕ, suc, ◌+◌, ◌<◌, ◌≤◌, ⊎_elim, Bool, true, false, not, List, [], ◌∷◌, ◌++◌}
+use Rattle.std.proofs.Common.{◌≡◌, ◌≢◌, ℕ, ◌+◌, ◌<◌, ◌≤◌, ⊎_elim, Bool, true, false, not, List, [], ◌∷◌, ◌++◌}
 use Rattle.std.proofs.Common.{length, take, Option, Some, None, Result, Ok, Err, refl, sym, ap, ◌∙◌, subst, arith}
 use Rattle.std.proofs.Common.{length-append}
 use Rattle.std.specs.Prelude.{if◌then◌else◌, nat_le, slice_get, option_map, IsTrue}
@@ -13,26 +13,24 @@ use Rattle.owner_streams.specs.Steps.{step_due, effect_due}
 use Rattle.owner_streams.specs.declared.steps.StreamFault.{StreamFault}
 use Rattle.owner_streams.specs.declared.steps.StreamFault.TheVariants as stream
 use Rattle.role_sessions.specs.Refusals.{open_due, activate_due, drop_due, close_due}
-use Rattle.role_sessions.specs.declared.event.ClientEvent.{ClientEvent}
 use Rattle.role_sessions.specs.declared.event.ClientEvent.TheVariants.{Open, Activate, DropRole, Close}
 use Rattle.role_sessions.specs.declared.faults.SessionFault.{SessionFault}
 use Rattle.role_sessions.specs.declared.faults.SessionFault.TheVariants as session
 use Rattle.role_sessions.specs.declared.faults.EndFault.{EndFault}
 use Rattle.role_node.specs.Access.{relations_at, sessions_at}
-use Rattle.role_node.specs.Answers.{issue_fault, take_outlook, act_fault, or_counted, is_routed, of_effect_due}
+use Rattle.role_node.specs.Answers.{or_counted, is_routed, of_effect_due}
 use Rattle.role_node.specs.Answers.{outlook, outlook_with_room, unless_full, answered, answer_due, reply_to, is_recorded}
 use Rattle.role_node.specs.Answers.{IsLegal}
 use Rattle.role_node.specs.Configs.{ConfigValue, most_events}
-use Rattle.role_node.specs.Faults.{of_stream_fault, of_session_fault}
+use Rattle.role_node.specs.Faults.{of_session_fault}
 use Rattle.role_node.specs.Histories.{packets}
 use Rattle.role_node.specs.declared.event.Event.{Event}
 use Rattle.role_node.specs.declared.event.Event.TheVariants as event
 use Rattle.role_node.specs.declared.event.Reply.{Reply}
-use Rattle.role_node.specs.declared.event.Reply.TheVariants as reply
 use Rattle.role_node.specs.declared.faults.NodeFault.{NodeFault}
 use Rattle.role_node.specs.declared.faults.NodeFault.TheVariants as fault
 use Rattle.role_node.proofs.Exported.{at_push, legal_within}
-use Rattle.owner_shares.specs.Laws.{AreSound, IsWithinShares, HasShare, FindsRoom, NeverFull}
+use Rattle.owner_shares.specs.Laws.{AreSound, IsWithinShares, HasShare, NeverFull}
 use Rattle.owner_shares.proofs.Short.{shares_hold}
 use Rattle.owner_shares.proofs.Stays.{spends}
 

@@ -1,6 +1,6 @@
 -- How long a history is that is within its shares.
 use Rattle.std.proofs.Common.{◌≡◌, ℕ, zero, suc, ◌+◌, ◌*◌, ◌/◌, ◌^◌, ◌<◌, ◌≤◌, ◌⊎◌, inl, inr, ⊎_elim, Bool, true, false, cond}
-use Rattle.std.proofs.Common.{List, [], ◌∷◌, ◌++◌, length, Result, Ok, Err, refl, sym, ap, ◌∙◌, subst, arith, ◌&&◌, ◌==◌}
+use Rattle.std.proofs.Common.{List, [], ◌∷◌, ◌++◌, length, Result, Ok, Err, refl, sym, ap, ◌∙◌, subst, arith}
 use Rattle.std.proofs.Common.{ltb-true}
 use Rattle.std.specs.Prelude.{if◌then◌else◌, nat_lt, count_by, slice_index_or, All}
 use Rattle.std.proofs.lemmas.Bool.{and_parts, and_from, lt-ltb, eq-eqb, cases_lt}
@@ -22,7 +22,7 @@ use Rattle.role_node.specs.declared.event.Event.TheVariants as event
 use Rattle.role_node.specs.declared.faults.NodeFault.{NodeFault}
 use Rattle.role_node.specs.declared.faults.NodeFault.TheVariants as fault
 use Rattle.role_node.proofs.Exported.{along_legal, packets-none, packets-Issue, packets-Take, packets-Client}
-use Rattle.owner_shares.specs.Laws.{AreSound, IsWithinShares, IsShort, is_before, open_count, SharesHold}
+use Rattle.owner_shares.specs.Laws.{AreSound, IsWithinShares, is_before, SharesHold}
 use Rattle.owner_shares.specs.Shares.{owners_of, owners_below, places_each, share, published_events}
 use Rattle.owner_shares.proofs.Bounded.{owner_is_bounded}
 use Rattle.owner_shares.proofs.Counting.{count_none, count_all, count_either, none_below}

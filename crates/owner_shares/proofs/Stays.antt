@@ -1,7 +1,7 @@
 -- A history stays within its shares: what the shares leave to the node, and it records, spends no more than there is.
 use Rattle.std.proofs.Common.{◌≡◌, ℕ, ◌+◌, ◌<◌, ◌≤◌, Bool, true, false, List, [], ◌∷◌, ◌++◌, length}
-use Rattle.std.proofs.Common.{Option, Some, None, Ok, refl, sym, ap, ◌∙◌, arith, ltb-true, not, ◌&&◌}
-use Rattle.std.specs.Prelude.{if◌then◌else◌, nat_le, nat_lt, All}
+use Rattle.std.proofs.Common.{Option, Some, None, Ok, refl, ap, arith, ltb-true, not, ◌&&◌}
+use Rattle.std.specs.Prelude.{if◌then◌else◌, nat_le, nat_lt}
 use Rattle.std.proofs.lemmas.Bool.Decides.{nat_tests}
 use Rattle.std.proofs.lemmas.List.Elements.{All-push, All-same, All-nil}
 use Rattle.link_frames.specs.frames.Packets.{PacketValue}
@@ -9,7 +9,6 @@ use Rattle.role_commands.specs.Rules.{role_of}
 use Rattle.role_commands.specs.Tables.{Table, owns}
 use Rattle.bracha_instance.specs.declared.instance.Effect.TheVariants as effect
 use Rattle.role_commands.specs.declared.command.Command.{Command}
-use Rattle.role_sessions.specs.Refusals.{most_sessions}
 use Rattle.role_sessions.specs.declared.event.ClientEvent.{ClientEvent}
 use Rattle.role_sessions.specs.declared.event.ClientEvent.TheVariants.{Open, Activate, DropRole, Close}
 use Rattle.role_node.specs.Answers.{or_counted, answer_due, is_recorded, IsLegal}
@@ -23,9 +22,9 @@ use Rattle.role_node.specs.declared.faults.NodeFault.TheVariants as fault
 use Rattle.role_node.proofs.Exported.{issued-Take, issued-Client, packets-Issue, packets-Take, packets-Client}
 use Rattle.role_node.proofs.Exported.{client_events-Issue, client_events-Take, issued-none, packets-none}
 use Rattle.role_node.proofs.Exported.{client_events-none}
-use Rattle.owner_shares.specs.Answers.{answer_of_shares, is_close}
+use Rattle.owner_shares.specs.Answers.{answer_of_shares}
 use Rattle.owner_shares.specs.Laws.{IsWithinShares, HasShare, open_count, SharesAreKept}
-use Rattle.owner_shares.specs.Shares.{share, share_in, shares_of, acts_share, clients_events}
+use Rattle.owner_shares.specs.Shares.{share, shares_of, acts_share, clients_events}
 use Rattle.owner_shares.specs.declared.answer.ShareAnswer.{ShareAnswer}
 use Rattle.owner_shares.specs.declared.answer.ShareAnswer.TheVariants.{Lost, Refused}
 use Rattle.owner_shares.proofs.Opened.{few_next, few_open, none_open, one_fewer_open}

@@ -1,5 +1,5 @@
 -- What the shares answer to an event, before the node is asked; where they answer nothing, the node does.
-use Rattle.std.specs.Prelude.{◌≡◌, ℕ, Bool, true, false, not, ◌&&◌, nat_le, nat_lt, if◌then◌else◌, length}
+use Rattle.std.specs.Prelude.{Bool, true, false, ◌&&◌, nat_le, nat_lt, if◌then◌else◌, length}
 use Rattle.std.specs.Prelude.{Option, Some, None}
 use Rattle.role_commands.specs.Rules.{role_of}
 use Rattle.role_commands.specs.Tables.{owns}

@@ -1,11 +1,10 @@
-use Rattle.std.proofs.Common.{◌≡◌, ◌≤◌, ◌<◌, ℕ, ◌+◌, Option, sym, ap, ◌∙◌, subst, arith}
+use Rattle.std.proofs.Common.{◌≡◌, ◌<◌, ℕ, Option, sym, ap, ◌∙◌, subst, arith}
 use Rattle.std.specs.Prelude.{IfSome}
 use Rattle.std.specs.FinSet as sets
-use Rattle.std.specs.FinSet.{contains-empty, len-empty}
+use Rattle.std.specs.FinSet.{len-empty}
 use Rattle.std.specs.Ordering.{nat_cmp}
 use Rattle.quorum_sizes.specs.NodeSets.{Nodes, AreNodes, nodes_among}
-use Rattle.quorum_sizes.specs.Sizes.{Counts, most_nodes}
-use Rattle.owner_shares.specs.Shares.{owners_of, owners_below}
+use Rattle.quorum_sizes.specs.Sizes.{Counts}
 use Rattle.owner_shares.proofs.Owners.{owners_to, owned, not_owned, none_owned, one_more_node, none_are_nodes, all_among}
 use Rattle.owner_shares.proofs.shares.owners_in.Goals as goal
 use Rattle.owner_shares.proofs.shares.owners_in.Goals.{in-Some, in_default}
