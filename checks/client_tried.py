@@ -230,7 +230,8 @@ def twice():
 
 
 def nothing_is_published_twice():
-    """Nothing goes out at an owner that has published less than is there or elsewhere; else it is read back."""
+    """Nothing goes out at an owner that has published less than is there or elsewhere, or says that it was begun twice;
+    else it is read back, and asked once more."""
     with twice() as (cluster, ports, issued):
         owner, others = cluster.nodes[0], ports[1:]
         with tundelca.Client(ports[0]) as client:
@@ -246,12 +247,27 @@ def nothing_is_published_twice():
             with votes_come(cluster, issued):
                 expect_twice(lambda: client.publish(NEW, 0, others, 1), '"assign"', '"deassign"')
             judge(len(issued) == 3, f"{len(issued)} went out")
+            finds_out_by_itself(client, owner, others)
         owner.on_status = owner.on_command = lambda _: {"error": "J4 UnknownOp"}  # as role_daemon answers
         issued.clear()
         owner.lacks = {}
         with tundelca.Client(ports[0]) as client:
             expect_twice(lambda: client.publish(NEW, 0, others, 1), "has published 0 of its commands, and 3 of them")
-    return "5 ways"
+    return "8 ways"
+
+
+def finds_out_by_itself(client, owner, others):
+    """The owner says that it was begun twice: before anything goes out, to a command, or once all was read back."""
+    whole, publish, looks = owner.on_status, owner.publish, []
+    owner.changed = {"published": 6, "reaches": [3, 0, 0, 0], "begun_twice": True}
+    expect_twice(lambda: client.publish(NEW, 0, others, 1), tundelca.OTHER_STREAM)
+    owner.changed["begun_twice"] = False
+    owner.publish = lambda _: {"error": tundelca.REFUSES}
+    expect_twice(lambda: client.publish(NEW, 0, others, 1), tundelca.REFUSES)
+    owner.on_status = lambda asked: looks.append(asked) or {**whole(asked), "begun_twice": len(looks) > 1}
+    expect_twice(lambda: client.publish([], 0, others, 1), tundelca.OTHER_STREAM)
+    judge(len(looks) == 2, f"{len(looks)} looks")
+    owner.on_status, owner.publish, owner.changed = whole, publish, {}
 
 
 @contextlib.contextmanager

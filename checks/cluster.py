@@ -17,7 +17,7 @@ import subprocess
 import tempfile
 import time
 from types import TracebackType
-from typing import Any, Dict, Iterable, List, Optional, Sequence, Tuple, Type
+from typing import Any, Dict, Iterable, List, Optional, Sequence, Set, Tuple, Type
 
 from paths import TOP  # noqa: F401  first, and for who has all of the house from here
 import tundelca
@@ -28,6 +28,7 @@ SEND, ECHO, READY = 1, 2, 3
 ROLE = 2  # of owner 0; that of owner k is ROLE + k
 PATIENCE = 20  # seconds
 LOOK = 0.005  # seconds between two tries to reach a node that was started
+LOOKED = 0.5  # seconds in which a node says at the end how it stands
 
 
 def assign(user: int, role: int = ROLE) -> bytes:
@@ -86,6 +87,7 @@ class Cluster:
         self.running: Dict[int, "subprocess.Popen[bytes]"] = {}
         self.forwarders: Optional[Forwarders] = None
         self.played: Optional[Played] = None
+        self.forgetful: Set[int] = set()  # the nodes that a script has had forget what they published
         self.begun: Dict[int, float] = {}  # of each node when it was started, by the monotonic clock
         self.folder = tempfile.TemporaryDirectory(prefix="tundelca-")
         try:
@@ -247,12 +249,28 @@ class Cluster:
 
     # Its end.
 
+    def expect_as_issued(self) -> None:
+        """Fails where a node that runs says that its stream isn't what it has published, and no script made that so."""
+        for me, process in self.running.items():
+            if process.poll() is None and me not in self.forgetful and not self.is_daemon():
+                try:
+                    with self.client(me, LOOKED) as node:
+                        is_twice = node.ask("status").get("begun_twice", False)
+                except tundelca.NodeFault:  # it is stopped, say, or has as many clients as it takes
+                    continue
+                if is_twice:
+                    raise AssertionError(f"node {me} says that it was begun twice")
+
     def __enter__(self) -> Any:
         return self
 
     def __exit__(self, kind: Optional[Type[BaseException]], fault: Optional[BaseException],
                  trace: Optional[TracebackType]) -> None:
-        self.end()
+        try:
+            if kind is None:
+                self.expect_as_issued()
+        finally:
+            self.end()
 
     def end(self) -> None:
         """Ends what was started, at once, and removes what was made."""

@@ -10,9 +10,9 @@ fifth is the script, which has keys: it offers two stories, and keeps every fram
 of each sender, kind, owner and place there is one command, over all lives; what was answered is there; no history gets
 shorter; all reaches agree in the end, without any `again`; and no restart takes more than a second. In torn a library
 (checks/tear.c) leaves only some bytes of what was not synced, as a loss of power may. The other cases are told at their
-functions, those of a node alone in journal_cases.py.
+functions, those of a node alone in journal_cases.py, those of an owner that was begun twice in begun_cases.py.
 
-Ends by itself, in two minutes if all goes well; all traffic is on 127.0.0.1, and only processes that were started here
+Ends by itself, in three minutes if all goes well; all traffic is on 127.0.0.1, and only processes that were started here
 are ended.
 """
 import contextlib
@@ -22,7 +22,8 @@ import time
 
 import runner
 from cluster import ROLE, tundelca
-from journal_cases import failing, full, refused, said
+from begun_cases import begun_twice, forgotten, same_again
+from journal_cases import damaged, failing, full, refused, said
 from lives import Lives, compiled
 from loads import Load, ask_on
 from runner import Failed
@@ -170,7 +171,8 @@ def crowded(program, rng, folder):
                 f"{told}; all delivered {took:.1f} s later")
 
 
-CASES = [said, refused, killed, torn, ended, broken, lonely, crowded, failing, full]
+CASES = [said, refused, damaged, killed, torn, ended, broken, lonely, crowded, failing, full, begun_twice, forgotten,
+         same_again]
 
 
 def cases(given):

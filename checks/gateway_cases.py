@@ -269,6 +269,8 @@ def before_a_node_that_fails():
             ({"peers": None}, "the node doesn't answer"),
             ({"published": 2, "reaches": [3, 0, 0, 0]}, "the node was begun twice"),
             ({"published": 3, "reaches": [3, 9, 0, 0]}, None),
+            ({"begun_twice": True}, "the node was begun twice"),
+            ({"begun_twice": False}, None),
             ({"journal": {**JOURNAL, "sound": 1}}, "the node doesn't answer"),
             ({"limit": 0}, "the node doesn't answer"),
             ({"journal": {**JOURNAL, "more": 1}, "more": 1}, None),

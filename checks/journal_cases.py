@@ -2,11 +2,13 @@
 import contextlib
 import json
 import os
+import re
 import resource
 import signal
 import subprocess
 import time
 
+import journals
 from cluster import PATIENCE, ROLE, Cluster, read_text, tundelca, write_text
 from lives import compiled
 from runner import Failed
@@ -214,6 +216,19 @@ def of_another(one):
     return len(others) + len(later)
 
 
+def damaged(program, rng, _):
+    """Each of D1 to D18 that can be made, with its status and of two that hold the first, so that damage is told as want
+    of memory nowhere; and what a crash may leave is read."""
+    with One(program, nodes=4) as one:
+        one.begin_life()
+        try:
+            if one.talk(3) != [0, 1, 2]:
+                raise Failed("commands aren't published")
+        finally:
+            one.kill(0)
+        return journals.tried(run, lambda word: one.words(0, word), one.journal_path, one.path)
+
+
 def contents(path):
     with open(path, "rb") as file:
         return file.read()
@@ -229,7 +244,8 @@ def damage(path, left):
 def said(program, rng, _):
     """Words: help and the version, and those that are refused; and what is said of a cluster file."""
     version, help_text = run([program, "--version"]), run([program, "--help"])
-    if version[0] or "kit rattle-kit" not in version[1] or "journal 1" not in version[1] or version[2]:
+    has_logic = re.search(r"(?m)^logic [0-9a-f]{16}$", version[1])
+    if version[0] or not has_logic or "journal 1" not in version[1] or version[2]:
         raise Failed(f"--version: {version}")
     if help_text[0] or not all(word in help_text[1] for word in ("serve", "journal", "check")):
         raise Failed(f"--help: {help_text}")

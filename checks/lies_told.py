@@ -102,6 +102,7 @@ def odd_standings(well):
             {**well, "reaches": [0] * 3}, {**well, "reaches": [10**18] * 4}, {**well, "sessions": 4_097},
             {**well, "published": 1 << 21}, {**well, "unopened": TOO_MUCH}, {**well, "journal": {}},
             {**well, "peers": [{**peer, "again": 1e18}, *well["peers"][1:]]}, {**well, "x": "x" * 66_000}]
+    more += [{**well, "begun_twice": odd} for odd in (None, 0, 1, "true", [True])]
     more += [{**well, "journal": {**journal, name: odd}} for name in journal for odd in ODD]
     more += [{**well, "peers": [{**peer, name: odd}, *well["peers"][1:]]} for name in peer for odd in ODD]
     yield from (b"{}\n" if not lie else lie for lie in LINES)

@@ -209,6 +209,7 @@ def journals_begun_twice(program):
     tools are red."""
     with Cluster(program, NODES, MAY_LIE, has_journals=True, waits=True) as nodes, \
             tempfile.TemporaryDirectory() as kept:
+        nodes.forgetful = {0}
         publish(nodes, GRANTED[:5])
         nodes.kill(0)
         put_back(nodes.journal(0), os.path.join(kept, "old"))

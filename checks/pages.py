@@ -1,5 +1,5 @@
 #!/usr/bin/env python3
-"""Holds the pages against the sources: checks/pages.py [list]
+"""Holds the pages against the sources: checks/pages.py [list | unsaid | write]
 
 README.md and docs/*.md may say what they have to; each crate's README.md has at most MOST_OF_CRATE words. What must not
 be lost has its place: each public call of a crate in the first column of a table of its README, each law under Laws
@@ -14,12 +14,20 @@ capitals, as in `src/NAME_tests.rt`, stand for anything; the wrong bodies of CON
 A page's first paragraph names its reader (READER). docs/data/*.md, lists that stand beside the pages, are held to links
 and names alone.
 
-With no word it prints the counts, or each fault, and fails at one. `list` prints each call, law and refusal.
+docs/PROOFS.md has, between two marks (MARKS), the public calls of which no clause says anything, since they have no
+`ensures`: those of libraries, and in a program those that its `main` calls, but for what rows and tests alone use.
+
+The kit has a name and a logic (`rt version`). README has both, and these are the kit's here; elsewhere the logic stands
+alone (WITH_LOGIC), since any kit of the same logic does.
+
+With no word it prints the counts, or each fault, and fails at one. `list` prints each call, law and refusal; `unsaid`
+prints what has to stand between the two marks, and `write` writes it there.
 """
 import fnmatch
 import functools
 import os
 import re
+import subprocess
 import sys
 from pathlib import Path
 
@@ -32,6 +40,9 @@ OWN_ROOMS = ("src/", "specs/", "proofs/", "must-fail/")
 TYPE = re.compile(r"(?<![\w./-])[A-Z]\w*[a-z]\w*(?:\.\.)?(?![\w/])")
 READER = re.compile(r"(?:^For|\bis for) (?:a |all )?(?:readers?|whoever|anybody|somebody|services|operators)\b")
 FILE = re.compile(r"[\w./*{},-]+\.(?:rt|antt|edit|py|md|c|service|css|js|html|png|stdout)\b")
+MARKS = "<!-- checks/pages.py unsaid -->\n", "<!-- up to here -->"
+WITH_LOGIC = ("README.md", "docs/PROOFS.md", "docs/CONTRIBUTING.md", "crates/tundelca/src/version.rt")
+TRIALS = ("row_lab", "serving_tests", "workloads")  # programs that only try or time others
 ASIDE = {  # what says nothing to the compiler, by a file's ending
     ".rt": r'//[^\n]*|"(?:[^"\\\n]|\\.)*"', ".c": r'//[^\n]*|"(?:[^"\\\n]|\\.)*"', ".antt": r"--[^\n]*",
     ".py": r'(?s)""".*?"""|#[^\n]*|"(?:[^"\\\n]|\\.)*"',
@@ -42,9 +53,34 @@ def words_of(path):
     return len(path.read_text(encoding="utf-8").split())
 
 
+def uses():
+    """Each crate, with those that it stands on."""
+    lines = [line.partition(":") for line in (TOP / "crates.txt").read_text().splitlines()
+             if line.strip() and not line.startswith("#")]
+    return {head.split()[0]: set(used.split()) for head, _, used in lines}
+
+
 def crates():
-    return [line.split(":")[0].split()[0] for line in (TOP / "crates.txt").read_text().splitlines()
-            if line.strip() and not line.startswith("#")]
+    return list(uses())
+
+
+def tried_alone():
+    """The crates that only serve to try others: programs that do, and what no crate but these stands on."""
+    return {crate for crate in uses() if crate in TRIALS or crate.endswith("_rows") or crate == "row_words"}
+
+
+def is_said(lines):
+    """Whether the function whose lines begin here has a clause that says what it ensures."""
+    depth = 0  # of braces in clauses
+    for line in lines:
+        bare = line.strip()
+        if depth == 0 and re.match(r"ensures\b", bare):
+            return True
+        if depth or re.match(r"(requires|ghost)\b", bare):
+            depth += bare.count("{") - bare.count("}")
+        elif bare.endswith(("{", ";", "}")):
+            break
+    return False
 
 
 class Source:
@@ -54,7 +90,8 @@ class Source:
         self.folder = TOP / "crates" / crate / "src"
         root = self.folder / "lib.rt"
         self.root = root if root.exists() else self.folder / "main.rt"
-        self.calls, self.laws, self.traits = set(), set(), set()
+        self.calls, self.laws, self.traits, self.unsaid = set(), set(), set(), set()
+        self.main = self.root.read_text() if self.root.stem == "main" else ""
         self.names = self.handed_out(self.root.read_text())
         for path in sorted(self.folder.rglob("*.rt")):
             self.read(path)
@@ -68,16 +105,17 @@ class Source:
         return names | set(re.findall(r"(?m)^pub mod (\w+);", text))
 
     def is_public(self, path):
-        """Whether the file is a public module, or lies in one."""
+        """Whether the file is a library's root, or a public module, or lies in one."""
         parts = path.relative_to(self.folder).with_suffix("").parts
-        return parts[0] in self.names
+        return parts[0] in self.names or parts[0] == "lib"
 
     def read(self, path):
         text = path.read_text(encoding="utf-8")
         if "#[test]" in text or path.stem.endswith(("tests", "trials", "help")):
             return
         is_law, holder = "laws" in path.relative_to(self.folder).with_suffix("").parts, None
-        for line in text.splitlines():
+        lines = text.splitlines()
+        for at, line in enumerate(lines):
             if found := re.match(r"(?:unsafe )?impl(?:<.*?>)? (?:.* for )?(\w+)", line):
                 holder = found.group(1)
             elif found := re.match(r"(pub )?trait (\w+)", line):
@@ -89,9 +127,14 @@ class Source:
                 indent, public, name = found.groups()
                 in_trait = holder in self.names and re.search(rf"(?m)^pub trait {holder}\b", text)
                 if indent and holder in self.names and (public or in_trait):
-                    self.calls.add(f"{holder}::{name}")
+                    name = f"{holder}::{name}"
+                    self.calls.add(name)
                 elif not indent and public and (name in self.names or self.is_public(path)):
                     (self.laws if is_law or name.startswith("law_") else self.calls).add(name)
+                elif indent or not (public and re.search(rf"\b{name}\(", self.main)):
+                    continue
+                if not is_said(lines[at:]):
+                    self.unsaid.add(name)
 
 
 def rows_of(text):
@@ -116,6 +159,54 @@ def crate_faults(crate):
         if not re.search(rf"`(?:\w+::)*{law}\b", laws):
             faults.append(f"the law {law} is not named")
     return [f"crates/{crate}/README.md: {fault}" for fault in faults]
+
+
+def unsaid():
+    """A table of the public calls of which no clause says anything, by crate."""
+    rows = ["|crate|public calls without a clause|", "|---|---|"]
+    for crate in crates():
+        if crate not in tried_alone() and (names := sorted(Source(crate).unsaid)):
+            told, before = [], ""
+            for name in names:
+                holder, _, own = name.rpartition("::")
+                told.append(f"`{own if holder and holder == before else name}`")
+                before = holder
+            rows.append(f"|`{crate}`|{', '.join(told)}|")
+    return "\n".join(rows) + "\n"
+
+
+def unsaid_faults():
+    """What differs where docs/PROOFS.md lists these calls."""
+    text = (TOP / "docs" / "PROOFS.md").read_text(encoding="utf-8")
+    listed = text.partition(MARKS[0])[2].partition(MARKS[1])[0].strip().splitlines()
+    due = unsaid().splitlines()
+    return [f"docs/PROOFS.md: between its marks {kind}: {row}" for kind, rows, others in
+            (("is wrong", listed, due), ("is missing", due, listed)) for row in rows if row not in others]
+
+
+def write_unsaid():
+    """Writes these calls into docs/PROOFS.md."""
+    path = TOP / "docs" / "PROOFS.md"
+    before, mark, rest = path.read_text(encoding="utf-8").partition(MARKS[0])
+    path.write_text(before + mark + unsaid() + rest[rest.index(MARKS[1]):], encoding="utf-8")
+
+
+def kit_faults():
+    """Where pages and programs name another kit or logic than the one that is here, or name the kit where they needn't."""
+    told = subprocess.run(["rt", "version"], capture_output=True, text=True, check=True).stdout
+    name, logic = re.fullmatch(r"(\S+) logic (\w+)\s*", told).groups()
+    faults = []
+    for path in WITH_LOGIC:
+        text = (TOP / path).read_text(encoding="utf-8")
+        if (named := set(re.findall(r"\b[0-9a-f]{16}\b", text))) != {logic}:
+            faults.append(f"{path}: names logic {', '.join(sorted(named)) or 'none'}, and the kit's is {logic}")
+    for path in [path for path in files() if path.endswith((".md", ".rt", ".py"))]:
+        named = set(re.findall(r"rattle-kit-\w+", (TOP / path).read_text(encoding="utf-8")))
+        if path == "README.md" and named != {name}:
+            faults.append(f"{path}: names {', '.join(sorted(named)) or 'no kit'}, and this is {name}")
+        elif path != "README.md" and named:
+            faults.append(f"{path}: names a kit, as README alone should")
+    return faults
 
 
 def refusals():
@@ -250,6 +341,11 @@ def main():
         for code, names in sorted(refusals().items()):
             print(f"refusal {code} {' '.join(sorted(names))}")
         return
+    if sys.argv[1:] == ["unsaid"]:
+        print(unsaid(), end="")
+        return
+    if sys.argv[1:] == ["write"]:
+        return write_unsaid()
     words = sum(map(words_of, PAGES))
     own = [TOP / "crates" / crate / "README.md" for crate in crates()]
     faults = []
@@ -259,7 +355,7 @@ def main():
         faults += link_faults(path) + [f"{path.relative_to(TOP)}: {fault}" for fault in absent(path)]
     for crate in crates():
         faults += crate_faults(crate)
-    faults += code_faults()
+    faults += code_faults() + unsaid_faults() + kit_faults()
     print("\n".join(faults) or f"pages: {words} words, {len(own)} crates, {len(refusals())} refusals")
     sys.exit(1 if faults else 0)
 

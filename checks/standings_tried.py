@@ -69,7 +69,8 @@ def states_are_told():
 def tells_twice(node, others):
     """Whether each tool tells that the node at this port was begun twice, by its own word or by those of others."""
     health = tool("health", node, "--of", *others, "--may-lie", 1, status=BEHIND)
-    judge(health.startswith("begun twice: node 0 has published ") and "begin the cluster anew" in health, health)
+    judge(re.match("begun twice: node 0 (?:has published|says that its stream) ", health), health)
+    judge("begin the cluster anew" in health, health)
     table = tool("status", node, *others, "--may-lie", 1, status=BEHIND)
     judge(re.search(r"(?m)^ +0 +\d+  begun twice ", table) and "begin the cluster anew" in table, table)
     text = tool("metrics", node, *others, "--may-lie", 1, status=BEHIND)
@@ -81,13 +82,15 @@ def tells_twice(node, others):
 
 
 def owners_are_overtaken():
-    """An owner whose stream is further, at itself or at a correct other, than it has published: each tool is red."""
+    """An owner whose stream is further, at itself or at a correct other, than it has published, or who says that it was
+    begun twice: each tool is red."""
     with playing() as (cluster, ports):
         owner, others = cluster.nodes[0], ports[1:]
-        for changed in ({"published": 2}, {"published": 299}, {"published": 299, "reaches": [0, 1, 0, 0]}):
+        for changed in ({"published": 2}, {"published": 299}, {"published": 299, "reaches": [0, 1, 0, 0]},
+                        {"begun_twice": True}):
             owner.changed = changed
             tells_twice(ports[0], others)
-        owner.changed = {"published": 299, "reaches": [299, 1, 0, 0]}
+        owner.changed = {"published": 299, "reaches": [299, 1, 0, 0], "begun_twice": False}
         for node in cluster.nodes[2:]:
             node.lacks = {0: 1}  # and so one other alone has more than it published: that one may lie
         tool("health", ports[0], "--of", *others, "--may-lie", 1)
@@ -111,7 +114,10 @@ def owners_are_overtaken():
         judge((status, json.loads(said)) == (BEHIND, ask) and "begin the cluster anew" in told, said + told)
         ask["reach"] = 6
         tool("ask", ports[0], "assign", "user=7", "role=2")
-    return "by itself, by others, and no more than it is"
+        owner.publish = lambda _: {"error": tundelca.REFUSES}
+        status, _, told = ended("ask", ports[0], "assign", "user=7", "role=2")
+        judge(status == BEHIND and tundelca.REFUSES in told and "begin the cluster anew" in told, told)
+    return "by itself, by others, by its own word, and no more than it is"
 
 
 def changes_are_told():

@@ -105,9 +105,8 @@ class Node:
                 self.ask("reach", owner=0)
                 return None
             status = self.ask("status")
-            me = status["peers"].index(None)
             heard = sum(peer is not None and peer["heard"] and peer["connected"] for peer in status["peers"])
-            if status["published"] < status["reaches"][me]:
+            if tundelca.found_twice(status):
                 return "the node was begun twice"
             if status["at"] >= status["limit"]:
                 return "the node is full"

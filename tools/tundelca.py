@@ -120,6 +120,22 @@ def beyond_published(published, here, elsewhere):
     return f"has published {published:,} of its commands, and {more}"
 
 
+REFUSES = "F6 BegunTwice"  # to each command, from a node that has found out by itself
+OTHER_STREAM = "says that its stream is another than it has published"
+
+
+def found_twice(status, elsewhere=0):
+    """In words that a node was begun twice, by its answer to `status`, as no correct node says; else None.
+
+    It says so by itself where its own stream, as the others' votes bring it back, isn't what it has published. A node
+    of before has no such member, and doesn't say it.
+    """
+    if status.get("begun_twice", False):
+        return OTHER_STREAM
+    me = status["peers"].index(None)
+    return beyond_published(status["published"], status["reaches"][me], elsewhere)
+
+
 class BegunTwice(Unfinished):
     """The owner has spoken before and doesn't know it: others have voted at the places that it gives its commands."""
 
@@ -258,8 +274,10 @@ STATUS = at_least({"at": EVENTS + 1, "journal": or_none(JOURNAL), "limit": EVENT
 
 
 def is_status(value, request):
-    """How a node stands: its parts fit together, and one of its peers is itself."""
-    return STATUS(value, request) and value["peers"].count(None) == 1 and \
+    """How a node stands: its parts fit together, and one of its peers is itself. Nodes of before don't say whether they
+    were begun twice."""
+    return STATUS(value, request) and FLAG(value.get("begun_twice", False), request) and \
+        value["peers"].count(None) == 1 and \
         len(value["peers"]) == len(value["reaches"]) and value["at"] <= value["limit"] > 0
 
 
@@ -517,7 +535,8 @@ class Client:
         what the remaining nodes have delivered, and at the end they have delivered all, and each stands in the owner's
         stream at the place that it was given. Raises `Unfinished` where a command is refused, where nothing moves for
         `patience` seconds, and `deadline` seconds after the begin; and `BegunTwice` where the owner has been further
-        than it has published, before anything goes out, or where another command stands at such a place.
+        than it has published, before anything goes out, where another command stands at such a place, and where the
+        owner says that it was begun twice, before, meanwhile or behind all that.
 
         Where their order doesn't matter, as of assignments and grants alone, `in_order` = False has many go out at
         once. `told` is called with how many are published, now and then.
@@ -693,7 +712,7 @@ class Publication:
         me = status["peers"].index(None)
         if me != self.owner:
             raise Unreachable(f"the node at port {self.node.port} says that it is node {me}, and not {self.owner}")
-        if seen := beyond_published(status["published"], status["reaches"][me], elsewhere):
+        if seen := found_twice(status, elsewhere):
             self.twice(seen)
 
     def elsewhere(self):
@@ -706,7 +725,8 @@ class Publication:
         raise BegunTwice(self.node.port, self.owner, self.done(), seen)
 
     def read_back(self):
-        """Sees that each command stands at its place in the owner's stream. A node of role_daemon can't be asked."""
+        """Sees that each command stands at its place in the owner's stream, and that the owner, which may have found
+        out meanwhile, doesn't say that it was begun twice. A node of role_daemon can't be asked."""
         for first in range(0, len(self.given) if self.can_tell else 0, TOGETHER):
             some = self.given[first:first + TOGETHER]
             until = min(time.monotonic() + self.patience, self.deadline)
@@ -714,6 +734,8 @@ class Publication:
             for (place, command), stands in zip(some, there):
                 if stands is None or any(command.get(name) != value for name, value in stands.items()):
                     self.twice(f"has {json.dumps(stands)} at place {place:,}, where it published {json.dumps(command)}")
+        if self.can_tell and (seen := found_twice(self.node.ask("status"))):
+            self.twice(seen)
 
     def issue(self, commands, most, told):
         """Has the commands published as soon as they may be, at most so many at once. `told` hears how many are."""
@@ -739,6 +761,8 @@ class Publication:
                     taken = taken or beyond_published(place, before, 0) or beyond_published(place + 1, reach, 0)
                 elif answer["error"] == "F3 Busy":
                     busy.append(command)
+                elif answer["error"] == REFUSES:
+                    taken = taken or f"answers {REFUSES}"
                 else:
                     refused = refused or Refused(command, answer)
         if taken is not None:

@@ -16,8 +16,8 @@ def add(steps):
   tundelca-ctl metrics 7400 > node.prom      says it once
 
 Nodes are asked at each scrape, for so long as --patience says. One that is away has tundelca_up 0, and
-nothing else. The status is 2 where one is away, and 1 where one is begun twice: more of its own commands are there
-than it has published, and what is published at it is lost.""")
+nothing else. The status is 2 where one is away, and 1 where one is begun twice: it says so, or more of its own
+commands are there than it has published. What is published at it is lost.""")
     one.add_argument("nodes", nargs="+", type=nodes.node, metavar="NODE", help="a client port, or a cluster file")
     one.add_argument("--port", type=int, metavar="P", help="serve it at this port of 127.0.0.1; 0 takes a free one")
     one.add_argument("--may-lie", type=int, metavar="F", help="how many may, by which others' word counts of a node "
@@ -102,7 +102,7 @@ def text(seen, took):
     lines += family("node_info", "gauge", "The name of the node at a client port.", names)
     lines += family("behind_commands", "gauge", "Commands that the node lacks and another of these has.",
                     [({"port": port}, behind(it, most)) for port, it in answer])
-    lines += family("begun_twice", "gauge", "1 where more of the node's own commands are there than it has published.",
+    lines += family("begun_twice", "gauge", "1 where the node's own stream isn't what it has published.",
                     [({"port": one.node.port}, int(one.begun_twice() is not None)) for one in seen
                      if one.standing is not None and one.standing.published is not None])
     for name, kind, help, samples in NODE_METRICS:

@@ -55,7 +55,8 @@ class Standing:
     """What a node says of itself. Where it is no `tundelca`, only `at` and `reaches` are known.
 
     `at` is the length of its history, of at most `limit` events; `reaches` how many commands of each owner it has
-    delivered; `me` its name, `published` how many commands it has issued, `sessions` how many are open.
+    delivered; `me` its name, `published` how many commands it has issued, `sessions` how many are open; `is_twice`
+    whether it says that it was begun twice.
     """
 
     at: int
@@ -67,6 +68,7 @@ class Standing:
     journal: Optional[Journal] = None
     peers: Optional[list] = None
     unopened: int = 0
+    is_twice: bool = False
 
     def others(self):
         """The peers that it speaks of, without itself."""
@@ -114,10 +116,13 @@ class Seen:
         return None if self.node.text is None else self.node.text["me"]
 
     def begun_twice(self):
-        """In words that more of its commands are there than it has published, as of no correct node; else None."""
+        """In words that it says so, or that more of its commands are there than it has published, as of no correct
+        node; else None."""
         it = self.standing
         if it is None or it.me is None:
             return None
+        if it.is_twice:
+            return tundelca.OTHER_STREAM
         return tundelca.beyond_published(it.published, it.reaches[it.me], self.elsewhere)
 
     def __str__(self):
@@ -129,7 +134,7 @@ def standing_of(answer):
     peers = [row and Peer(*(row[field.name] for field in fields(Peer))) for row in answer["peers"]]
     journal = answer["journal"] and Journal(*(answer["journal"][field.name] for field in fields(Journal)))
     return Standing(answer["at"], answer["limit"], answer["reaches"], peers.index(None), answer["published"],
-                    answer["sessions"], journal, peers, answer["unopened"])
+                    answer["sessions"], journal, peers, answer["unopened"], answer.get("begun_twice", False))
 
 
 def standing(client, until=None):

@@ -68,6 +68,8 @@ def ask(given):
     with tundelca.Client(given.node.port, given.patience) as client:
         [answer] = client.ask_all([{"op": given.op, **dict(given.members)}])
     twice = "issued" in answer and tundelca.beyond_published(answer["issued"] + 1, answer["reach"], 0)
+    if answer.get("error") == tundelca.REFUSES:
+        twice = f"answers {tundelca.REFUSES}"
     status, answer = REFUSED if "error" in answer else DONE, json.dumps(answer)
     print(answer)
     if twice:

@@ -40,8 +40,8 @@ frames do, --watch tells.""")
   tundelca-ctl health node0.json --of 7401 7402 7403 --lag 100
 
 A node is behind where it lacks more commands than one of the others has said to have, hears too few peers,
-has a full history, or can't write its journal. It is begun twice where more of its own commands are there than it
-has published: what is published at it is lost.""")
+has a full history, or can't write its journal. It is begun twice where it says so, or more of its own commands are
+there than it has published: what is published at it is lost.""")
     one.add_argument("node", type=nodes.node, metavar="NODE", help="a client port, or a cluster file")
     one.add_argument("--of", nargs="+", type=nodes.node, default=[], metavar="NODE", help="others to compare it with")
     one.add_argument("--lag", type=int, default=FEW, metavar="N", help="how many commands it may lack (%(default)s)")

@@ -89,8 +89,9 @@ impl<D: Disk> Journal<D> {
     ///
     /// # Errors
     ///
-    /// The files are handed back. `SecondFile`, `Unopened`, `NotBlank`, `Device`, `Memory`. What a crash then leaves
-    /// may be a journal with no batch, or none.
+    /// The files are handed back. The first that holds of `SecondFile`, `Unopened` and `NotBlank`, in whose place, and
+    /// where it would succeed, there may be `Memory`; `Device` wherever a call of the disk fails. What a crash then
+    /// leaves may be a journal with no batch, or none.
     pub fn begin(
         alloc: Global,
         files: Files<D>,
@@ -150,8 +151,9 @@ impl<D: Disk> Journal<D> {
     ///
     /// # Errors
     ///
-    /// The files are handed back. `SecondFile`, `Unopened`, then what is wrong with the head, `Damaged`, `Device`,
-    /// `Memory`. What a crash then leaves stands for the same as the file did.
+    /// The files are handed back. The first that holds of `SecondFile`, `Unopened` and what is wrong with the head or a
+    /// batch (`Damaged`), in whose place, and where it would succeed, there may be `Memory`; `Device` wherever a call of
+    /// the disk fails. What a crash then leaves stands for the same as the file did.
     pub fn open(
         alloc: Global,
         files: Files<D>,

@@ -11,6 +11,8 @@ ghost use Rattle.batch_journal.specs.Journals as journals;
 ghost use Rattle.batch_journal.specs.Journals.{Records, IsSame};
 ghost use Rattle.batch_journal.specs.Readings.{room_behind};
 ghost use Rattle.batch_journal.specs.declared.fault.JournalFault.TheVariants as journal_fault;
+ghost use Rattle.role_node.specs.Begun.{is_begun_twice};
+ghost use Rattle.role_node.specs.Histories.{issued};
 ghost use Rattle.role_node.specs.Nodes.{IsLegalNode};
 ghost use Rattle.node_lock.specs.Holds.{end_of, Fits, receipt_of};
 ghost use Rattle.node_lock.specs.Views.{node_count, view_of, held_after_hold, seat_after_hold, IsHoldFault};
@@ -141,6 +143,23 @@ impl<L: Ledger, D: Disk> Kept<L, D> {
         ensures node { self.now.held.node.me < node_count self.now.held }
     {
         self.locked.me()
+    }
+
+    /// Whether the history shows that the node was begun twice ([`Node::is_begun_twice`]), with what is not yet synced.
+    pub fn is_begun_twice(&self) -> bool
+        ensures value { let node = self.now.held.node in
+            result ≡ is_begun_twice node.config.roles.sizes node.me node.history }
+        ensures crash { Survives D.Disk.may_leave D.Disk.is_clean self.now }
+    {
+        self.locked.node().is_begun_twice()
+    }
+
+    /// How many commands the node has published, with those that are not yet synced.
+    pub fn published(&self) -> u32
+        ensures value { result ≡ length (issued self.now.held.node.history) }
+        ensures crash { Survives D.Disk.may_leave D.Disk.is_clean self.now }
+    {
+        self.locked.node().published()
     }
 
     /// Whether so many events wait for a sync that no hold is made before it.

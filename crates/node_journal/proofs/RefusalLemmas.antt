@@ -2,7 +2,7 @@
 use Rattle.std.proofs.Common.{◌≡◌, ◌⊎◌, ℕ, Bool, List, inl, inr, sym, subst}
 use Rattle.sqlite_disk.specs.Disk.{MoreFaults}
 use Rattle.sqlite_disk.specs.declared.files.Files.{Files}
-use Rattle.batch_journal.specs.Faults.{IsNotBegun, IsRefused}
+use Rattle.batch_journal.specs.Faults.{IsAlone, IsNotBegun, IsRefused}
 use Rattle.batch_journal.specs.declared.fault.JournalFault.{JournalFault}
 use Rattle.batch_journal.specs.declared.fault.JournalFault.TheVariants as fault
 use Rattle.batch_journal.specs.declared.head.Head.{Head}
@@ -40,15 +40,16 @@ module _ {D : Type 0} (seen : D → List ℕ) (faults : D → ℕ) (is_clean is_
   not_restored key config me old (Illegal place journal) why = (journal.disk, place, why)
   not_restored key config me old (Memory journal) why = tt
 
-  -- where the bytes behind the batches were not read
+  -- where the bytes behind the batches were not read, of a journal beside which the file is empty
   pub not_read : (key : List ℕ) (config : ConfigValue) (me : ℕ) (old new : Files D) (head : Head)
-      (e : JournalFault) (before : ℕ) (P : Type 0) → IsHeadOf config me head → before ≡ faults old.db → P →
+      (e : JournalFault) (before : ℕ) (P : Type 0) → IsHeadOf config me head →
+      IsAlone seen faults is_clean is_mixing old new → before ≡ faults old.db → P →
       (e ≡ fault.Memory) ⊎ ((e ≡ fault.Device) × (P → MoreFaults before (faults new.db))) →
       IsNotRestored seen faults is_clean is_mixing key config me old (Journal e)
-  not_read key config me old new head e before P names same holds why =
+  not_read key config me old new head e before P names alone same holds why =
       let Q : JournalFault → Type 0 = λ e. IsNotRestored seen faults is_clean is_mixing key config me old (Journal e) in
       elim why [
         | inl memory ↦ subst Q (sym memory) tt
         | inr device ↦ subst Q (sym device.0)
-            (new, head, names, inr (inl (subst (λ n. MoreFaults n (faults new.db)) same (device.1 holds))))
+            (new, head, names, inr (alone, inl (subst (λ n. MoreFaults n (faults new.db)) same (device.1 holds))))
       ]

@@ -48,6 +48,14 @@ impl<L: Ledger + Send + Sync, D: Disk> HeldNode for Journaled<L, D> {
         self.kept.has(name)
     }
 
+    fn is_begun_twice(&self) -> bool {
+        self.kept.is_begun_twice()
+    }
+
+    fn published(&self) -> u32 {
+        self.kept.published()
+    }
+
     fn must_sync(&self) -> bool {
         self.kept.is_full()
     }

@@ -88,11 +88,12 @@ connected now peer a =
       dues = map (λ due. min due now) a.dues;
     })
 
--- when a peer that was due then is probed next: one that is due now is probed now
+-- when a peer's probes that were due then are due next: where they are due now, an interval later. That one was gathered
+-- this doesn't say.
 abbrev pub next_probe : ℕ → ℕ → ℕ
 next_probe now due = if nat_le due now then now + probe_interval else due
 
--- a peer is probed, if it is due
+-- a peer's probes have had their time, if they were due
 abbrev pub probed : ℕ → ℕ → PairsValue → PairsValue
 probed now peer a =
     record a { probes = slice_set a.probes peer (next_probe now (slice_index_or a.probes peer never)) }

@@ -34,7 +34,8 @@ pub record AreKept (me : ℕ) (messages : List Message) (old new : List PacketVa
   pub count : ℕ
   pub kept : new ≡ old ++ own_packets me (take count messages)
 
--- The pairs were looked at, with these rooms, and those are probed that were due, unless no more is gathered at once.
+-- The pairs were looked at, with these rooms, and probes that were due are due later, unless no more is gathered at
+-- once. That a probe was gathered this doesn't say.
 pub record AreSeen (h : Held) (now me : ℕ) (again : List PacketValue) (rooms : List (Option ℕ)) (had owed : OwedValue)
     (old new : PairsValue) : Type 0 where
   pub before : List (Option ℕ)

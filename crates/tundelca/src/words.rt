@@ -1,7 +1,7 @@
 //! The words after the program's name.
 
 use crate::fault::WordsFault;
-use crate::version::{JOURNAL_VERSION, KIT, VERSION};
+use crate::version::{JOURNAL_VERSION, LOGIC, VERSION};
 use clap::error::ErrorKind;
 use clap::{Arg, ArgAction, ArgMatches, Command, Error};
 use std::alloc::{AllocError, Global};
@@ -43,7 +43,7 @@ pub enum Keeping {
 ///
 /// `Refused` where the program has no such words, with what is wrong, and `Memory`.
 pub fn read_words(alloc: Global, words: Vec<String>) -> Result<Words, WordsFault> {
-    let version = format!(in alloc; "{VERSION}\nkit {KIT}\njournal {JOURNAL_VERSION}")?;
+    let version = format!(in alloc; "{VERSION}\nlogic {LOGIC}\njournal {JOURNAL_VERSION}")?;
     let all = with_name(alloc, &words)?;
     let program = program(alloc, version.as_str())?;
     match program.try_get_matches_from(all.as_slice()) {

@@ -26,7 +26,7 @@ returns-in_err-is_torn-clause-why g c =
     rw (p.1, p.2) (not_read g.D.Disk.seen g.D.Disk.faults g.D.Disk.is_clean g.D.Disk.is_mixing c.args.key.now
     c.args.config c.args.me c.args.files.now (record { log = c.read.new.files.log; db = c.has_bytes.new.file })
     c.in_ok-head.head c.in_err-is_torn.field-0.0 (g.D.Disk.faults read) _ c.in_ok-head.ensures.names
-    c.in_ok-found.ensures.faults whole c.in_err-is_torn.ensures.why)
+    c.in_ok-found.ensures.alone c.in_ok-found.ensures.faults whole c.in_err-is_torn.ensures.why)
 
 pub returns-in-Ok-clause-sight : goal.returns-in-Ok-clause-sight
 returns-in-Ok-clause-sight g c clean =

@@ -1,0 +1,9 @@
+pub mod Owners
+pub mod Parts
+pub mod Opened
+pub mod Stays
+pub mod Counting
+pub mod Bounded
+pub mod Short
+pub mod Rooms
+pub mod Exported

@@ -1,0 +1,6 @@
+//! Clusters whose correct nodes are within their shares: laws alone.
+//!
+//! `specs/Laws.antt` has them.
+#![tactic(auto)]
+
+pub mod laws;
