@@ -1,5 +1,5 @@
 -- What is told of a node.
-use Rattle.std.specs.Prelude.{ℕ, List, length, map}
+use Rattle.std.specs.Prelude.{ℕ, false, List, length, map}
 use Rattle.std.specs.List.{range_with_len}
 use Rattle.std.specs.FinMap as finite
 use Rattle.role_sessions.specs.Listed.{listed_from}
@@ -21,6 +21,7 @@ abbrev pub standing_at : NodeValue → NodeStanding
 standing_at node =
     record {
       at = length node.history;
+      begun_twice = false;
       limit = node.config.limit;
       published = length (issued node.history);
       sessions = finite.len (sessions_at node.history).open_sessions;
