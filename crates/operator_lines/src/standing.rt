@@ -41,7 +41,7 @@ pub fn standing_of(alloc: Global, node: &Node) -> Result<NodeStanding, AllocErro
     let reaches = reaches_of(alloc, node)?;
     Ok(NodeStanding {
         at: node.events(),
-        begun_twice: false,
+        begun_twice: node.is_begun_twice(),
         limit: node.config().limit(),
         published: node.published(),
         sessions: node.open_count(),

@@ -3,6 +3,7 @@
 ghost use Rattle.std.specs.Prelude.{◌≡◌, ◌≤◌, ◌↔◌, ◌<◌, Bool, false, IsTrue, IfOk, IfErr, IfSome, OnOk, OnErr, OnSome};
 ghost use Rattle.std.specs.Prelude.{◌⊎◌, ℕ, option_map, Some, IfNone, IsOk, IsSome, true, map, length};
 ghost use Rattle.std.specs.Option.{option_copied};
+ghost use Rattle.role_node.specs.Begun.{is_begun_twice};
 ghost use Rattle.role_node.specs.Histories.{issued};
 ghost use Rattle.node_lock.specs.Holds.{end_of, Held};
 ghost use Rattle.node_lock.specs.Receipts.{outcome_due};
@@ -67,6 +68,11 @@ pub trait HeldNode {
     /// How many commands the node has published.
     fn published(&self) -> u32
         ensures { result ≡ length (issued (held self.now).node.history) };
+
+    /// Whether the history shows that the node was begun twice, as [`Node::is_begun_twice`] does.
+    fn is_begun_twice(&self) -> bool
+        ensures { result ≡ is_begun_twice (held self.now).node.config.roles.sizes (held self.now).node.me
+            (held self.now).node.history };
 
     /// Whether so much is recorded that a [`sync`](Self::sync) has to come before the next hold.
     fn must_sync(&self) -> bool
@@ -230,6 +236,10 @@ impl<L: Ledger + Send + Sync> HeldNode for Locked<L> {
 
     fn published(&self) -> u32 {
         Locked::node(self).published()
+    }
+
+    fn is_begun_twice(&self) -> bool {
+        Locked::node(self).is_begun_twice()
     }
 
     fn must_sync(&self) -> bool {

@@ -36,8 +36,8 @@ impl HoldRules {
 }
 
 /// Whether the node was begun twice, as its history shows or its peers do.
-fn shows_begun_twice<N: HeldNode>(ahead: &VotesAhead, _node: &N) -> bool
-    ensures { result ≡ shows_begun_twice ahead.now (N.held _node.now).node }
+fn shows_begun_twice<N: HeldNode>(ahead: &VotesAhead, node: &N) -> bool
+    ensures { result ≡ shows_begun_twice ahead.now (N.held node.now).node }
 {
-    ahead.are_enough()
+    node.is_begun_twice() || ahead.are_enough()
 }
