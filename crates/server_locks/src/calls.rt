@@ -1,6 +1,6 @@
 //! Making the call of the next job, and hearing what came of it.
 
-ghost use Rattle.std.specs.Prelude.{◌≡◌, ◌≤◌, ◌<◌, ◌⊎◌, ◌×◌, None, Some, is_some, vec_len, IsTrue, IsFalse};
+ghost use Rattle.std.specs.Prelude.{◌≡◌, ◌≤◌, ◌<◌, None, is_some, vec_len, IsTrue, IsFalse};
 ghost use Rattle.std.specs.Option.{option_copied};
 ghost use Rattle.std.specs.Vec.{vec_capacity};
 ghost use Rattle.node_lock.specs.Holds.{end_of};
