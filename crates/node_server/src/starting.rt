@@ -140,14 +140,7 @@ fn crew_of<'a, N: HeldNode, K: FrameKeys, R: Clock>(
     let hold_rules = HoldRules {
         begun_twice: site.operators,
     };
-    let front = Front::new(
-        alloc,
-        sizes,
-        me,
-        hold_rules,
-        most_batch::<N>(),
-        millis(rt),
-    )?;
+    let front = Front::new(alloc, sizes, me, hold_rules, most_batch::<N>(), millis(rt))?;
     Ok(Crew {
         idle,
         front: Some(front),

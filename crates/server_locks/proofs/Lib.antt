@@ -1,3 +1,4 @@
+mod CallLemmas
 mod FrontLemmas
 mod OpenedLemmas
 mod RequestLemmas
