@@ -2,6 +2,7 @@
 
 ghost use Rattle.std.specs.Prelude.{◌≡◌, ◌<◌, ℕ, List, Option, IfSome, option_map};
 ghost use Rattle.std.specs.Result.{result_ok};
+ghost use Rattle.quorum_sizes.specs.Sizes.{Counts};
 ghost use Rattle.link_frames.specs.frames.Opening.{open_due};
 ghost use Rattle.link_frames.specs.frames.Packets.{PacketValue};
 ghost use Rattle.link_frames.specs.declared.frames.packet.Message.{Message};
@@ -20,9 +21,13 @@ pub struct PeerName {
 
 /// The keys and sizes by which a node's frames open and are sealed.
 ///
-/// Contracts see which packet a frame opens as (`opened`), which frame a message to a node gets (`sealed`), and whose
-/// packet one is (`peer_of`).
+/// Contracts see whose they are (`owner`) and in a cluster of which sizes (`sized`), which packet a frame opens as
+/// (`opened`), which frame a message to a node gets (`sealed`), and whose packet one is (`peer_of`).
 pub trait FrameKeys {
+    ghost owner: { Self → ℕ };
+
+    ghost sized: { Self → Counts };
+
     ghost opened: { Self → List ℕ → Option PacketValue };
 
     ghost sealed: { Self → ℕ → Message → Option (List ℕ) };
@@ -30,10 +35,12 @@ pub trait FrameKeys {
     ghost peer_of: { Self → PacketValue → PeerName };
 
     /// The node itself.
-    fn me(&self) -> NodeName;
+    fn me(&self) -> NodeName
+        ensures { result ≡ owner self.now };
 
     /// The sizes of its cluster.
-    fn sizes(&self) -> Sizes;
+    fn sizes(&self) -> Sizes
+        ensures { result ≡ sized self.now };
 
     /// The packet of a frame to this node, if it opens.
     fn open(&self, frame: &Frame) -> Option<Packet>
@@ -67,7 +74,9 @@ impl ClusterKeys {
         requires own { keys.me ≡ me }
         requires node { me < sizes.nodes }
         ensures keys { result.keys ≡ keys }
+        ensures sizes { result.sizes ≡ sizes }
         ensures cluster { result.cluster ≡ cluster }
+        ensures me { result.me ≡ me }
     {
         ClusterKeys {
             keys,
@@ -82,6 +91,10 @@ impl FrameKeys for ClusterKeys {
     ghost use Rattle.std.specs.Result.{result_ok};
     ghost use Rattle.link_frames.specs.frames.Opening.{open_due};
     ghost use Rattle.frame_queues.specs.Sealed.{frame_due};
+
+    ghost owner = { λ k. k.keys.me };
+
+    ghost sized = { λ k. k.keys.sizes };
 
     ghost opened = { λ k f. result_ok (open_due k.keys k.cluster f) };
 

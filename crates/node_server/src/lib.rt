@@ -65,7 +65,8 @@ pub struct Site {
     /// After so long a client that sends nothing is closed.
     pub idle: Duration,
     /// Whether the lines of operators are answered, beside those of clients. Then a connection of clients begins with
-    /// `{`; else one that does not begin as an HTTP request is a client's.
+    /// `{`; else one that does not begin as an HTTP request is a client's. And then a command at a node that was begun
+    /// twice is refused.
     pub operators: bool,
 }
 

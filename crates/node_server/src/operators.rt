@@ -1,6 +1,6 @@
 //! What an operator hears of the node.
 
-ghost use Rattle.std.specs.Prelude.{◌≡◌, IfSome};
+ghost use Rattle.std.specs.Prelude.{◌≡◌, true, IfSome};
 
 use crate::server::Server;
 use frame_queues::FrameKeys;
@@ -38,17 +38,21 @@ impl<N: HeldNode, K: FrameKeys, R: Wait + Clock> Server<'_, N, K, R> {
         answer
     }
 
-    /// How the node stands, with its journal and its peers.
+    /// How the node stands, with its journal and its peers. It was begun twice where its history or its peers show it.
     fn with_links(&self, status: Status) -> Option<Status>
-        ensures { IfSome result (λ s. s.node ≡ status.node) }
+        ensures node { IfSome result (λ s.
+            s.node ≡ record status.node { begun_twice = s.node.begun_twice }) }
+        ensures begun_twice { status.node.begun_twice ≡ true → IfSome result (λ s. s.node.begun_twice ≡ true) }
     {
+        let mut node = status.node;
+        node.begun_twice |= *self.votes_ahead.lock(self.rt);
         let mut peers = self.peer_standings().ok()?;
         let heard = self.heard.lock(self.rt);
         heard.add_to(&mut peers, millis(self.rt));
         let unopened = heard.unopened;
         drop(heard);
         Some(Status {
-            node: status.node,
+            node,
             journal: self.journal_standing(),
             peers: Items::new(peers),
             unopened,

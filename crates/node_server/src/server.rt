@@ -41,6 +41,8 @@ pub struct Server<'a, N: HeldNode, K: FrameKeys, R> {
     pub operators: bool,
     pub syncs: Mutex<SyncTally>,
     pub heard: Mutex<Heard>,
+    /// Whether more peers than may lie have voted ahead of what the node has published.
+    pub votes_ahead: Mutex<bool>,
 }
 
 impl<N: HeldNode, K: FrameKeys, R: Wait + Clock> Server<'_, N, K, R> {

@@ -5,11 +5,11 @@ use crate::credits::Credits;
 use crate::crew::Crew;
 use crate::server::Server;
 use crate::workers::Worker;
-use frame_queues::{FrameKeys, Limits, MOST_CLIENTS};
+use frame_queues::{FrameKeys, MOST_CLIENTS};
 use mio::Waker;
 use node_lock::Seat;
 use served_node::{Heard, HeldNode, SyncTally, millis};
-use server_locks::{Alarm, Front, JobQueue, Outbox, Slot, TicketLock, most_batch};
+use server_locks::{Alarm, Front, HoldRules, JobQueue, Outbox, Slot, TicketLock, most_batch};
 use std::alloc::{AllocError, Global};
 use std::net::SocketAddr;
 use std::sync::{Condvar, Mutex};
@@ -65,6 +65,7 @@ pub fn server_of<'a, N: HeldNode + Drop, K: FrameKeys + Drop, R: Clock>(
         operators: site.operators,
         syncs: Mutex::new(SyncTally::new()),
         heard: Mutex::new(beside.heard),
+        votes_ahead: Mutex::new(false),
     })
 }
 
@@ -81,7 +82,7 @@ fn beside_of<'a, N: HeldNode, K: FrameKeys, R: Clock>(
     let idle = workers_of(alloc, seats, queues, keys.sizes().n())?;
     Ok(Beside {
         view_seat,
-        crew: crew_of(rt, alloc, idle, keys, site.limits)?,
+        crew: crew_of(rt, alloc, idle, keys, site)?,
         outboxes: outboxes_of(alloc, keys, &site.addresses)?,
         slots,
         heard: Heard::new(alloc, keys.sizes().n())?,
@@ -133,16 +134,26 @@ fn crew_of<'a, N: HeldNode, K: FrameKeys, R: Clock>(
     alloc: Global,
     idle: Vec<Worker<'a, N>>,
     keys: &K,
-    limits: Limits,
+    site: &Site,
 ) -> Result<Crew<'a, N>, AllocError> {
     let (sizes, me) = (keys.sizes(), keys.me());
-    let front = Front::new(alloc, sizes, me, most_batch::<N>(), millis(rt))?;
+    let hold_rules = HoldRules {
+        begun_twice: site.operators,
+    };
+    let front = Front::new(
+        alloc,
+        sizes,
+        me,
+        hold_rules,
+        most_batch::<N>(),
+        millis(rt),
+    )?;
     Ok(Crew {
         idle,
         front: Some(front),
         jobs: false,
         connected: Vec::with_capacity(alloc, usize::from(sizes.n()))?,
-        credits: Credits::new(alloc, limits.places(sizes.n(), me.index()))?,
+        credits: Credits::new(alloc, site.limits.places(sizes.n(), me.index()))?,
         alarm: Alarm::new(),
         failed: false,
         ended: false,

@@ -9,7 +9,7 @@ use frame_queues::{Caller, FrameKeys};
 use link_frames::{Frame, Message, Packet};
 use node_lock::Seat;
 use peer_windows::{NEVER, Owed};
-use served_node::{HeldNode, NotKept, Said, millis};
+use served_node::{Ending, HeldNode, NotKept, Said, millis};
 use server_locks::{Done, Front, JobQueue, Purpose, hear, keep, make_next, most_batch};
 use std::alloc::{AllocError, Global};
 use std::mem;
@@ -135,15 +135,15 @@ impl<'a, N: HeldNode> Worker<'a, N> {
         front.tell_by = NEVER;
         for done in self.untold.drain(..) {
             let done = hear(node, &mut self.seat, front, done, now);
-            note_message(&mut self.sending.messages, done.said.as_ref());
+            note_message(&mut self.sending.messages, &done.ending);
             let _ = self.told.push(done);
         }
     }
 }
 
-/// Notes the message that what was said has the node send to all, if there is one.
-fn note_message(messages: &mut Vec<Message>, said: Option<&Said>) {
-    if let Some(said) = said {
+/// Notes the message that what a hold said has the node send to all, if there is one.
+fn note_message(messages: &mut Vec<Message>, ending: &Ending<Said>) {
+    if let Ending::Held(said) = ending {
         if let Some(message) = said.message() {
             let _ = messages.push(message);
         }
@@ -168,7 +168,9 @@ impl<'a, N: HeldNode, K: FrameKeys, R: Wait + Clock> Server<'a, N, K, R> {
     ) -> bool {
         let now = millis(self.rt);
         let mut node = self.node.lock(self.rt);
-        match worker.take(self, &mut *node, front, now, in_turn) {
+        let taken = worker.take(self, &mut *node, front, now, in_turn);
+        self.note_votes(front.votes_are_ahead());
+        match taken {
             Ok(is_left) => {
                 let (seat, owed) = (&mut worker.seat, &mut worker.sending.owed);
                 // what a fault leaves out is looked at again, or lost, as on any network
@@ -192,6 +194,13 @@ impl<'a, N: HeldNode, K: FrameKeys, R: Wait + Clock> Server<'a, N, K, R> {
         }
     }
 
+    /// Notes for those who look at the node that more peers than may lie have voted ahead of what it has published.
+    fn note_votes(&self, are_ahead: bool) {
+        if are_ahead {
+            *self.votes_ahead.lock(self.rt) = true;
+        }
+    }
+
     /// Sends what a worker's calls have the node send, and tells the clients what was said to their lines.
     pub fn send_and_tell(&self, worker: &mut Worker<'a, N>) {
         let sending = &mut worker.sending;
@@ -209,11 +218,11 @@ impl<'a, N: HeldNode, K: FrameKeys, R: Wait + Clock> Server<'a, N, K, R> {
         match done.caller {
             Caller::Client { slot, line } => {
                 if let Some(slot) = self.slots.get(slot as usize) {
-                    slot.tell(self.rt, line, done.said);
+                    slot.tell(self.rt, line, done.ending);
                 }
             }
             Caller::Peer { place, connection } => {
-                note_packet(heard, place, connection, done.said.as_ref());
+                note_packet(heard, place, connection, &done.ending);
             }
             Caller::Nobody => {}
         }
@@ -221,17 +230,13 @@ impl<'a, N: HeldNode, K: FrameKeys, R: Wait + Clock> Server<'a, N, K, R> {
 }
 
 /// Notes that a packet of a connection has counted, or found no memory.
-fn note_packet(heard: &mut Vec<Noted>, place: u32, connection: u16, said: Option<&Said>) {
-    let has_memory = said.is_some();
-    match said {
-        Some(said) if !said.has_counted() => {}
-        _ => {
-            let _ = heard.push(Noted {
-                place,
-                connection,
-                has_memory,
-            });
-        }
+fn note_packet(heard: &mut Vec<Noted>, place: u32, connection: u16, ending: &Ending<Said>) {
+    if let Some(has_memory) = ending.counted() {
+        let _ = heard.push(Noted {
+            place,
+            connection,
+            has_memory,
+        });
     }
 }
 

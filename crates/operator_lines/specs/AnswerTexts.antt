@@ -5,8 +5,10 @@ use Rattle.std.specs.List.{join_by}
 use Rattle.role_commands.specs.declared.command.Command as commands
 use Rattle.role_commands.specs.declared.command.Command.TheVariants as command
 use Rattle.operator_lines.specs.Members.{member_name}
-use Rattle.operator_lines.specs.Faults.{operator_fault_text, named_member}
+use Rattle.operator_lines.specs.Faults.{operator_fault_text, serving_fault_text, named_member}
+use Rattle.operator_lines.specs.declared.fault.ServingFault.{ServingFault}
 use Rattle.operator_lines.specs.declared.member.OperatorMember.{OperatorMember}
+use Rattle.operator_lines.specs.declared.standing.NodeStanding.{NodeStanding}
 use Rattle.operator_lines.specs.declared.answer.JournalStanding as journals
 use Rattle.operator_lines.specs.declared.answer.PeerStanding as peers
 use Rattle.operator_lines.specs.declared.answer.Status as statuses
@@ -33,15 +35,24 @@ peer_text p =
     ++ codes ",\"heard\":" ++ flag_text p.heard ++ codes ",\"lost\":" ++ decimal p.lost
     ++ codes ",\"unopened\":" ++ decimal p.unopened ++ codes ",\"waiting\":" ++ decimal p.waiting ++ codes "}"
 
+-- a node's first members
+abbrev pub front_text : NodeStanding → List ℕ
+front_text n = codes "{\"at\":" ++ decimal n.at ++ codes ",\"begun_twice\":" ++ flag_text n.begun_twice
+
+-- how far streams have come, and how many sessions are open
+abbrev pub streams_text : NodeStanding → List ℕ
+streams_text n =
+    codes ",\"published\":" ++ decimal n.published
+    ++ codes ",\"reaches\":[" ++ join_by decimal (codes ",") n.reaches
+    ++ codes "],\"sessions\":" ++ decimal n.sessions
+
 abbrev pub status_text : statuses.Status → List ℕ
 status_text s =
-    codes "{\"at\":" ++ decimal s.node.at
+    front_text s.node
     ++ codes ",\"journal\":" ++ or_null journal_text s.journal
     ++ codes ",\"limit\":" ++ decimal s.node.limit
     ++ codes ",\"peers\":[" ++ join_by (or_null peer_text) (codes ",") s.peers
-    ++ codes "],\"published\":" ++ decimal s.node.published
-    ++ codes ",\"reaches\":[" ++ join_by decimal (codes ",") s.node.reaches
-    ++ codes "],\"sessions\":" ++ decimal s.node.sessions
+    ++ codes "]" ++ streams_text s.node
     ++ codes ",\"unopened\":" ++ decimal s.unopened ++ codes "}"
 
 abbrev pub user_text : List ℕ → ℕ → ℕ → List ℕ
@@ -83,3 +94,7 @@ operator_text (Status status) = status_text status
 operator_text (Command command) = codes "{\"command\":" ++ or_null command_text command ++ codes "}"
 operator_text (Sessions at sessions) = sessions_text at sessions
 operator_text (BadLine fault) = error_text (operator_fault_text fault) (named_member fault)
+
+-- a server's refusal of a client's line
+abbrev pub refused_text : ServingFault → List ℕ
+refused_text fault = error_text (serving_fault_text fault) None

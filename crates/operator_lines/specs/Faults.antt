@@ -2,6 +2,8 @@
 use Rattle.std.specs.Prelude.{ℕ, List, codes, Option, Some, None}
 use Rattle.operator_lines.specs.declared.fault.OperatorFault.{OperatorFault}
 use Rattle.operator_lines.specs.declared.fault.OperatorFault.TheVariants.{Missing, OutOfRange, Memory}
+use Rattle.operator_lines.specs.declared.fault.ServingFault.{ServingFault}
+use Rattle.operator_lines.specs.declared.fault.ServingFault.TheVariants.{BegunTwice}
 use Rattle.operator_lines.specs.declared.member.OperatorMember.{OperatorMember}
 
 abbrev pub operator_fault_text : OperatorFault → List ℕ
@@ -14,3 +16,6 @@ abbrev pub named_member : OperatorFault → Option OperatorMember
 named_member (Missing member) = Some member
 named_member (OutOfRange member) = Some member
 named_member Memory = None
+
+abbrev pub serving_fault_text : ServingFault → List ℕ
+serving_fault_text BegunTwice = codes "F6 BegunTwice"

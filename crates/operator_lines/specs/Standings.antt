@@ -4,6 +4,7 @@ use Rattle.std.specs.List.{range_with_len}
 use Rattle.std.specs.FinMap as finite
 use Rattle.role_sessions.specs.Listed.{listed_from}
 use Rattle.role_node.specs.Nodes.{NodeValue}
+use Rattle.role_node.specs.Begun.{is_begun_twice}
 use Rattle.role_node.specs.Histories.{issued}
 use Rattle.role_node.specs.Access.{reach_at, sessions_at}
 use Rattle.operator_lines.specs.declared.standing.NodeStanding.{NodeStanding}
@@ -21,6 +22,7 @@ abbrev pub standing_at : NodeValue → NodeStanding
 standing_at node =
     record {
       at = length node.history;
+      begun_twice = is_begun_twice node.config.roles.sizes node.me node.history;
       limit = node.config.limit;
       published = length (issued node.history);
       sessions = finite.len (sessions_at node.history).open_sessions;

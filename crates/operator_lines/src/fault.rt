@@ -1,4 +1,4 @@
-//! Why an operator's line is no request.
+//! Why an operator's line is no request, and why a server refuses a client's.
 
 ghost use Rattle.std.specs.Prelude.{◌≡◌};
 ghost use Rattle.operator_lines.specs.Faults.{named_member};
@@ -58,3 +58,26 @@ impl From<AllocError> for OperatorFault {
         OperatorFault::Memory
     }
 }
+
+/// Why a server refuses a client's line that its node alone would take. Written as its code and its name.
+#[derive(Clone, Copy, Debug, PartialEq, Eq)]
+pub enum ServingFault {
+    /// The node was begun twice: it started without what it had published before, so what it published since is not
+    /// what its own stream says, and another command would be lost as well.
+    BegunTwice,
+}
+
+impl fmt::Display for ServingFault {
+    ghost use Rattle.std.specs.Prelude.{Some};
+    ghost use Rattle.operator_lines.specs.Faults.{serving_fault_text};
+
+    ghost output = { λ fault. Some (serving_fault_text fault) };
+
+    fn fmt<W: fmt::Write>(&self, f: &mut fmt::Formatter<W>) -> fmt::Result {
+        f.write_str(match self {
+            ServingFault::BegunTwice => "F6 BegunTwice",
+        })
+    }
+}
+
+impl Error for ServingFault {}

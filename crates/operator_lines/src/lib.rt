@@ -13,9 +13,9 @@ mod standing;
 mod text;
 
 pub use answer::{JournalStanding, OperatorAnswer, PeerStanding, Status, SyncTimes};
-pub use fault::OperatorFault;
+pub use fault::{OperatorFault, ServingFault};
 pub use laws::clients_know_none;
 pub use member::OperatorMember;
 pub use request::{MOST_PLACE, OperatorRequest, read_operator};
 pub use standing::{MOST_SESSIONS, NodeStanding, command_at, sessions_of, standing_of};
-pub use text::operator_text;
+pub use text::{operator_text, refused_text};

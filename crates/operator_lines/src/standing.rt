@@ -18,6 +18,8 @@ pub const MOST_SESSIONS: usize = 100;
 pub struct NodeStanding {
     /// How many events it has recorded.
     pub at: u32,
+    /// Whether it was begun twice, as its own stream shows.
+    pub begun_twice: bool,
     /// How many it may record.
     pub limit: u32,
     /// How many commands it has published.
@@ -39,6 +41,7 @@ pub fn standing_of(alloc: Global, node: &Node) -> Result<NodeStanding, AllocErro
     let reaches = reaches_of(alloc, node)?;
     Ok(NodeStanding {
         at: node.events(),
+        begun_twice: node.is_begun_twice(),
         limit: node.config().limit(),
         published: node.published(),
         sessions: node.open_count(),

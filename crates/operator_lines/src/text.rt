@@ -5,7 +5,8 @@ ghost use Rattle.std.specs.List.{join_by};
 ghost use Rattle.operator_lines.specs.AnswerTexts as texts;
 
 use crate::answer::{JournalStanding, OperatorAnswer, PeerStanding, Status};
-use crate::fault::OperatorFault;
+use crate::fault::{OperatorFault, ServingFault};
+use crate::standing::NodeStanding;
 use itoa::Buffer;
 use role_commands::Command;
 use std::alloc::{AllocError, Global};
@@ -28,24 +29,53 @@ pub fn operator_text(alloc: Global, answer: &OperatorAnswer) -> Result<String, A
     }
 }
 
+/// The text of a server's refusal of a client's line, its line's end left out.
+///
+/// # Errors
+///
+/// Only for want of memory.
+pub fn refused_text(alloc: Global, fault: ServingFault) -> Result<String, AllocError>
+    ensures { IfOk result (λ text. string_bytes text ≡ texts.refused_text fault) }
+{
+    format!(in alloc; "{{\"error\":\"{fault}\"}}")
+}
+
 fn status_text(alloc: Global, status: &Status) -> Result<String, AllocError>
     ensures { IfOk result (λ text. string_bytes text ≡ texts.status_text status.now) }
 {
     let node = &status.node;
     let mut text = String::new(alloc);
-    add_number(&mut text, "{\"at\":", u64::from(node.at))?;
+    add_front(&mut text, node)?;
     text.push_str(",\"journal\":")?;
     status.journal.add_to(&mut text)?;
     add_number(&mut text, ",\"limit\":", u64::from(node.limit))?;
     text.push_str(",\"peers\":[")?;
     add_items(&mut text, status.peers.as_slice())?;
-    add_number(&mut text, "],\"published\":", u64::from(node.published))?;
-    text.push_str(",\"reaches\":[")?;
-    add_items(&mut text, node.reaches.as_slice())?;
-    add_number(&mut text, "],\"sessions\":", u64::from(node.sessions))?;
+    text.push_str("]")?;
+    add_streams(&mut text, node)?;
     add_number(&mut text, ",\"unopened\":", status.unopened)?;
     text.push_str("}")?;
     Ok(text)
+}
+
+/// Adds a node's first members.
+fn add_front(text: &mut String, node: &NodeStanding) -> Result<(), AllocError>
+    ensures { OnOk result (string_bytes text.new ≡ string_bytes text.old ++ texts.front_text node.now) }
+{
+    add_number(text, "{\"at\":", u64::from(node.at))?;
+    add_flag(text, ",\"begun_twice\":", node.begun_twice)?;
+    Ok(())
+}
+
+/// Adds how far streams have come, and how many sessions are open.
+fn add_streams(text: &mut String, node: &NodeStanding) -> Result<(), AllocError>
+    ensures { OnOk result (string_bytes text.new ≡ string_bytes text.old ++ texts.streams_text node.now) }
+{
+    add_number(text, ",\"published\":", u64::from(node.published))?;
+    text.push_str(",\"reaches\":[")?;
+    add_items(text, node.reaches.as_slice())?;
+    add_number(text, "],\"sessions\":", u64::from(node.sessions))?;
+    Ok(())
 }
 
 /// Adds a journal's members.

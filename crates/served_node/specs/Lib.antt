@@ -1,5 +1,6 @@
 pub mod Answers
 pub mod Counts
+pub mod Endings
 pub mod Heard
 pub mod Holds
 pub mod Sent

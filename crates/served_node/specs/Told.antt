@@ -1,35 +1,55 @@
 -- The answers to the lines of a client, and of an operator.
 use Rattle.std.specs.Prelude.{ℕ, ◌≡◌, ◌≤◌, List, [], length, take, slice_get, All, Option, None, Some, IfSome}
-use Rattle.std.specs.Prelude.{IsTrue, is_some}
+use Rattle.std.specs.Prelude.{⊤, IsTrue, is_some, option_map}
 use Rattle.std.specs.List.{flat_map}
 use Rattle.link_frames.specs.lines.Lines.{ended}
 use Rattle.client_lines.specs.AnswerTexts.{answer_text, IsWritten}
-use Rattle.client_lines.specs.declared.answer.ClientAnswer.{ClientAnswer}
 use Rattle.role_node.specs.Access.{stream_at}
 use Rattle.role_node.specs.Nodes.{NodeValue}
+use Rattle.operator_lines.specs.AnswerTexts.{refused_text}
 use Rattle.operator_lines.specs.Standings.{standing_at, sessions_from}
 use Rattle.operator_lines.specs.declared.answer.OperatorAnswer.{OperatorAnswer}
 use Rattle.operator_lines.specs.declared.answer.OperatorAnswer.TheVariants as answer
 use Rattle.operator_lines.specs.declared.request.OperatorRequest.{OperatorRequest}
 use Rattle.operator_lines.specs.declared.request.OperatorRequest.TheVariants.{Status, Command, Sessions}
+use Rattle.served_node.specs.Served.{served_said}
+use Rattle.served_node.specs.declared.ending.Ending.{Ending}
+use Rattle.served_node.specs.declared.ending.Ending.TheVariants as ending
+use Rattle.served_node.specs.declared.said.Said.{Said}
+use Rattle.served_node.specs.declared.told.LineAnswer.{LineAnswer}
+use Rattle.served_node.specs.declared.told.LineAnswer.TheVariants as line
+
+-- what a client hears of what came of the job of its line: of a hold what it said, else why there was none
+abbrev pub answer_to : Ending Said → Option LineAnswer
+answer_to (ending.Held said) = option_map line.Node (served_said said)
+answer_to (ending.Refused fault) = Some (line.Refused fault)
+answer_to ending.Nothing = None
+
+abbrev pub line_text : LineAnswer → List ℕ
+line_text (line.Node answer) = answer_text answer
+line_text (line.Refused fault) = refused_text fault
 
 -- the line that a client reads, if there is an answer
-abbrev pub line_due : Option ClientAnswer → List ℕ
+abbrev pub line_due : Option LineAnswer → List ℕ
 line_due None = []
-line_due (Some answer) = ended (answer_text answer)
+line_due (Some answer) = ended (line_text answer)
 
 -- the lines that a client reads, one after the other
-abbrev pub lines_due : List (Option ClientAnswer) → List ℕ
+abbrev pub lines_due : List (Option LineAnswer) → List ℕ
 lines_due answers = flat_map line_due answers
 
 -- each of so many lines, the first, has an answer
-pub record AreAnswered (lines : ℕ) (answers : List (Option ClientAnswer)) : Type 0 where
+pub record AreAnswered (lines : ℕ) (answers : List (Option LineAnswer)) : Type 0 where
   pub many : lines ≤ length answers
   pub each : All (λ a. IsTrue (is_some a)) (take lines answers)
 
 -- an answer that can be written, if there is one
-abbrev pub IsWrittenIfAny : Option ClientAnswer → Type 0
-IsWrittenIfAny answer = IfSome answer IsWritten
+abbrev pub IsLine : LineAnswer → Type 0
+IsLine (line.Node answer) = IsWritten answer
+IsLine (line.Refused fault) = ⊤
+
+abbrev pub IsLineIfAny : Option LineAnswer → Type 0
+IsLineIfAny answer = IfSome answer IsLine
 
 -- how the node stands, beside which its links are told
 abbrev pub IsStatusOf : NodeValue → OperatorAnswer → Type 0

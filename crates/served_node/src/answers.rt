@@ -9,7 +9,7 @@ ghost use Rattle.served_node.specs.Answers as answers;
 
 use client_lines::{ClientAnswer, answer_text};
 use link_frames::Held;
-use operator_lines::{OperatorAnswer, operator_text};
+use operator_lines::{OperatorAnswer, ServingFault, operator_text, refused_text};
 use role_commands::Command;
 use role_node::{Answer, NodeAgain};
 use std::alloc::{AllocError, Global};
@@ -56,6 +56,19 @@ pub fn hold_operator_answer(
     ensures same { OnErr result (held.new ≡ held.old) }
 {
     let text = operator_text(alloc, answer)?;
+    held.push_line(text.as_str())
+}
+
+/// Holds the text of a server's refusal behind the lines that are held.
+///
+/// # Errors
+///
+/// Only for want of memory. What is held stays as it was.
+pub fn hold_refusal(alloc: Global, held: &mut Held, fault: ServingFault) -> Result<(), AllocError>
+    ensures ok { OnOk result (held.new ≡ held.old ++ ended (operator_texts.refused_text fault)) }
+    ensures same { OnErr result (held.new ≡ held.old) }
+{
+    let text = refused_text(alloc, fault)?;
     held.push_line(text.as_str())
 }
 

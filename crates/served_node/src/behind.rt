@@ -1,8 +1,10 @@
 //! What is behind a serving node's lock.
 
 ghost use Rattle.std.specs.Prelude.{◌≡◌, ◌≤◌, ◌↔◌, ◌<◌, Bool, false, IsTrue, IfOk, IfErr, IfSome, OnOk, OnErr, OnSome};
-ghost use Rattle.std.specs.Prelude.{◌⊎◌, ℕ, option_map, Some, IfNone, IsOk, IsSome, true, map};
+ghost use Rattle.std.specs.Prelude.{◌⊎◌, ℕ, option_map, Some, IfNone, IsOk, IsSome, true, map, length};
 ghost use Rattle.std.specs.Option.{option_copied};
+ghost use Rattle.role_node.specs.Begun.{is_begun_twice};
+ghost use Rattle.role_node.specs.Histories.{issued};
 ghost use Rattle.node_lock.specs.Holds.{end_of, Held};
 ghost use Rattle.node_lock.specs.Receipts.{outcome_due};
 ghost use Rattle.node_lock.specs.Views.{node_count, view_of, held_after_hold, seat_after_hold, IsHoldFault};
@@ -62,6 +64,15 @@ pub trait HeldNode {
     /// Whether the name is a node's of the sizes of the node.
     fn has(&self, name: NodeName) -> bool
         ensures { IsTrue result ↔ (name < node_count (held self.now)) };
+
+    /// How many commands the node has published.
+    fn published(&self) -> u32
+        ensures { result ≡ length (issued (held self.now).node.history) };
+
+    /// Whether the history shows that the node was begun twice, as [`Node::is_begun_twice`] does.
+    fn is_begun_twice(&self) -> bool
+        ensures { result ≡ is_begun_twice (held self.now).node.config.roles.sizes (held self.now).node.me
+            (held self.now).node.history };
 
     /// Whether so much is recorded that a [`sync`](Self::sync) has to come before the next hold.
     fn must_sync(&self) -> bool
@@ -221,6 +232,14 @@ impl<L: Ledger + Send + Sync> HeldNode for Locked<L> {
 
     fn has(&self, name: NodeName) -> bool {
         Locked::has(self, name)
+    }
+
+    fn published(&self) -> u32 {
+        Locked::node(self).published()
+    }
+
+    fn is_begun_twice(&self) -> bool {
+        Locked::node(self).is_begun_twice()
     }
 
     fn must_sync(&self) -> bool {

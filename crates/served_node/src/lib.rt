@@ -9,6 +9,7 @@
 pub mod answers;
 mod asked;
 mod behind;
+mod ending;
 mod heard;
 mod owed;
 mod said;
@@ -17,8 +18,9 @@ mod told;
 
 pub use asked::node_answer;
 pub use behind::{HeldNode, NotKept, make_call, taken_packet};
+pub use ending::Ending;
 pub use heard::{Heard, PeerHeard};
 pub use owed::{frames_to, owed_to};
 pub use said::Said;
 pub use tally::{SyncTally, micros, millis};
-pub use told::Told;
+pub use told::{LineAnswer, Told};

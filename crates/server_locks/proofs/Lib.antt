@@ -1,4 +1,3 @@
-mod CallLemmas
 mod FrontLemmas
 mod OpenedLemmas
 mod RequestLemmas

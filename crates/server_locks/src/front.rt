@@ -12,10 +12,13 @@ ghost use Rattle.server_locks.specs.Fronts.{all_connected, is_due, own_packets, 
 ghost use Rattle.server_locks.specs.Jobs.{told_by};
 ghost use Rattle.server_locks.specs.Rooms.{AreRooms};
 ghost use Rattle.server_locks.specs.NextJobs.{IsNextJob};
+ghost use Rattle.server_locks.specs.VotesAhead.{nobody_ahead, are_enough};
 
+use crate::hold_rules::HoldRules;
 use crate::job_queue::JobQueue;
 use crate::outbox::Outbox;
 use crate::rooms::find_rooms;
+use crate::votes_ahead::VotesAhead;
 use frame_queues::{Caller, FirstPackets};
 use link_frames::{Message, Packet};
 use node_lock::{Call, Job, Outcome, Seat, StepFault};
@@ -23,7 +26,7 @@ use owner_streams::WINDOW;
 use peer_windows::{ENOUGH_ROOM, NEVER, Owed, Pairs, Share};
 use quorum_sizes::{NodeName, Sizes};
 use role_node::{Event, NodeFault, Reply};
-use served_node::{HeldNode, owed_to};
+use served_node::{Ending, HeldNode, owed_to};
 use std::alloc::{AllocError, Global};
 use std::collections::VecDeque;
 use std::mem;
@@ -41,13 +44,12 @@ pub fn most_batch<N: HeldNode>() -> usize
 /// For how many milliseconds it waits at most to be told what has the node send nothing, and no client waits for.
 const LONGEST_UNTOLD: u64 = 10;
 
-/// A job whose call was made, and what the hold said; nothing for want of memory, and where the seat does not fit the
-/// node.
+/// A job that is done: who waits for it, the packet that it had the node take, and what came of it.
 #[derive(Drop)]
 pub struct Done<U> {
     pub caller: Caller,
     pub packet: Option<Packet>,
-    pub said: Option<U>,
+    pub ending: Ending<U>,
 }
 
 /// What the worker has that takes jobs: what comes before the inbox, the pairs of owners and peers, and what holds have
@@ -62,12 +64,15 @@ pub struct Front<U> {
     has_grown: bool,
     /// The peers to which there is a new connection.
     pub connected: Vec<NodeName>,
-    /// Jobs whose calls were made, before what they recorded is kept, and when that is at the latest, in milliseconds.
+    /// Jobs that are done, before what they recorded is kept, and when that is at the latest, in milliseconds.
     pub untold: Vec<Done<U>>,
     pub tell_by: u64,
     /// How many frames each node takes.
     rooms: Vec<Option<u32>>,
-    me: NodeName,
+    pub(crate) me: NodeName,
+    /// Which calls get no hold, and who has voted ahead of what the node has published, by which that goes too.
+    pub(crate) hold_rules: HoldRules,
+    pub(crate) ahead: VotesAhead,
 }
 
 impl<U: Drop> Front<U> {
@@ -80,6 +85,7 @@ impl<U: Drop> Front<U> {
         alloc: Global,
         sizes: Sizes,
         me: NodeName,
+        hold_rules: HoldRules,
         most: usize,
         now: u64,
     ) -> Result<Front<U>, AllocError>
@@ -95,6 +101,8 @@ impl<U: Drop> Front<U> {
         ensures tell_by { IfOk result (λ f. f.tell_by ≡ never) }
         ensures rooms { IfOk result (λ f. vec_len f.rooms ≡ sizes.nodes) }
         ensures me { IfOk result (λ f. f.me ≡ me) }
+        ensures hold_rules { IfOk result (λ f. f.hold_rules ≡ hold_rules) }
+        ensures ahead { IfOk result (λ f. f.ahead ≡ nobody_ahead sizes me) }
     {
         Ok(Front {
             first: FirstPackets::new(alloc, sizes.n())?,
@@ -106,14 +114,9 @@ impl<U: Drop> Front<U> {
             tell_by: NEVER,
             rooms: Vec::from_elem(alloc, None, usize::from(sizes.n()))?,
             me,
+            hold_rules,
+            ahead: VotesAhead::new(&sizes, me),
         })
-    }
-
-    /// The node itself.
-    pub(crate) fn me(&self) -> NodeName
-        ensures { result ≡ self.now.me }
-    {
-        self.me
     }
 
     /// The next job: a packet that comes first, else one that the node sends to itself once more, else what waits in
@@ -138,7 +141,7 @@ impl<U: Drop> Front<U> {
         }
     }
 
-    /// A job's call was made. It is told at once where something leaves then, and else with what comes soon after.
+    /// A job is done. It is told at once where something leaves then, and else with what comes soon after.
     pub fn put_untold(&mut self, done: Done<U>, leaves: bool, now: u64)
         requires { now ≤ most_time }
         ensures told { self.new.tell_by ≡ min self.old.tell_by (told_by leaves now) }
@@ -165,6 +168,13 @@ impl<U: Drop> Front<U> {
         ensures since { self.new ≡ record self.old { has_grown = false } }
     {
         mem::replace(&mut self.has_grown, false)
+    }
+
+    /// Whether more peers than may lie have voted ahead of what the node has published.
+    pub fn votes_are_ahead(&self) -> bool
+        ensures { result ≡ are_enough self.now.ahead }
+    {
+        self.ahead.are_enough()
     }
 
     /// Whether the node sends something to itself once more.

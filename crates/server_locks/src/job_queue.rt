@@ -81,7 +81,7 @@ impl<'a> JobQueue<'a> {
         self.put_patiently(rt, wake, &Job { number, call })
     }
 
-    /// Puts packets that came over a caller's connection, in their order, each as [`put_packet`](Self::put_packet) does.
+    /// Puts packets that came over a caller's connection, in order, each as [`put_packet`](Self::put_packet) does.
     /// How many: fewer where those who do the jobs have ended.
     pub fn put_packets<R: Wait + Clock, F: Fn() -> bool>(
         &mut self,

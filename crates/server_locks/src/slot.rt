@@ -1,11 +1,11 @@
 //! Slots for the clients' connections that are open at once.
 
-ghost use Rattle.std.specs.Prelude.{◌≡◌, ◌+◌, ◌-◌, ◌^◌, min, nat_le, slice_set, option_and_then, true, false, Some};
+ghost use Rattle.std.specs.Prelude.{◌≡◌, ◌+◌, ◌-◌, ◌^◌, min, nat_le, slice_set, true, false, Some};
 ghost use Rattle.std.specs.Prelude.{◌&&◌, not, is_some, IsTrue, IsFalse};
-ghost use Rattle.served_node.specs.Served.{served_said};
+ghost use Rattle.served_node.specs.Told.{answer_to};
 
 use crate::job_queue::JobQueue;
-use served_node::{Said, Told};
+use served_node::{Ending, Said, Told};
 use std::alloc::{AllocError, Global};
 use std::net::{Shutdown, TcpStream};
 use std::sync::{Arc, Condvar, Mutex, MutexGuard, Wait};
@@ -25,14 +25,14 @@ pub struct SlotState<'a> {
 }
 
 impl SlotState<'_> {
-    /// A job is done, and this was said to the line of this number. Whether all are done that are waited for.
-    fn tell(&mut self, line: u32, said: Option<Said>) -> bool
-        ensures told { self.new.told ≡ slice_set self.old.told line (option_and_then served_said said) }
+    /// A job is done, that of the line of this number, and this came of it. Whether all are done that are waited for.
+    fn tell(&mut self, line: u32, ending: Ending<Said>) -> bool
+        ensures told { self.new.told ≡ slice_set self.old.told line (answer_to ending) }
         ensures done { self.new.done ≡ min (self.old.done + 1) (2 ^ 32 - 1) }
         ensures wanted { result ≡ nat_le self.old.wanted self.new.done }
         ensures same { self.new ≡ record self.old { told = self.new.told; done = self.new.done } }
     {
-        self.told.tell(line, said);
+        self.told.tell(line, ending);
         self.done = self.done.saturating_add(1);
         self.done >= self.wanted
     }
@@ -160,10 +160,10 @@ impl<'a> Slot<'a> {
         Some(state)
     }
 
-    /// A job is done, and this was said to the line of this number.
-    pub fn tell<R: Wait>(&self, rt: &R, line: u32, said: Option<Said>) {
+    /// A job is done, that of the line of this number, and this came of it.
+    pub fn tell<R: Wait>(&self, rt: &R, line: u32, ending: Ending<Said>) {
         let mut state = self.state.lock(rt);
-        if state.tell(line, said) {
+        if state.tell(line, ending) {
             self.done.notify_one();
         }
     }

@@ -3,6 +3,7 @@
 
 mod alone;
 mod answers;
+mod blocks;
 mod bytes;
 mod calls;
 mod closing;

@@ -1,12 +1,13 @@
 //! The layers of these rows: which one a file is about, and its value.
 
+use crate::blocks::Block;
 use crate::comes_first::First;
 use crate::lines::Lines;
 use crate::lock::Lock;
 use crate::parked::Parked;
 use crate::told::Told;
 use crate::windows::Windows;
-use crate::{alone, answers, comes_first, lines, lock, parked, told, turns, windows};
+use crate::{alone, answers, blocks, comes_first, lines, lock, parked, told, turns, windows};
 use frame_queues::Turns;
 use role_node::Node;
 use row_words::{RowFault, Words};
@@ -29,6 +30,8 @@ pub enum Serving {
     First(First),
     /// `turns`
     Turns(Turns),
+    /// `block`
+    Block(Block),
     /// `windows`
     Windows(Windows),
     /// `locked`
@@ -46,6 +49,7 @@ pub fn has(layer: &str) -> bool {
             | "parked"
             | "comes-first"
             | "turns"
+            | "block"
             | "windows"
             | "locked"
     )
@@ -66,6 +70,7 @@ pub fn begin(alloc: Global, line: &str) -> Result<Serving, RowFault> {
         "parked" => Ok(Serving::Parked(parked::begin(alloc, &mut words)?)),
         "comes-first" => Ok(Serving::First(comes_first::begin(alloc, &mut words)?)),
         "turns" => Ok(Serving::Turns(turns::begin(alloc, &mut words)?)),
+        "block" => Ok(Serving::Block(blocks::begin(alloc, &mut words)?)),
         "windows" => Ok(Serving::Windows(windows::begin(alloc, &mut words)?)),
         "locked" => Ok(Serving::Lock(lock::begin(alloc))),
         _ => Err(RowFault::BadRow),
@@ -87,6 +92,7 @@ impl Serving {
             Serving::Parked(parked) => parked::answer(alloc, parked, line),
             Serving::First(first) => comes_first::answer(alloc, first, line),
             Serving::Turns(turns) => turns::answer(alloc, turns, line),
+            Serving::Block(block) => blocks::answer(alloc, block, line),
             Serving::Windows(windows) => windows::answer(alloc, windows, line),
             Serving::Lock(lock) => lock::answer(alloc, lock, line),
         }
@@ -100,7 +106,11 @@ impl Serving {
             Serving::Parked(parked) => parked::seen(parked),
             Serving::Windows(windows) => windows::seen(windows),
             Serving::Lock(lock) => lock::seen(lock),
-            Serving::Lines(_) | Serving::Answers | Serving::First(_) | Serving::Turns(_) => [0; 3],
+            Serving::Lines(_)
+            | Serving::Answers
+            | Serving::First(_)
+            | Serving::Turns(_)
+            | Serving::Block(_) => [0; 3],
         }
     }
 }

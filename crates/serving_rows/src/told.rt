@@ -10,6 +10,7 @@ use std::alloc::Global;
 #[derive(Drop)]
 pub struct Told {
     at: u32,
+    begun_twice: bool,
     limit: u32,
     published: u32,
     sessions: u32,
@@ -23,6 +24,7 @@ pub struct Told {
 pub fn begin(alloc: Global, words: &mut Words<'_>) -> Result<Told, RowFault> {
     Ok(Told {
         at: words.wide()?,
+        begun_twice: false,
         limit: words.wide()?,
         published: words.wide()?,
         sessions: words.wide()?,
@@ -36,6 +38,7 @@ pub fn begin(alloc: Global, words: &mut Words<'_>) -> Result<Told, RowFault> {
 pub fn answer(alloc: Global, told: &mut Told, line: &str) -> Result<String, RowFault> {
     let mut words = Words::new(line);
     match words.word() {
+        "begun-twice" => begun_twice(alloc, told),
         "reaches" => reaches(alloc, told, &mut words),
         "syncs" => syncs(alloc, told, &mut words),
         "myself" => peer(alloc, told, None),
@@ -45,6 +48,7 @@ pub fn answer(alloc: Global, told: &mut Told, line: &str) -> Result<String, RowF
         "no-command" => command(alloc, None),
         "open-sessions" => sessions(alloc, told.at, &mut words),
         "bad" => bad(alloc, &mut words),
+        "refused" => refused(alloc, &mut words),
         _ => Err(RowFault::BadRow),
     }
 }
@@ -56,6 +60,20 @@ pub fn seen(told: &Told) -> [u64; 3] {
         told.peers.len() as u64,
         u64::from(told.journal.is_some()),
     ]
+}
+
+/// `begun-twice`: the node was.
+fn begun_twice(alloc: Global, told: &mut Told) -> Result<String, RowFault> {
+    told.begun_twice = true;
+    text_of(alloc, &"ok")
+}
+
+/// `refused F6`: what a client reads whose line the server refuses.
+fn refused(alloc: Global, words: &mut Words<'_>) -> Result<String, RowFault> {
+    match words.word() {
+        "F6" => Ok(refused_text(alloc, ServingFault::BegunTwice)?),
+        _ => Err(RowFault::BadRow),
+    }
 }
 
 /// `reaches REACH`: the next owner's stream reaches so far.
@@ -118,6 +136,7 @@ fn status(alloc: Global, told: &Told) -> Result<String, RowFault> {
 fn standing(alloc: Global, told: &Told) -> Result<NodeStanding, RowFault> {
     Ok(NodeStanding {
         at: told.at,
+        begun_twice: told.begun_twice,
         limit: told.limit,
         published: told.published,
         sessions: told.sessions,

@@ -1,5 +1,21 @@
-use Rattle.std.proofs.Common.{rules, append_assoc}
+use Rattle.std.proofs.Common.{append_assoc}
 use Rattle.operator_lines.proofs.text.status_text.Goals as goal
 
 pub returns : goal.returns
-returns c = search (rules, append_assoc)
+returns c =
+    rw (
+      c.in_ok-push_str-4.ensures.bytes,
+      c.in_ok-add_number-2.ensures,
+      c.in_ok-add_streams.ensures,
+      c.in_ok-push_str-3.ensures.bytes,
+      c.in_ok-add_items.ensures,
+      c.as_slice.ensures,
+      c.in_ok-push_str-2.ensures.bytes,
+      c.in_ok-add_number.ensures,
+      c.from.ensures,
+      c.in_ok-add_to.ensures,
+      c.in_ok-push_str.ensures.bytes,
+      c.in_ok-add_front.ensures,
+      c.new-text.ensures.bytes,
+    )
+    (simp append_assoc)

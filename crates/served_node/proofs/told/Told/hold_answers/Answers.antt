@@ -5,7 +5,7 @@ use native.Mathlib.Numerals.{unary_clauses}
 use Rattle.std.proofs.lemmas.Grind.{common_steps}
 use Rattle.std.proofs.lemmas.List.{flat_map_more}
 use Rattle.std.proofs.lemmas.List.Elements.{All-nil, All-cons, All-append}
-use Rattle.client_lines.specs.declared.answer.ClientAnswer.{ClientAnswer}
+use Rattle.served_node.specs.declared.told.LineAnswer.{LineAnswer}
 use Rattle.served_node.proofs.told.Told.hold_answers.Goals as goal
 
 pub loop-answer-preserved : goal.loop-answer-preserved
@@ -13,10 +13,10 @@ loop-answer-preserved c =
     let answers = c.in-Some.answers.now in
     let i = c.loop-answer.answer-index in
     let answer = c.answer-item.result in
-    let has = λ (a : Option ClientAnswer). IsTrue (is_some a) in
+    let has = λ (a : Option LineAnswer). IsTrue (is_some a) in
     let there : i < length answers = search rules in
     let one_more : take i answers ++ answer ∷ [] ≡ take (i + 1) answers =
-    simp unary_clauses (ap (λ (a : Option ClientAnswer). take i answers ++ a ∷ []) c.answer-item.is
+    simp unary_clauses (ap (λ (a : Option LineAnswer). take i answers ++ a ∷ []) c.answer-item.is
     ∙ sym (take-suc answers i answer there)) in
     let some : IsTrue (is_some answer) = search rules in (
       grind (arith, common_steps, flat_map_more),
