@@ -4,10 +4,9 @@ use frame_queues::{Came, FrameBlock};
 use link_frames::{Faulty, Mishap};
 use row_words::{RowFault, Words, text_of};
 use std::alloc::Global;
-use std::fmt;
 use std::fmt::Display;
-use std::io;
 use std::io::{Cursor, Read};
+use std::{fmt, io};
 
 /// A reader that gives one byte at a time.
 #[derive(Drop)]
