@@ -11,8 +11,9 @@ the same, where each fsync and fdatasync of both programs takes 4 ms more (bench
              and has arrived when all four nodes answer that they have delivered it. That of etcd is a put of nine bytes
              at the leader, and has arrived when the leader answers: most members have it on their disks then
   checks     one at a time, with pauses of up to a millisecond, beside commands of another client: 100 a second, 1,000 a
-             second, and 64 in flight. Where commands come in, and elsewhere (node 1), by a client with no other line
-             under way; and behind a line that a node records, in one write with it. Of etcd reads of a key at the
+             second, and 64 in flight. Where commands come in, there without a session too (decide), and elsewhere
+             (node 1), by a client with no other line under way; and behind a line that a node records, in one write
+             with it. Of etcd reads of a key at the
              leader: of what it has (serializable), and of what most have agreed on (linearizable)
 
 The client is this script: it keeps its connections, and speaks gRPC to etcd with frames that it makes once. What is

@@ -80,7 +80,7 @@ class Nodes(Cluster, Store):
     """Four nodes, of which one may lie; with journals where there is a folder for them."""
 
     name = "tundelca"
-    reads = ("check", "check elsewhere", "check behind a line")
+    reads = ("check", "decide", "check elsewhere", "check behind a line")
 
     def __init__(self, program, folder, preload):
         self.kept, self.lines = folder, []
@@ -102,7 +102,7 @@ class Nodes(Cluster, Store):
 
     def prepare(self):
         """A user with a role that may do something, and sessions of his: two that are checked, and one that also drops
-        its role and activates it by turns."""
+        its role and activates it by turns. For each kind of reads what asks, and the two acts of the last."""
         self.publish(b'{"op":"assign","user":%d,"role":%d}\n' % (USER, ROLE))
         self.publish(b'{"op":"grant","role":%d,"operation":5,"object":9}\n' % ROLE)
         checks, acts = [], []
@@ -112,6 +112,7 @@ class Nodes(Cluster, Store):
             acts = [b'{"op":"%s",' % op + of + b',"role":%d}\n' % ROLE for op in (b"activate", b"drop")]
             self.lines[at].ask(acts[0])
             checks.append(b'{"op":"check",' + of + b',"operation":5,"object":9}\n')
+        checks.insert(1, b'{"op":"decide","user":%d,"owner":0,"operation":5,"object":9}\n' % USER)
         return checks, acts
 
     def again(self):
@@ -157,14 +158,14 @@ class Nodes(Cluster, Store):
     def reader(self, kind):
         """A connection, and a step that asks by it and waits for the answer."""
         at = self.reads.index(kind)
-        lines, check = Lines(self.clients[(0, 1, 0)[at]]), self.checks[at]
+        lines, check = Lines(self.clients[(0, 0, 1, 0)[at]]), self.checks[at]
 
         def behind():
             self.acts.reverse()
             if not lines.ask(self.acts[0] + check, 2).startswith(b'{"done":true}\n{"allow":'):
                 raise Failed("an act was refused")
 
-        return lines, behind if at == 2 else lambda: number(lines.ask(check), b'{"allow":true,"at":')
+        return lines, behind if at == 3 else lambda: number(lines.ask(check), b'{"allow":true,"at":')
 
 
 class Members(Etcd, Store):

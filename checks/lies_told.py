@@ -31,6 +31,7 @@ TRUE = {  # what a node may say
     "close": {"done": True},
     "open": {"session": 1},
     "check": {"allow": True, "at": 7, "role": 2},
+    "decide": {"allow": True, "at": 7, "reach": 2, "role": 2},
     "assigned_users": {"at": 1, "users": [7, 8]},
     "role_permissions": {"at": 1, "permissions": [[5, 9], [5, 10]]},
     "session_roles": {"at": 1, "roles": [3, 2]},
@@ -87,6 +88,8 @@ def lies_to(op):
         "close": [{"done": False}, {"done": 1}, {"error": "fly"}],
         "check": [{"allow": 1, "at": 7, "role": 2}, {"allow": "true", "at": 7, "role": 2}, {"allow": True, "at": 7},
                   {"allow": False, "at": 7, "rule": "N6"}, {"allow": False, "at": 7, "role": 2}],
+        "decide": [{"allow": True, "at": 7, "role": 2}, {"allow": False, "at": 7, "reach": 2, "rule": "N1"},
+                   {"allow": True, "at": 7, "reach": tundelca.PLACES + 1, "role": 2}],
         "assigned_users": [{"at": 1, "users": [8, 7]}, {"at": 1, "users": [7, 7]}, {"at": 1, "users": [1 << 32]}],
         "role_permissions": [{"at": 1, "permissions": [[5, 10], [5, 9]]}, {"at": 1, "permissions": [[1 << 16, 9]]}],
         "again": [{"again": 4}], "session_roles": [{"at": 1, "roles": list(range(65))}],
@@ -103,6 +106,7 @@ def odd_standings(well):
             {**well, "published": 1 << 21}, {**well, "unopened": TOO_MUCH}, {**well, "journal": {}},
             {**well, "peers": [{**peer, "again": 1e18}, *well["peers"][1:]]}, {**well, "x": "x" * 66_000}]
     more += [{**well, "begun_twice": odd} for odd in (None, 0, 1, "true", [True])]
+    more += [{**well, "f": odd} for odd in [*ODD, 2, True]]
     more += [{**well, "journal": {**journal, name: odd}} for name in journal for odd in ODD]
     more += [{**well, "peers": [{**peer, name: odd}, *well["peers"][1:]]} for name in peer for odd in ODD]
     yield from (b"{}\n" if not lie else lie for lie in LINES)
@@ -173,7 +177,7 @@ def words_end_well():
         liar, count, begun = cluster.nodes[3], 0, time.monotonic()
         cluster.owners[4] = 3
         liar.sessions = {1: 7, 3: 7}
-        for command in ("open", "check", "again", "stop", "session_roles"):
+        for command in ("open", "check", "decide", "again", "stop", "session_roles"):
             setattr(liar, f"on_{command}", lambda _, answer=TRUE[command]: answer)
         files = written(folder, ports)
         well = liar.on_status(None)

@@ -114,6 +114,18 @@ class Node:
                 "sessions": len(self.sessions), "unopened": 0}
         return {**said, **self.changed}
 
+    def on_decide(self, asked):
+        verdict = self.decided(asked["user"], asked["owner"], asked["operation"], asked["object"])
+        return {**verdict, "at": self.on_status(None)["at"]}
+
+    def on_decide_all(self, asked):
+        return {"at": self.on_status(None)["at"], "decisions": [self.decided(*row) for row in asked["asked"]]}
+
+    def decided(self, user, owner, operation, object_):
+        """The decision by the owner's roles. A played node reads no commands: it says N3 or N4."""
+        rule = "N4" if owner in self.cluster.owners.values() else "N3"
+        return {"allow": False, "reach": self.reach(owner), "rule": rule}
+
     def on_reach(self, asked):
         if asked["owner"] >= len(self.cluster.streams):
             return {"error": "J6 OutOfRange", "name": "owner"}

@@ -40,6 +40,7 @@ NODES = 128  # at most
 PLACES = 1_048_576  # of a stream
 EVENTS = 4_194_304  # of a node's history, at most
 SESSIONS, PAGE, ACTIVE = 4_096, 100, 64  # open at a node, told at once, active roles of one: at most
+ASKED, A_LINE = 128, 100  # accesses that a line may ask about, and about which `decide_all` asks in one
 ITEMS = 1_048_576  # of all listings of a node together: it has no room for more commands
 MEANWHILE = 1_024  # sessions that open while the open ones are told
 TOGETHER = 1_000  # answers that come within one patience
@@ -149,13 +150,15 @@ class BegunTwice(Unfinished):
 class Decision:
     """Whether an access is allowed: in this role, or denied by this rule (N1 to N5).
 
-    `at` is the length of the node's history then.
+    `at` is the length of the node's history then; `reach`, of a decision by one owner's word, how far that owner's
+    stream reached then, from which the decision follows.
     """
 
     allow: bool
     at: int
     role: Optional[int] = None
     rule: Optional[str] = None
+    reach: Optional[int] = None
 
 
 # What nodes answer. In a form a whole number stands for those from 0 on that are below it, a dict for an object of
@@ -167,6 +170,7 @@ SHORT = 1 << 16  # letters of a line that is cheap to read, whatever it has
 READER = json.JSONDecoder()
 ZEROS, TOO_LONG = str.maketrans("123456789", "0" * 9), "0" * 21  # more digits than any number of nodes has
 CODE, MEMBER, RULE = map(re.compile, (r"[A-Z]\d{1,2} [A-Za-z]{1,40}", "[a-z]{1,40}", "N[1-5]"))
+RULE_OF_ROLES = re.compile("N[3-5]")  # where there is no session
 
 
 def fits(value, form, request):
@@ -260,6 +264,11 @@ def is_page(value, request):
         not value or value[0][0] >= max(1, request.get("from", 0)))
 
 
+def are_decided(value, request):
+    """A decision on each access about which was asked."""
+    return list_of(DECIDED, ASKED)(value, request) and len(value) == len(request["asked"])
+
+
 def are_active(value, request):
     """The roles of a session, in the order of their activation."""
     return list_of(ROLE, ACTIVE)(value, request) and len(set(value)) == len(value)
@@ -274,13 +283,20 @@ STATUS = at_least({"at": EVENTS + 1, "journal": or_none(JOURNAL), "limit": EVENT
 
 
 def is_status(value, request):
-    """How a node stands: its parts fit together, and one of its peers is itself. Nodes of before don't say whether they
-    were begun twice."""
+    """How a node stands: its parts fit together, and one of its peers is itself. Nodes of before don't say `f`, and not
+    whether they were begun twice."""
     return STATUS(value, request) and FLAG(value.get("begun_twice", False), request) and \
         value["peers"].count(None) == 1 and \
-        len(value["peers"]) == len(value["reaches"]) and value["at"] <= value["limit"] > 0
+        len(value["peers"]) == len(value["reaches"]) and value["at"] <= value["limit"] > 0 and \
+        fits(value.get("f", 0), (len(value["peers"]) + 2) // 3, request)
 
 
+def verdicts(rule, **members):
+    """A form: a decision with these members, in a role or by a rule of this pattern."""
+    return by("allow", {True: {**members, "role": ROLE}, False: {**members, "rule": matches(rule)}})
+
+
+DECIDED = verdicts(RULE_OF_ROLES, reach=PLACES + 1)
 COMMANDS = {  # what is published, each by its `op`
     "assign": {"role": ROLE, "user": USER}, "deassign": {"role": ROLE, "user": USER},
     "grant": {"object": OBJECT, "operation": OPERATION, "role": ROLE},
@@ -297,14 +313,17 @@ FORMS = {  # of the answer to each line
     **dict.fromkeys(COMMANDS, {"issued": PLACES, "reach": PLACES + 1}),
     **{op: {"at": EVENTS + 1, name: items} for op, (name, items) in LISTINGS.items()},
     "open": {"session": SESSION}, **dict.fromkeys(("activate", "drop", "close"), {"done": True}),
-    "check": by("allow", {True: {"at": EVENTS + 1, "role": ROLE}, False: {"at": EVENTS + 1, "rule": matches(RULE)}}),
+    "check": verdicts(RULE, at=EVENTS + 1), "decide": verdicts(RULE_OF_ROLES, at=EVENTS + 1, reach=PLACES + 1),
+    "decide_all": {"at": EVENTS + 1, "decisions": are_decided},
     "reach": {"reach": PLACES + 1}, "again": {"again": 4}, "stop": {"stopped": True}, "status": is_status,
     "command": {"command": or_none(by("op", COMMANDS))},
     "sessions": {"at": EVENTS + 1, "sessions": is_page},
 }
 REFUSAL = one_of({"error": matches(CODE)}, {"error": matches(CODE), "name": matches(MEMBER)})
-LONGEST = {"status": 1 << 16, "sessions": 1 << 14, **dict.fromkeys(LISTINGS, 24 << 20)}  # bytes of an answer's line,
-LONGEST_ELSE = 1 << 10  # without its end; and of each other answer's
+LONGEST = {  # bytes of an answer's line, without its end
+    "status": 1 << 16, "sessions": 1 << 14, "decide_all": 1 << 13, **dict.fromkeys(LISTINGS, 24 << 20),
+}
+LONGEST_ELSE = 1 << 10  # of each other answer's
 
 
 def read_answer(request, line, items=ITEMS):
@@ -570,6 +589,28 @@ class Client:
         """The decision on an access."""
         answer = self.ask("check", session=session, user=user, operation=operation, object=object)
         return Decision(answer["allow"], answer["at"], answer.get("role"), answer.get("rule"))
+
+    def decide(self, user, owner, operation, object):
+        """The decision on an access by this owner's word alone: as of a session in which just its roles are active.
+
+        There is no session, and nothing is recorded. Only `tundelca` answers this and `decide_all`.
+        """
+        answer = self.ask("decide", user=user, owner=owner, operation=operation, object=object)
+        return Decision(answer["allow"], answer["at"], answer.get("role"), answer.get("rule"), answer["reach"])
+
+    def decide_all(self, asked, ahead=20):
+        """The decisions on many accesses, in their order; each is asked by its user, owner, operation and object.
+
+        A line asks about 100 at most, which are decided together, by one history. Up to so many lines go out ahead.
+        """
+        rows = iter(asked)
+        lines = iter(lambda: list(map(list, itertools.islice(rows, A_LINE))), [])
+        requests, sent = itertools.tee({"op": "decide_all", "asked": some} for some in lines)
+        for answer, request in zip(self.ask_all(sent, ahead), requests):
+            if "error" in answer:
+                raise Refused(request, answer)
+            for one in answer["decisions"]:
+                yield Decision(one["allow"], answer["at"], one.get("role"), one.get("rule"), one["reach"])
 
     def listing(self, op, **members):
         """The items of a review, such as `assigned_users` of a role; permissions are pairs [operation, object]."""

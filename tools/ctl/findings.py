@@ -89,7 +89,8 @@ class Looks:
 def needed_peers(standing, may_lie):
     """How many peers a node has to hear for what is published to come to it: two for each that may lie."""
     others = len(standing.peers) - 1
-    return min(others, 2 * (others // 3 if may_lie is None else may_lie))
+    borne = standing.may_lie if may_lie is None else may_lie
+    return min(others, 2 * (others // 3 if borne is None else borne))
 
 
 def findings_of(one, most, may_lie, most_behind):

@@ -56,6 +56,7 @@ def run(given):
 NODE_METRICS = [
     ("history_events", "gauge", "Events that the node has recorded.", lambda it: [({}, it.at)]),
     ("history_limit_events", "gauge", "Events that the node records at most.", lambda it: [({}, it.limit)]),
+    ("may_lie_nodes", "gauge", "Nodes that may lie, by the node's cluster file.", lambda it: of(it.may_lie)),
     ("reach_commands", "gauge", "Commands of the owner that the node has delivered without a gap.",
      lambda it: [({"owner": owner}, reach) for owner, reach in enumerate(it.reaches)]),
     ("published_commands_total", "counter", "Commands that the node has issued.", lambda it: of(it.published)),

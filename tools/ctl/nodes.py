@@ -56,7 +56,8 @@ class Standing:
 
     `at` is the length of its history, of at most `limit` events; `reaches` how many commands of each owner it has
     delivered; `me` its name, `published` how many commands it has issued, `sessions` how many are open; `is_twice`
-    whether it says that it was begun twice.
+    whether it says that it was begun twice, `may_lie` how many nodes may lie by its cluster file. Nodes of before say
+    neither.
     """
 
     at: int
@@ -69,6 +70,7 @@ class Standing:
     peers: Optional[list] = None
     unopened: int = 0
     is_twice: bool = False
+    may_lie: Optional[int] = None
 
     def others(self):
         """The peers that it speaks of, without itself."""
@@ -134,7 +136,8 @@ def standing_of(answer):
     peers = [row and Peer(*(row[field.name] for field in fields(Peer))) for row in answer["peers"]]
     journal = answer["journal"] and Journal(*(answer["journal"][field.name] for field in fields(Journal)))
     return Standing(answer["at"], answer["limit"], answer["reaches"], peers.index(None), answer["published"],
-                    answer["sessions"], journal, peers, answer["unopened"], answer.get("begun_twice", False))
+                    answer["sessions"], journal, peers, answer["unopened"], answer.get("begun_twice", False),
+                    answer.get("f"))
 
 
 def standing(client, until=None):

@@ -1,4 +1,4 @@
-//! What an operator hears of the node.
+//! What the node answers to the lines beside the clients' table.
 
 ghost use Rattle.std.specs.Prelude.{◌≡◌, true, IfSome};
 
@@ -13,7 +13,7 @@ use std::sync::Wait;
 use std::time::Clock;
 
 impl<N: HeldNode, K: FrameKeys, R: Wait + Clock> Server<'_, N, K, R> {
-    /// What an operator hears, of what is kept. Nothing is said for want of memory, and where something is not kept.
+    /// What is answered to such a line, of what is kept. Nothing is said for want of memory, and where something is not kept.
     pub fn operator_answer(&self, request: OperatorRequest) -> Option<OperatorAnswer> {
         let answer = self.kept_answer(request)?;
         match answer {
@@ -32,7 +32,7 @@ impl<N: HeldNode, K: FrameKeys, R: Wait + Clock> Server<'_, N, K, R> {
         let _ = keep(self.rt, &self.syncs, &mut *node);
         let answer = node
             .kept()
-            .and_then(|node| node_answer(self.alloc, node, request));
+            .and_then(|node| node_answer(self.alloc, node, &self.roles, request));
         drop(node);
         self.end_turn(has_turn);
         answer

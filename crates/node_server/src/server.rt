@@ -7,6 +7,7 @@ use mio::Waker;
 use node_lock::{Call, Seat};
 use peer_windows::Share;
 use quorum_sizes::NodeName;
+use role_commands::Items;
 use role_node::Question;
 use served_node::{Heard, HeldNode, Said, SyncTally, frames_to, millis};
 use server_locks::{Outbox, Purpose, Slot, TicketLock, keep};
@@ -43,6 +44,8 @@ pub struct Server<'a, N: HeldNode, K: FrameKeys, R> {
     pub heard: Mutex<Heard>,
     /// Whether more peers than may lie have voted ahead of what the node has published.
     pub votes_ahead: Mutex<bool>,
+    /// The roles of each node, by its index, by which is decided without a session.
+    pub roles: Vec<Items<u16>>,
 }
 
 impl<N: HeldNode, K: FrameKeys, R: Wait + Clock> Server<'_, N, K, R> {

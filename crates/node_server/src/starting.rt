@@ -1,5 +1,8 @@
 //! What a server has before the first of its threads begins.
 
+ghost use Rattle.std.specs.Prelude.{◌≡◌, IfOk};
+ghost use Rattle.operator_lines.specs.Decisions.{role_lists as role_lists_of};
+
 use crate::Site;
 use crate::credits::Credits;
 use crate::crew::Crew;
@@ -8,6 +11,8 @@ use crate::workers::Worker;
 use frame_queues::{FrameKeys, MOST_CLIENTS};
 use mio::Waker;
 use node_lock::Seat;
+use operator_lines::role_lists;
+use role_commands::Items;
 use served_node::{Heard, HeldNode, SyncTally, millis};
 use server_locks::{Alarm, Front, HoldRules, JobQueue, Outbox, Slot, TicketLock, most_batch};
 use std::alloc::{AllocError, Global};
@@ -48,6 +53,7 @@ pub fn server_of<'a, N: HeldNode + Drop, K: FrameKeys + Drop, R: Clock>(
 ) -> Result<Server<'a, N, K, R>, AllocError> {
     let Served { node, seats, keys } = served;
     let beside = beside_of::<N, K, R>(rt, alloc, seats, queues, &keys, site)?;
+    let roles = roles_of(alloc, &node)?;
     Ok(Server {
         rt,
         alloc,
@@ -66,7 +72,20 @@ pub fn server_of<'a, N: HeldNode + Drop, K: FrameKeys + Drop, R: Clock>(
         syncs: Mutex::new(SyncTally::new()),
         heard: Mutex::new(beside.heard),
         votes_ahead: Mutex::new(false),
+        roles,
     })
+}
+
+/// The roles of each node, by its index, as the table of this one has them.
+///
+/// # Errors
+///
+/// Want of memory, and where not all that the node has recorded is kept.
+fn roles_of<N: HeldNode>(alloc: Global, node: &N) -> Result<Vec<Items<u16>>, AllocError>
+    ensures { IfOk result (λ lists. lists.items ≡ role_lists_of (N.held node.now).node.config.roles) }
+{
+    let node = node.kept().ok_or(AllocError)?;
+    role_lists(alloc, node.config().roles())
 }
 
 fn beside_of<'a, N: HeldNode, K: FrameKeys, R: Clock>(

@@ -32,19 +32,30 @@ sessions_is_none : operation_named (codes "sessions") ≡ None
 unfolding operation_named
 sessions_is_none = refl
 
+decide_is_none : operation_named (codes "decide") ≡ None
+unfolding operation_named
+decide_is_none = refl
+
+decide_all_is_none : operation_named (codes "decide_all") ≡ None
+unfolding operation_named
+decide_all_is_none = refl
+
 -- a name of an operator's operation is none of a client's
 no_operation : (s : Counts) (line : Data) (name : List ℕ) → IsSome (request_named s line name)
     → operation_named name ≡ None
 no_operation s line name found =
-    by_test (bytes_eq name (codes "status")) (bytes_eq name (codes "command")) (bytes_eq name (codes "sessions")) refl
-    refl refl
+    by_test (bytes_eq name (codes "status")) (bytes_eq name (codes "command")) (bytes_eq name (codes "sessions"))
+    (bytes_eq name (codes "decide")) (bytes_eq name (codes "decide_all")) refl refl refl refl refl
   where
-    by_test : (a b c : Bool) → bytes_eq name (codes "status") ≡ a → bytes_eq name (codes "command") ≡ b
-        → bytes_eq name (codes "sessions") ≡ c → operation_named name ≡ None
-    by_test true b c e f g = same_word name (codes "status") e status_is_none
-    by_test false true c e f g = same_word name (codes "command") f command_is_none
-    by_test false false true e f g = same_word name (codes "sessions") g sessions_is_none
-    by_test false false false e f g = absurd (false≢true (rw (e, f, g) at found))
+    by_test : (a b c d e : Bool) → bytes_eq name (codes "status") ≡ a → bytes_eq name (codes "command") ≡ b
+        → bytes_eq name (codes "sessions") ≡ c → bytes_eq name (codes "decide") ≡ d
+        → bytes_eq name (codes "decide_all") ≡ e → operation_named name ≡ None
+    by_test true b c d e p q r t u = same_word name (codes "status") p status_is_none
+    by_test false true c d e p q r t u = same_word name (codes "command") q command_is_none
+    by_test false false true d e p q r t u = same_word name (codes "sessions") r sessions_is_none
+    by_test false false false true e p q r t u = same_word name (codes "decide") t decide_is_none
+    by_test false false false false true p q r t u = same_word name (codes "decide_all") u decide_all_is_none
+    by_test false false false false false p q r t u = absurd (false≢true (rw (p, q, r, t, u) at found))
 
 by_name : (s : Counts) (line : Data) (name : Option (List ℕ)) → IsSome (option_and_then (request_named s line) name)
     → request_if_named s name line ≡ Err UnknownOp

@@ -1,2 +1,3 @@
 pub mod LawLemmas
+pub mod RowLemmas
 pub mod Exported

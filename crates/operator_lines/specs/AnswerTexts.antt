@@ -4,6 +4,9 @@ use Rattle.std.specs.Fmt.{decimal}
 use Rattle.std.specs.List.{join_by}
 use Rattle.role_commands.specs.declared.command.Command as commands
 use Rattle.role_commands.specs.declared.command.Command.TheVariants as command
+use Rattle.role_sessions.specs.Decisions.{rule_code}
+use Rattle.role_sessions.specs.declared.verdict.Verdict as verdicts
+use Rattle.role_sessions.specs.declared.verdict.Verdict.TheVariants.{Allow, Deny}
 use Rattle.operator_lines.specs.Members.{member_name}
 use Rattle.operator_lines.specs.Faults.{operator_fault_text, serving_fault_text, named_member}
 use Rattle.operator_lines.specs.declared.fault.ServingFault.{ServingFault}
@@ -13,7 +16,9 @@ use Rattle.operator_lines.specs.declared.answer.JournalStanding as journals
 use Rattle.operator_lines.specs.declared.answer.PeerStanding as peers
 use Rattle.operator_lines.specs.declared.answer.Status as statuses
 use Rattle.operator_lines.specs.declared.answer.OperatorAnswer.{OperatorAnswer}
-use Rattle.operator_lines.specs.declared.answer.OperatorAnswer.TheVariants.{Status, Command, Sessions, BadLine}
+use Rattle.operator_lines.specs.declared.answer.OperatorAnswer.TheVariants.{Status, Command, Sessions, Decision}
+use Rattle.operator_lines.specs.declared.answer.OperatorAnswer.TheVariants.{Decisions, BadLine}
+use Rattle.operator_lines.specs.declared.decision.Decision as decisions
 
 abbrev pub flag_text : Bool → List ℕ
 flag_text true = codes "true"
@@ -37,7 +42,9 @@ peer_text p =
 
 -- a node's first members
 abbrev pub front_text : NodeStanding → List ℕ
-front_text n = codes "{\"at\":" ++ decimal n.at ++ codes ",\"begun_twice\":" ++ flag_text n.begun_twice
+front_text n =
+    codes "{\"at\":" ++ decimal n.at ++ codes ",\"begun_twice\":" ++ flag_text n.begun_twice
+    ++ codes ",\"f\":" ++ decimal n.liars
 
 -- how far streams have come, and how many sessions are open
 abbrev pub streams_text : NodeStanding → List ℕ
@@ -83,6 +90,32 @@ abbrev pub sessions_text : ℕ → List (ℕ × ℕ) → List ℕ
 sessions_text at sessions =
     codes "{\"at\":" ++ decimal at ++ codes ",\"sessions\":[" ++ join_by session_text (codes ",") sessions ++ codes "]}"
 
+abbrev pub allows : verdicts.Verdict → Bool
+allows (Allow role) = true
+allows (Deny rule) = false
+
+-- the role in which is allowed, or the rule that denies
+abbrev pub verdict_text : verdicts.Verdict → List ℕ
+verdict_text (Allow role) = codes ",\"role\":" ++ decimal role ++ codes "}"
+verdict_text (Deny rule) = codes ",\"rule\":\"" ++ rule_code rule ++ codes "\"}"
+
+-- how far the owner's stream reached, and what follows from it
+abbrev pub reach_text : decisions.Decision → List ℕ
+reach_text d = codes ",\"reach\":" ++ decimal d.reach ++ verdict_text d.verdict
+
+-- a decision, and how many events the node had then
+abbrev pub decision_text : ℕ → decisions.Decision → List ℕ
+decision_text at d =
+    codes "{\"allow\":" ++ flag_text (allows d.verdict) ++ codes ",\"at\":" ++ decimal at ++ reach_text d
+
+-- a decision among several
+abbrev pub among_text : decisions.Decision → List ℕ
+among_text d = codes "{\"allow\":" ++ flag_text (allows d.verdict) ++ reach_text d
+
+abbrev pub decisions_text : ℕ → List decisions.Decision → List ℕ
+decisions_text at ds =
+    codes "{\"at\":" ++ decimal at ++ codes ",\"decisions\":[" ++ join_by among_text (codes ",") ds ++ codes "]}"
+
 -- a fault, and the member that it names
 abbrev pub error_text : List ℕ → Option OperatorMember → List ℕ
 error_text fault None = codes "{\"error\":\"" ++ fault ++ codes "\"}"
@@ -93,6 +126,8 @@ abbrev pub operator_text : OperatorAnswer → List ℕ
 operator_text (Status status) = status_text status
 operator_text (Command command) = codes "{\"command\":" ++ or_null command_text command ++ codes "}"
 operator_text (Sessions at sessions) = sessions_text at sessions
+operator_text (Decision at decision) = decision_text at decision
+operator_text (Decisions at decisions) = decisions_text at decisions
 operator_text (BadLine fault) = error_text (operator_fault_text fault) (named_member fault)
 
 -- a server's refusal of a client's line

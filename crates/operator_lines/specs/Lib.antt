@@ -1,4 +1,6 @@
 pub mod Members
+pub mod Rows
+pub mod Decisions
 pub mod Requests
 pub mod Standings
 pub mod Faults

@@ -1,7 +1,9 @@
--- What an operator's line asks, beside the clients' table: an object whose `op` is one of three names. An operation
+-- What an operator's line asks, beside the clients' table: an object whose `op` is one of five names. An operation
 -- reads its members in their order, and the first that is absent or out of its range is the fault.
 use Rattle.std.specs.Prelude.{ℕ, ◌-◌, ◌^◌, ◌<◌, ⊤, nat_lt, if◌then◌else◌, List, length, codes}
 use Rattle.std.specs.Prelude.{Option, Some, None, option_and_then, Result, Ok, Err}
+use Rattle.std.specs.Option.{option_map_or}
+use Rattle.std.specs.List.{AllByRecursion}
 use Rattle.std.specs.Str.{bytes_eq}
 use Rattle.serde_json.specs.Data.{Data}
 use Rattle.serde_json.specs.Find.{get, as_str}
@@ -15,11 +17,15 @@ use Rattle.client_lines.specs.declared.member.MemberFault.{MemberFault}
 use Rattle.client_lines.specs.declared.member.MemberFault.TheVariants as member
 use Rattle.operator_lines.specs.Members.{member_name}
 use Rattle.operator_lines.specs.declared.member.OperatorMember.{OperatorMember}
-use Rattle.operator_lines.specs.declared.member.OperatorMember.TheVariants.{Owner, Place, From}
+use Rattle.operator_lines.specs.declared.member.OperatorMember.TheVariants.{Owner, Place, From, User, Operation}
+use Rattle.operator_lines.specs.declared.member.OperatorMember.TheVariants.{Object, Asked}
 use Rattle.operator_lines.specs.declared.fault.OperatorFault.{OperatorFault}
 use Rattle.operator_lines.specs.declared.fault.OperatorFault.TheVariants.{Missing, OutOfRange}
 use Rattle.operator_lines.specs.declared.request.OperatorRequest.{OperatorRequest}
-use Rattle.operator_lines.specs.declared.request.OperatorRequest.TheVariants.{Status, Command, Sessions}
+use Rattle.operator_lines.specs.declared.request.OperatorRequest.TheVariants.{Status, Command, Sessions, Decide}
+use Rattle.operator_lines.specs.declared.request.OperatorRequest.TheVariants.{DecideAll}
+use Rattle.operator_lines.specs.declared.decision.Access as accesses
+use Rattle.operator_lines.specs.Rows.{rows_of}
 
 -- the greatest number that a line may name as a place
 abbrev pub most_place : ℕ
@@ -50,13 +56,31 @@ sessions_of line = do
   from ← number_of From (2 ^ 64 - 1) line
   Ok (Sessions from)
 
+unfoldable pub decide_of : Counts → Data → Result OperatorRequest OperatorFault
+decide_of s line = do
+  user ← number_of User (2 ^ 32 - 1) line
+  owner ← owner_of s line
+  operation ← number_of Operation (2 ^ 16 - 1) line
+  object ← number_of Object (2 ^ 32 - 1) line
+  Ok (Decide (record { user = user; owner = owner; operation = operation; object = object }))
+
+-- the rows of the member, if there are any
+abbrev pub rows_in : Counts → Option Data → Result OperatorRequest OperatorFault
+rows_in s None = Err (Missing Asked)
+rows_in s (Some value) = option_map_or (λ asked. Ok (DecideAll asked)) (rows_of s value) (Err (OutOfRange Asked))
+
+unfoldable pub decide_all_of : Counts → Data → Result OperatorRequest OperatorFault
+decide_all_of s line = rows_in s (get (member_name Asked) line)
+
 -- what a line asks whose `op` is this name
 abbrev pub request_named : Counts → Data → List ℕ → Option (Result OperatorRequest OperatorFault)
 request_named s line name =
     if bytes_eq name (codes "status") then Some (Ok Status)
     else (if bytes_eq name (codes "command") then Some (command_of s line)
     else (if bytes_eq name (codes "sessions") then Some (sessions_of line)
-    else None))
+    else (if bytes_eq name (codes "decide") then Some (decide_of s line)
+    else (if bytes_eq name (codes "decide_all") then Some (decide_all_of s line)
+    else None))))
 
 -- what a line asks that is this value
 unfoldable pub request_in : Counts → Data → Option (Result OperatorRequest OperatorFault)
@@ -67,8 +91,10 @@ unfoldable pub operator_due : Counts → List ℕ → Option (Result OperatorReq
 operator_due s bytes =
     if nat_lt most_line_bytes (length bytes) then None else option_and_then (request_in s) (json_of bytes)
 
--- an owner that it names is a node
+-- each owner that it names is a node
 abbrev pub NamesNode : Counts → OperatorRequest → Type 0
 NamesNode s Status = ⊤
 NamesNode s (Command owner place) = owner < s.nodes
 NamesNode s (Sessions from) = ⊤
+NamesNode s (Decide asked) = asked.owner < s.nodes
+NamesNode s (DecideAll rows) = AllByRecursion (λ (a : accesses.Access). a.owner < s.nodes) rows

@@ -23,6 +23,7 @@ standing_at node =
     record {
       at = length node.history;
       begun_twice = is_begun_twice node.config.roles.sizes node.me node.history;
+      liars = node.config.roles.sizes.liars;
       limit = node.config.limit;
       published = length (issued node.history);
       sessions = finite.len (sessions_at node.history).open_sessions;

@@ -1,5 +1,6 @@
 //! What a node answers to an operator's line.
 
+use crate::decision::Decision;
 use crate::fault::OperatorFault;
 use crate::standing::NodeStanding;
 use role_commands::{Command, Items};
@@ -67,6 +68,16 @@ pub enum OperatorAnswer {
     Sessions {
         at: u32,
         sessions: Items<(u64, u32)>,
+    },
+    /// A decision. `at` is how many events the node had recorded then.
+    Decision {
+        at: u32,
+        decision: Decision,
+    },
+    /// A decision on each access about which was asked, in their order, all after so many events.
+    Decisions {
+        at: u32,
+        decisions: Items<Decision>,
     },
     /// The line is no request.
     BadLine(OperatorFault),

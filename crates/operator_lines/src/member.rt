@@ -14,6 +14,14 @@ pub enum OperatorMember {
     Place,
     /// The least id of a session.
     From,
+    /// Who wants access.
+    User,
+    /// What is to be done.
+    Operation,
+    /// To what.
+    Object,
+    /// The accesses about which is asked, a row of user, owner, operation and object for each.
+    Asked,
 }
 
 impl OperatorMember {
@@ -25,6 +33,10 @@ impl OperatorMember {
             OperatorMember::Owner => "owner",
             OperatorMember::Place => "place",
             OperatorMember::From => "from",
+            OperatorMember::User => "user",
+            OperatorMember::Operation => "operation",
+            OperatorMember::Object => "object",
+            OperatorMember::Asked => "asked",
         }
     }
 }

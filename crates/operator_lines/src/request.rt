@@ -8,18 +8,24 @@ ghost use Rattle.client_lines.specs.Requests.{most_line_bytes};
 ghost use Rattle.operator_lines.specs.Requests as lines;
 ghost use Rattle.operator_lines.specs.Requests.{operator_due, NamesNode};
 
+use crate::decide::{decide_all_of, decide_of};
+use crate::decision::Access;
 use crate::fault::OperatorFault;
 use crate::member::OperatorMember;
 use client_lines::{MOST_LINE_BYTES, Member, read_json};
 use quorum_sizes::{NodeName, Sizes};
+use role_commands::Items;
 use serde_json::Value;
 use std::alloc::Global;
 
 /// The greatest number that a line may name as a place. Streams have places far below it.
 pub const MOST_PLACE: u64 = 1 << 53;
 
+/// So many accesses can be asked about in one line.
+pub const MOST_ASKED: usize = 128;
+
 /// What an operator's line asks of a node.
-#[derive(Clone, Copy, Debug, PartialEq, Eq)]
+#[derive(Drop, Debug)]
 pub enum OperatorRequest {
     /// How the node stands.
     Status,
@@ -27,6 +33,10 @@ pub enum OperatorRequest {
     Command { owner: NodeName, place: u64 },
     /// The open sessions of this id and of greater ones.
     Sessions { from: u64 },
+    /// The decision on an access, by one owner's roles.
+    Decide(Access),
+    /// The decisions on several, by one history.
+    DecideAll(Items<Access>),
 }
 
 /// What a line asks of a node of a cluster of these sizes, or `None` where it is no operator's.
@@ -48,15 +58,20 @@ pub fn read_operator(
         return Ok(None);
     }
     match read_json(alloc, bytes)? {
-        Some(line) => request_in(sizes, &line),
+        Some(line) => request_in(alloc, sizes, &line),
         None => Ok(None),
     }
 }
 
 /// What a line asks that is this value.
 #[tactic(auto, unfolding(crate::specs::Requests::request_in))]
-fn request_in(sizes: &Sizes, line: &Value) -> Result<Option<OperatorRequest>, OperatorFault>
-    ensures value { result ≡ option_transpose (lines.request_in sizes.now (view line.now)) }
+fn request_in(
+    alloc: Global,
+    sizes: &Sizes,
+    line: &Value,
+) -> Result<Option<OperatorRequest>, OperatorFault>
+    ensures value { (result ≡ option_transpose (lines.request_in sizes.now (view line.now)))
+        ⊎ (result ≡ Err OperatorFault.Memory) }
     ensures nodes { IfOk result (λ request. IfSome request (NamesNode sizes.now)) }
 {
     let Some(name) = line.get(Member::Op.name()).and_then(Value::as_str) else {
@@ -66,6 +81,8 @@ fn request_in(sizes: &Sizes, line: &Value) -> Result<Option<OperatorRequest>, Op
         "status" => Ok(Some(OperatorRequest::Status)),
         "command" => Ok(Some(command_of(sizes, line)?)),
         "sessions" => Ok(Some(sessions_of(line)?)),
+        "decide" => Ok(Some(decide_of(sizes, line)?)),
+        "decide_all" => Ok(Some(decide_all_of(alloc, sizes, line)?)),
         _ => Ok(None),
     }
 }
@@ -89,7 +106,8 @@ fn sessions_of(line: &Value) -> Result<OperatorRequest, OperatorFault>
     Ok(OperatorRequest::Sessions { from })
 }
 
-fn owner_of(sizes: &Sizes, line: &Value) -> Result<NodeName, OperatorFault>
+/// The node that the member names.
+pub(crate) fn owner_of(sizes: &Sizes, line: &Value) -> Result<NodeName, OperatorFault>
     ensures value { result ≡ lines.owner_of sizes.now (view line.now) }
     ensures node { IfOk result (λ owner. owner < sizes.now.nodes) }
 {
@@ -102,7 +120,7 @@ fn owner_of(sizes: &Sizes, line: &Value) -> Result<NodeName, OperatorFault>
 
 /// The whole number of the member, at most `most`.
 #[tactic(auto, unfolding(crate::specs::Requests::number_of))]
-fn number(line: &Value, member: OperatorMember, most: u64) -> Result<u64, OperatorFault>
+pub(crate) fn number(line: &Value, member: OperatorMember, most: u64) -> Result<u64, OperatorFault>
     ensures value { result ≡ lines.number_of member most (view line.now) }
     ensures within { IfOk result (λ n. n ≤ most) }
 {

@@ -20,6 +20,8 @@ pub struct NodeStanding {
     pub at: u32,
     /// Whether it was begun twice, as its own stream shows.
     pub begun_twice: bool,
+    /// How many of the nodes may lie.
+    pub liars: u8,
     /// How many it may record.
     pub limit: u32,
     /// How many commands it has published.
@@ -42,6 +44,7 @@ pub fn standing_of(alloc: Global, node: &Node) -> Result<NodeStanding, AllocErro
     Ok(NodeStanding {
         at: node.events(),
         begun_twice: node.is_begun_twice(),
+        liars: node.config().roles().sizes().f(),
         limit: node.config().limit(),
         published: node.published(),
         sessions: node.open_count(),

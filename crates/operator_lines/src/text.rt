@@ -5,6 +5,7 @@ ghost use Rattle.std.specs.List.{join_by};
 ghost use Rattle.operator_lines.specs.AnswerTexts as texts;
 
 use crate::answer::{JournalStanding, OperatorAnswer, PeerStanding, Status};
+use crate::decision_text::{decision_text, decisions_text};
 use crate::fault::{OperatorFault, ServingFault};
 use crate::standing::NodeStanding;
 use itoa::Buffer;
@@ -24,6 +25,10 @@ pub fn operator_text(alloc: Global, answer: &OperatorAnswer) -> Result<String, A
         OperatorAnswer::Command(command) => command_or_null(alloc, command),
         OperatorAnswer::Sessions { at, sessions } => {
             sessions_text(alloc, *at, sessions.as_slice())
+        }
+        OperatorAnswer::Decision { at, decision } => decision_text(alloc, *at, decision),
+        OperatorAnswer::Decisions { at, decisions } => {
+            decisions_text(alloc, *at, decisions.as_slice())
         }
         OperatorAnswer::BadLine(fault) => bad_line_text(alloc, fault),
     }
@@ -64,6 +69,7 @@ fn add_front(text: &mut String, node: &NodeStanding) -> Result<(), AllocError>
 {
     add_number(text, "{\"at\":", u64::from(node.at))?;
     add_flag(text, ",\"begun_twice\":", node.begun_twice)?;
+    add_number(text, ",\"f\":", u64::from(node.liars))?;
     Ok(())
 }
 
@@ -205,7 +211,7 @@ fn bad_line_text(alloc: Global, fault: &OperatorFault) -> Result<String, AllocEr
 }
 
 /// What stands in an answer.
-trait Item {
+pub(crate) trait Item {
     ghost written: { Self → List ℕ };
 
     /// Adds its text.
@@ -258,7 +264,7 @@ impl Item for Option<PeerStanding> {
 }
 
 /// Adds the items, with a comma between each two.
-fn add_items<T: Item>(text: &mut String, items: &[T]) -> Result<(), AllocError>
+pub(crate) fn add_items<T: Item>(text: &mut String, items: &[T]) -> Result<(), AllocError>
     ensures { OnOk result (string_bytes text.new
         ≡ string_bytes text.old ++ join_by T.written (codes ",") items.now) }
 {
@@ -274,7 +280,7 @@ fn add_items<T: Item>(text: &mut String, items: &[T]) -> Result<(), AllocError>
 }
 
 /// Adds a text and a number behind it.
-fn add_number(text: &mut String, front: &str, number: u64) -> Result<(), AllocError>
+pub(crate) fn add_number(text: &mut String, front: &str, number: u64) -> Result<(), AllocError>
     ensures { OnOk result (string_bytes text.new ≡ string_bytes text.old ++ front.now ++ decimal number) }
 {
     text.push_str(front)?;
@@ -282,7 +288,7 @@ fn add_number(text: &mut String, front: &str, number: u64) -> Result<(), AllocEr
 }
 
 /// Adds a text and true or false behind it.
-fn add_flag(text: &mut String, front: &str, flag: bool) -> Result<(), AllocError>
+pub(crate) fn add_flag(text: &mut String, front: &str, flag: bool) -> Result<(), AllocError>
     ensures { OnOk result (string_bytes text.new ≡ string_bytes text.old ++ front.now ++ texts.flag_text flag) }
 {
     text.push_str(front)?;

@@ -1,7 +1,8 @@
 -- What holds of each life of a cluster, whatever its correct nodes record, sync and lose in crashes.
 use Rattle.std.specs.Prelude.{◌≡◌, ℕ, ◌<◌, ◌≤◌, false, IsTrue, List, ◌∷◌, [], ◌++◌, take, length}
 use Rattle.std.specs.List.{flat_map}
-use Rattle.quorum_sizes.specs.NodeSets.{Nodes}
+use Rattle.std.specs.FinSet as sets
+use Rattle.quorum_sizes.specs.NodeSets.{Nodes, AreNodes}
 use Rattle.link_frames.specs.declared.frames.packet.Message.{Message}
 use Rattle.role_node.specs.Begun.{is_begun_twice}
 use Rattle.role_node.specs.Configs.{ConfigValue}
@@ -69,6 +70,25 @@ NothingLeftIsAhead =
     IsLife config liars acts → k ≤ later → IsCorrect config liars node → IsCorrect config liars m.owner →
     IsTrue (has_left config.roles.sizes (moment acts k) node m) →
     m.place < length (issued (history_of m.owner (moment acts later).run))
+
+-- At some moment of a life a message about the owner's stream was given to the owner in this name, at a place that the
+-- owner hadn't published by then. If the name is a correct node's, it had left that node by then.
+pub record VotedAhead (config : ConfigValue) (liars : Nodes) (acts : List Act) (owner name : ℕ) : Type 0 where
+  pub left_at : ℕ
+  pub given_at : ℕ
+  pub order : left_at ≤ given_at
+  pub message : Message
+  pub about : message.owner ≡ owner
+  pub ahead : length (issued (history_of owner (moment acts given_at).run)) ≤ message.place
+  pub link : IsCorrect config liars name → IsTrue (has_left config.roles.sizes (moment acts left_at) name message)
+
+-- No more names than nodes may lie are such to a correct owner, whatever it lost in crashes.
+abbrev pub FewVoteAhead : Type 0
+FewVoteAhead =
+    (config : ConfigValue) (liars : Nodes) (acts : List Act) (owner : ℕ) (names : Nodes) →
+    IsLife config liars acts → IsCorrect config liars owner → AreNodes config.roles.sizes names →
+    ((name : ℕ) → IsTrue (sets.contains names name) → VotedAhead config liars acts owner name) →
+    sets.len names ≤ config.roles.sizes.liars
 
 -- Nobody is told two stories: what has left a correct node at two moments, whatever crashed between them, is one
 -- message of a kind about a place. (A liar has no events here, so by these words nothing has left it.)

@@ -4,7 +4,7 @@
 ghost use Rattle.restarts.specs.Example.{AnExample};
 ghost use Rattle.restarts.specs.Laws.{RestartsAreRuns, RunsAreLives, NothingIsTakenBack};
 ghost use Rattle.restarts.specs.Laws.{RestartsKeepThePromise, RestartsBeginOnce};
-ghost use Rattle.restarts.specs.Laws.{NothingLeftIsAhead, NobodyIsToldTwoStories};
+ghost use Rattle.restarts.specs.Laws.{NothingLeftIsAhead, FewVoteAhead, NobodyIsToldTwoStories};
 
 use byz_world::law_headline;
 
@@ -40,9 +40,11 @@ pub fn law_begun_once()
 }
 
 /// What had left a correct node about a correct owner's stream is about a place that the owner has published, then and
-/// at each later moment, whatever the owner lost in crashes.
+/// at each later moment, whatever the owner lost in crashes. So in the names of at most `f` nodes a correct owner is
+/// ever given anything about its own stream at a place that it hasn't published by then.
 pub fn nothing_left_is_ahead()
-    ensures { NothingLeftIsAhead }
+    ensures left { NothingLeftIsAhead }
+    ensures few { FewVoteAhead }
 {
     law_restarts_are_runs();
     byz_world::laws::nobody_votes_ahead();

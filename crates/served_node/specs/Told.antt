@@ -1,5 +1,5 @@
 -- The answers to the lines of a client, and of an operator.
-use Rattle.std.specs.Prelude.{ℕ, ◌≡◌, ◌≤◌, List, [], length, take, slice_get, All, Option, None, Some, IfSome}
+use Rattle.std.specs.Prelude.{ℕ, ◌≡◌, ◌≤◌, List, [], length, take, map, slice_get, All, Option, None, Some, IfSome}
 use Rattle.std.specs.Prelude.{⊤, IsTrue, is_some, option_map}
 use Rattle.std.specs.List.{flat_map}
 use Rattle.link_frames.specs.lines.Lines.{ended}
@@ -8,10 +8,12 @@ use Rattle.role_node.specs.Access.{stream_at}
 use Rattle.role_node.specs.Nodes.{NodeValue}
 use Rattle.operator_lines.specs.AnswerTexts.{refused_text}
 use Rattle.operator_lines.specs.Standings.{standing_at, sessions_from}
+use Rattle.operator_lines.specs.Decisions.{decision_at}
 use Rattle.operator_lines.specs.declared.answer.OperatorAnswer.{OperatorAnswer}
 use Rattle.operator_lines.specs.declared.answer.OperatorAnswer.TheVariants as answer
 use Rattle.operator_lines.specs.declared.request.OperatorRequest.{OperatorRequest}
 use Rattle.operator_lines.specs.declared.request.OperatorRequest.TheVariants.{Status, Command, Sessions}
+use Rattle.operator_lines.specs.declared.request.OperatorRequest.TheVariants.{Decide, DecideAll}
 use Rattle.served_node.specs.Served.{served_said}
 use Rattle.served_node.specs.declared.ending.Ending.{Ending}
 use Rattle.served_node.specs.declared.ending.Ending.TheVariants as ending
@@ -56,11 +58,16 @@ abbrev pub IsStatusOf : NodeValue → OperatorAnswer → Type 0
 IsStatusOf node (answer.Status s) = s.node ≡ standing_at node
 IsStatusOf node (answer.Command c) = ⊥
 IsStatusOf node (answer.Sessions at sessions) = ⊥
+IsStatusOf node (answer.Decision at decision) = ⊥
+IsStatusOf node (answer.Decisions at decisions) = ⊥
 IsStatusOf node (answer.BadLine fault) = ⊥
 
--- what an operator hears that asks this of the node
-abbrev pub IsAnswerOf : NodeValue → OperatorRequest → OperatorAnswer → Type 0
-IsAnswerOf node Status a = IsStatusOf node a
-IsAnswerOf node (Command owner place) a =
+-- what is answered to who asks this of the node; decisions go by the roles that these lists have of each owner
+abbrev pub IsAnswerOf : NodeValue → List (List ℕ) → OperatorRequest → OperatorAnswer → Type 0
+IsAnswerOf node lists Status a = IsStatusOf node a
+IsAnswerOf node lists (Command owner place) a =
     a ≡ answer.Command (slice_get (stream_at node.config.roles.sizes node.history owner) place)
-IsAnswerOf node (Sessions from) a = a ≡ answer.Sessions (length node.history) (sessions_from node from)
+IsAnswerOf node lists (Sessions from) a = a ≡ answer.Sessions (length node.history) (sessions_from node from)
+IsAnswerOf node lists (Decide asked) a = a ≡ answer.Decision (length node.history) (decision_at node lists asked)
+IsAnswerOf node lists (DecideAll rows) a =
+    a ≡ answer.Decisions (length node.history) (map (decision_at node lists) rows)

@@ -1,19 +1,25 @@
-//! What an operator hears of a node.
+//! What a node answers to the lines beside the clients' table.
 
 ghost use Rattle.std.specs.Prelude.{◌≡◌, IfSome};
 ghost use Rattle.served_node.specs.Told.{IsAnswerOf};
 
 use operator_lines::{
-    OperatorAnswer, OperatorRequest, Status, command_at, sessions_of, standing_of,
+    OperatorAnswer, OperatorRequest, Status, command_at, decision_of, decisions_of, sessions_of,
+    standing_of,
 };
 use role_commands::Items;
 use role_node::Node;
 use std::alloc::Global;
 
-/// What a node answers to an operator; its links are left out. Nothing for want of memory, and where the owner is no
-/// node of its sizes.
-pub fn node_answer(alloc: Global, node: &Node, request: OperatorRequest) -> Option<OperatorAnswer>
-    ensures { IfSome result (IsAnswerOf node.now request) }
+/// What a node answers to such a line; of a status its links are left out. Decisions go by the roles that the lists
+/// have of each owner. Nothing for want of memory, and where an owner is no node of its sizes.
+pub fn node_answer(
+    alloc: Global,
+    node: &Node,
+    lists: &[Items<u16>],
+    request: OperatorRequest,
+) -> Option<OperatorAnswer>
+    ensures { IfSome result (IsAnswerOf node.now lists.now request) }
 {
     match request {
         OperatorRequest::Status => Some(OperatorAnswer::Status(Status {
@@ -31,6 +37,19 @@ pub fn node_answer(alloc: Global, node: &Node, request: OperatorRequest) -> Opti
         OperatorRequest::Sessions { from } => Some(OperatorAnswer::Sessions {
             at: node.events(),
             sessions: sessions_of(node, from).ok()?,
+        }),
+        OperatorRequest::Decide(asked) => {
+            if !node.config().roles().sizes().has(asked.owner) {
+                return None;
+            }
+            Some(OperatorAnswer::Decision {
+                at: node.events(),
+                decision: decision_of(node, lists, &asked),
+            })
+        }
+        OperatorRequest::DecideAll(asked) => Some(OperatorAnswer::Decisions {
+            at: node.events(),
+            decisions: decisions_of(alloc, node, lists, asked.as_slice())?,
         }),
     }
 }

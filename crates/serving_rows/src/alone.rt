@@ -3,12 +3,17 @@
 ghost use Rattle.std.specs.Prelude.{◌≡◌, [], IfOk};
 
 use link_frames::{Message, Packet};
-use operator_lines::{command_at, sessions_of, standing_of};
+use operator_lines::{
+    Access, Decision, command_at, decision_of, role_lists, sessions_of, standing_of,
+};
 use quorum_sizes::{NodeName, Sizes};
 use role_commands::{RoleTable, TableFault};
 use role_node::{ClientEvent, Config, Event, Node, NodeFault};
+use role_sessions::Verdict;
 use row_words::{OrNone, RowFault, Spelled, Words, list_text, text_of};
 use std::alloc::Global;
+use std::fmt;
+use std::fmt::Display;
 
 /// `alone LIMIT ROLE`: the only node of its cluster, which records so many events and owns this role.
 pub fn begin(alloc: Global, words: &mut Words<'_>) -> Result<Node, RowFault> {
@@ -47,6 +52,7 @@ pub fn answer(alloc: Global, node: &mut Node, line: &str) -> Result<String, RowF
         "standing" => standing(alloc, node),
         "open-sessions" => sessions(alloc, node, &mut words),
         "command" => command(alloc, node, &mut words),
+        "decide" => decide(alloc, node, &mut words),
         _ => Err(RowFault::BadRow),
     }
 }
@@ -122,4 +128,33 @@ fn command(alloc: Global, node: &Node, words: &mut Words<'_>) -> Result<String, 
     }
     let command = command_at(node, owner, place).map(Spelled);
     text_of(alloc, &OrNone(command))
+}
+
+/// `decide USER OPERATION OBJECT`: by the roles of the node itself, and how far its stream reaches.
+fn decide(alloc: Global, node: &Node, words: &mut Words<'_>) -> Result<String, RowFault> {
+    let lists = role_lists(alloc, node.config().roles())?;
+    let access = Access {
+        owner: node.me(),
+        user: words.wide()?,
+        operation: words.narrow()?,
+        object: words.wide()?,
+    };
+    if !node.config().roles().sizes().has(access.owner) {
+        return Err(RowFault::BadRow);
+    }
+    let decision = decision_of(node, &lists, &access);
+    text_of(alloc, &Decided(decision))
+}
+
+/// A decision, in words.
+#[derive(Clone, Copy)]
+struct Decided(Decision);
+
+impl Display for Decided {
+    fn fmt<W: fmt::Write>(&self, f: &mut fmt::Formatter<W>) -> fmt::Result {
+        match self.0.verdict {
+            Verdict::Allow(role) => write!(f, "allowed {role} reach {}", self.0.reach),
+            Verdict::Deny(rule) => write!(f, "denied {rule} reach {}", self.0.reach),
+        }
+    }
 }

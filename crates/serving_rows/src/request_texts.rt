@@ -1,7 +1,8 @@
 //! What lines ask, in the words of SCRIPTS.
 
 use client_lines::Request;
-use operator_lines::OperatorRequest;
+use operator_lines::{Access, OperatorRequest};
+use role_commands::Items;
 use role_node::{ClientEvent, Question};
 use row_words::Spelled;
 use std::fmt;
@@ -78,18 +79,49 @@ impl Display for Questioned {
     }
 }
 
-/// What an operator's line asks, as its name and its numbers.
-#[derive(Clone, Copy)]
+/// What an operator's line, or one for a decision, asks, as its name and its numbers.
+#[derive(Drop)]
 pub struct OperatorAsked(pub OperatorRequest);
 
 impl Display for OperatorAsked {
     fn fmt<W: fmt::Write>(&self, f: &mut fmt::Formatter<W>) -> fmt::Result {
-        match self.0 {
+        match &self.0 {
             OperatorRequest::Status => f.write_str("status"),
             OperatorRequest::Command { owner, place } => {
                 write!(f, "command {} {place}", owner.index())
             }
             OperatorRequest::Sessions { from } => write!(f, "sessions {from}"),
+            OperatorRequest::Decide(access) => write!(f, "decide {}", Wanted(*access)),
+            OperatorRequest::DecideAll(all) => write!(f, "decide_all{}", EachWanted(all)),
         }
+    }
+}
+
+/// An access: user, owner, operation and object.
+#[derive(Clone, Copy)]
+struct Wanted(Access);
+
+impl Display for Wanted {
+    fn fmt<W: fmt::Write>(&self, f: &mut fmt::Formatter<W>) -> fmt::Result {
+        let Access {
+            user,
+            owner,
+            operation,
+            object,
+        } = self.0;
+        write!(f, "{user} {} {operation} {object}", owner.index())
+    }
+}
+
+/// Accesses, each behind a space and in brackets.
+#[derive(Clone, Copy)]
+struct EachWanted<'a>(&'a Items<Access>);
+
+impl Display for EachWanted<'_> {
+    fn fmt<W: fmt::Write>(&self, f: &mut fmt::Formatter<W>) -> fmt::Result {
+        for access in self.0.as_slice() {
+            write!(f, " ({})", Wanted(*access))?;
+        }
+        Ok(())
     }
 }

@@ -1,8 +1,9 @@
 //! Rows of what an operator hears: how it is written.
 
 use operator_lines::*;
-use role_commands::numbers::{long_number, wide_number};
+use role_commands::numbers::{long_number, narrow_number, wide_number};
 use role_commands::{Command, Items};
+use role_sessions::{Rule, Verdict};
 use row_words::{RowFault, Words, text_of};
 use std::alloc::Global;
 
@@ -11,6 +12,7 @@ use std::alloc::Global;
 pub struct Told {
     at: u32,
     begun_twice: bool,
+    liars: u8,
     limit: u32,
     published: u32,
     sessions: u32,
@@ -20,11 +22,12 @@ pub struct Told {
     peers: Vec<Option<PeerStanding>>,
 }
 
-/// `told AT LIMIT PUBLISHED SESSIONS UNOPENED`
+/// `told AT LIARS LIMIT PUBLISHED SESSIONS UNOPENED`
 pub fn begin(alloc: Global, words: &mut Words<'_>) -> Result<Told, RowFault> {
     Ok(Told {
         at: words.wide()?,
         begun_twice: false,
+        liars: words.byte()?,
         limit: words.wide()?,
         published: words.wide()?,
         sessions: words.wide()?,
@@ -47,6 +50,8 @@ pub fn answer(alloc: Global, told: &mut Told, line: &str) -> Result<String, RowF
         "command" => command(alloc, Some(words.command()?)),
         "no-command" => command(alloc, None),
         "open-sessions" => sessions(alloc, told.at, &mut words),
+        "decision" => decision(alloc, told.at, &mut words),
+        "decisions" => decisions(alloc, told.at, &mut words),
         "bad" => bad(alloc, &mut words),
         "refused" => refused(alloc, &mut words),
         _ => Err(RowFault::BadRow),
@@ -137,6 +142,7 @@ fn standing(alloc: Global, told: &Told) -> Result<NodeStanding, RowFault> {
     Ok(NodeStanding {
         at: told.at,
         begun_twice: told.begun_twice,
+        liars: told.liars,
         limit: told.limit,
         published: told.published,
         sessions: told.sessions,
@@ -174,6 +180,47 @@ fn session_of(word: &str) -> Result<(u64, u32), RowFault> {
     Ok((session, user))
 }
 
+/// `decision REACH:ROLE`, or `decision REACH:RULE`
+fn decision(alloc: Global, at: u32, words: &mut Words<'_>) -> Result<String, RowFault> {
+    let decision = decision_of(words.word())?;
+    Ok(operator_text(alloc, &OperatorAnswer::Decision { at, decision })?)
+}
+
+/// `decisions REACH:ROLE REACH:RULE ..`
+fn decisions(alloc: Global, at: u32, words: &mut Words<'_>) -> Result<String, RowFault> {
+    let decisions = Items::new(decisions_of(alloc, words)?);
+    let answer = OperatorAnswer::Decisions { at, decisions };
+    Ok(operator_text(alloc, &answer)?)
+}
+
+fn decisions_of(alloc: Global, words: &mut Words<'_>) -> Result<Vec<Decision>, RowFault> {
+    let mut decisions = Vec::new(alloc);
+    for _ in 0..u16::MAX {
+        if words.is_done() {
+            return Ok(decisions);
+        }
+        decisions.push(decision_of(words.word())?)?;
+    }
+    Err(RowFault::BadRow)
+}
+
+fn decision_of(word: &str) -> Result<Decision, RowFault> {
+    let (reach, verdict) = word.split_once(':').ok_or(RowFault::BadRow)?;
+    Ok(Decision {
+        reach: wide_number(reach).ok_or(RowFault::BadRow)?,
+        verdict: verdict_of(verdict)?,
+    })
+}
+
+fn verdict_of(word: &str) -> Result<Verdict, RowFault> {
+    match word {
+        "N3" => Ok(Verdict::Deny(Rule::NoActiveRole)),
+        "N4" => Ok(Verdict::Deny(Rule::NoneAssigned)),
+        "N5" => Ok(Verdict::Deny(Rule::NotPermitted)),
+        role => Ok(Verdict::Allow(narrow_number(role).ok_or(RowFault::BadRow)?)),
+    }
+}
+
 /// `bad CODE MEMBER`: the line is no request.
 fn bad(alloc: Global, words: &mut Words<'_>) -> Result<String, RowFault> {
     let fault = match words.word() {
@@ -189,6 +236,7 @@ fn member_of(name: &str) -> Result<OperatorMember, RowFault> {
         "owner" => Ok(OperatorMember::Owner),
         "place" => Ok(OperatorMember::Place),
         "from" => Ok(OperatorMember::From),
+        "asked" => Ok(OperatorMember::Asked),
         _ => Err(RowFault::BadRow),
     }
 }

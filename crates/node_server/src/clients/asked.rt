@@ -79,7 +79,8 @@ impl<N: HeldNode, K: FrameKeys, R: Wait + Clock> Client<'_, '_, N, K, R> {
         }
     }
 
-    /// Answers a line that no client's table has.
+    /// Answers a line that no client's table has. A decision is held and written with the answers beside it, as that of
+    /// a check is.
     pub fn answer_operator(&mut self, line: &[u8]) -> Result<(), AheadFault> {
         match read_operator(self.server.alloc, &self.server.keys.sizes(), line) {
             Ok(Some(request)) => self.answer_request(request),
@@ -89,8 +90,9 @@ impl<N: HeldNode, K: FrameKeys, R: Wait + Clock> Client<'_, '_, N, K, R> {
         }
     }
 
-    /// Answers what an operator asks, after the lines before were answered.
+    /// Answers what such a line asks, after the lines before were answered.
     fn answer_request(&mut self, request: OperatorRequest) -> Result<(), AheadFault> {
+        self.asked = matches!(&request, OperatorRequest::Decide(_));
         self.await_answers()?;
         match self.server.operator_answer(request) {
             Some(answer) => self.say_to_operator(&answer),
@@ -98,10 +100,13 @@ impl<N: HeldNode, K: FrameKeys, R: Wait + Clock> Client<'_, '_, N, K, R> {
         }
     }
 
-    /// Holds an operator's answer, behind those of the lines before. As of listings there is one such answer at most.
+    /// Holds such an answer, behind those of the lines before. As of listings there is one at most, save decisions by
+    /// themselves.
     fn say_to_operator(&mut self, answer: &OperatorAnswer) -> Result<(), AheadFault> {
         self.await_answers()?;
-        self.lines = MOST_LINES;
+        if !self.asked {
+            self.lines = MOST_LINES;
+        }
         hold_operator_answer(self.server.alloc, &mut self.held, answer)?;
         Ok(())
     }

@@ -1,9 +1,10 @@
-use Rattle.restarts.specs.Lives.{moment}
-use Rattle.restarts.proofs.Lives.{left_is_said}
+use Rattle.restarts.proofs.Ahead as lemma
 use Rattle.restarts.proofs.laws.nothing_left_is_ahead.Goals as goal
 
-pub returns : goal.returns
-returns c config liars acts k later node m life le correct owner left =
-    c.nobody_votes_ahead.ensures.sent config liars (moment acts later).run node m
-    (c.law_restarts_are_runs.ensures config liars acts later life) correct owner
-    (left_is_said config liars acts k later node m life le left)
+pub returns-clause-left : goal.returns-clause-left
+returns-clause-left c = lemma.nothing_left_is_ahead c.law_restarts_are_runs.ensures c.nobody_votes_ahead.ensures.sent
+
+pub returns-clause-few : goal.returns-clause-few
+returns-clause-few c =
+    lemma.few_vote_ahead
+    (lemma.nothing_left_is_ahead c.law_restarts_are_runs.ensures c.nobody_votes_ahead.ensures.sent)
