@@ -69,6 +69,11 @@ module _ {D : Type 0} where
   clean_first is_clean first now same clean =
       subst (λ (d : D). IsTrue (is_clean d)) (ap (λ (j : JournalValue D). j.disk) same) clean
 
+  pub beside_first : (is_clean : D → Bool) (first now : JournalValue D) → now ≡ record first { room = now.room } →
+      IsTrue (is_clean now.beside) → IsTrue (is_clean first.beside)
+  beside_first is_clean first now same clean =
+      subst (λ (d : D). IsTrue (is_clean d)) (ap (λ (j : JournalValue D). j.beside) same) clean
+
   pub opened_is : (may_leave : D → List ℕ → Type 0) (is_clean : D → Bool) (first now : JournalValue D)
       (key : List ℕ) (head : Head) (file : List ℕ) (config : ConfigValue) (me : ℕ) (digits : List ℕ) →
       Opened may_leave is_clean first now key head file → IsHeadOf config me head → first.broken ≡ false →

@@ -54,12 +54,13 @@ file_of (Illegal place journal) = journal.disk
 file_of (Memory journal) = journal.disk
 
 module _ {D : Type 0} (seen : D → List ℕ) (faults : D → ℕ) (is_clean is_mixing : D → Bool) where
-  -- Why: the journal is not opened under the node's head, it has an event that the node does not record, or memory is
-  -- wanting; unless the files have lied.
+  -- Why: the journal is not opened under the node's head; the file beside is empty, and the journal has an event that
+  -- the node does not record; or memory is wanting; unless the files have lied.
   abbrev pub IsUnrestored : List ℕ → ConfigValue → ℕ → Files D → Unrestored D → Type 0
   IsUnrestored key config me old (Unopened journal_fault.Memory files) = ⊤
   IsUnrestored key config me old (Unopened fault files) =
       (head : Head) × IsHeadOf config me head × IsRefused seen faults is_clean is_mixing key head old files fault
   IsUnrestored key config me old (Illegal place journal) =
-      IsTrue (is_clean journal.disk) → IsIllegalFile key config me place (seen old.db)
+      (IsTrue (is_clean journal.beside) → seen old.log ≡ [])
+      × (IsTrue (is_clean journal.disk) → IsIllegalFile key config me place (seen old.db))
   IsUnrestored key config me old (Memory journal) = ⊤

@@ -83,6 +83,7 @@ fn open_with_room<L: Ledger, D: Disk>(
     requires usable { IsTrue (D.Disk.is_usable files.db) }
     ensures opened { IfOk result (λ r. IsOpened D.Disk.may_leave D.Disk.is_clean key.now locked.now.node.config
         locked.now.node.me (D.Disk.seen files.db) r.0 r.1.items) }
+    ensures alone { IfOk result (λ r. IsTrue (D.Disk.is_clean r.0.beside) → D.Disk.seen files.log ≡ []) }
     ensures why { IfErr result (IsUnrestored D.Disk.seen D.Disk.faults D.Disk.is_clean D.Disk.is_mixing key.now
         locked.now.node.config locked.now.node.me files) }
     ensures left { IfErr result (λ e. IsTrue (D.Disk.is_clean (file_of e)) → LeavesAsBefore key.now

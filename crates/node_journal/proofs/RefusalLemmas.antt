@@ -37,7 +37,8 @@ module _ {D : Type 0} (seen : D → List ℕ) (faults : D → ℕ) (is_clean is_
       IsUnrestored seen faults is_clean is_mixing key config me old u →
       IsNotRestored seen faults is_clean is_mixing key config me old (fault_in u)
   not_restored key config me old (Unopened e new) why = not_unopened key config me old new e why
-  not_restored key config me old (Illegal place journal) why = (journal.disk, place, why)
+  not_restored key config me old (Illegal place journal) why =
+      (record { log = journal.beside; db = journal.disk }, place, why.0, why.1)
   not_restored key config me old (Memory journal) why = tt
 
   -- where the bytes behind the batches were not read, of a journal beside which the file is empty

@@ -1,7 +1,7 @@
 -- Why a node's journal is not made, and why a node is not restored from one, nor its journal looked at.
 use Rattle.std.specs.Prelude.{⊤, ℕ, Bool, IsTrue, List}
 use Rattle.sqlite_disk.specs.declared.files.Files.{Files}
-use Rattle.batch_journal.specs.Faults.{IsNotBegun, IsRefused}
+use Rattle.batch_journal.specs.Faults.{IsAlone, IsNotBegun, IsRefused}
 use Rattle.batch_journal.specs.declared.fault.JournalFault.TheVariants.{Memory}
 use Rattle.batch_journal.specs.declared.head.Head.{Head}
 use Rattle.role_node.specs.Configs.{ConfigValue}
@@ -38,12 +38,14 @@ module _ {D : Type 0} (seen : D → List ℕ) (faults : D → ℕ) (is_clean is_
   IsNotMade old (Journal fault) = (new : Files D) × IsNotBegun seen faults is_clean is_mixing old new fault
   IsNotMade old fault = ⊥
 
-  -- the journal is not opened under the node's head; it has an event that the node does not record; memory is wanting
+  -- the journal is not opened under the node's head; the file beside is empty, and it has an event that the node does not
+  -- record; memory is wanting
   abbrev pub IsNotRestored : List ℕ → ConfigValue → ℕ → Files D → KeptFault → Type 0
   IsNotRestored key config me old (Journal Memory) = ⊤
   IsNotRestored key config me old (Journal fault) =
       (new : Files D) × (head : Head) × IsHeadOf config me head
       × IsRefused seen faults is_clean is_mixing key head old new fault
   IsNotRestored key config me old Illegal =
-      (disk : D) × (place : ℕ) × (IsTrue (is_clean disk) → IsIllegalFile key config me place (seen old.db))
+      (new : Files D) × (place : ℕ) × IsAlone seen faults is_clean is_mixing old new
+      × (IsTrue (is_clean new.db) → IsIllegalFile key config me place (seen old.db))
   IsNotRestored key config me old fault = ⊥

@@ -1,10 +1,10 @@
 -- When a history shows that its node was begun twice, as one more event comes.
 use Rattle.std.proofs.Common.{◌≡◌, ℕ, zero, suc, ◌+◌, ◌<◌, ◌≤◌, ⊎_elim, Bool, true, false, ◌||◌, not, ◌==◌, List, []}
-use Rattle.std.proofs.Common.{◌∷◌, ◌++◌, length, take, get_or, Option, Some, None, refl, sym, ap, ◌∙◌, subst, arith}
-use Rattle.std.proofs.Common.{append-nil, append_assoc, length-append, take_all, le_refl}
-use Rattle.std.specs.Prelude.{slice_get, All}
+use Rattle.std.proofs.Common.{◌∷◌, ◌++◌, length, take, get_or, Some, refl, sym, ap, ◌∙◌, subst, arith}
+use Rattle.std.proofs.Common.{append_assoc, length-append, take_all, le_refl}
+use Rattle.std.specs.Prelude.{slice_get}
 use Rattle.std.specs.Bool.{Decides}
-use Rattle.std.specs.List.{list_any, range_with_len}
+use Rattle.std.specs.List.{range_with_len}
 use Rattle.std.proofs.lemmas.Bool.{cases_lt}
 use Rattle.std.proofs.lemmas.List.{take-append-le}
 use Rattle.std.proofs.lemmas.List.Folds.{list_any_none, list_any_at, Any-from_list_any}
@@ -17,14 +17,14 @@ use Rattle.role_commands.proofs.Exported.{same_command-self, same_command_is, sl
 use Rattle.link_frames.specs.frames.Packets.{PacketValue}
 use Rattle.role_sessions.specs.declared.event.ClientEvent.{ClientEvent}
 use Rattle.owner_streams.specs.Laws.{IsPrefixOf}
-use Rattle.owner_streams.specs.Places.{stream, reach}
+use Rattle.owner_streams.specs.Places.{stream}
 use Rattle.owner_streams.proofs.Exported.{stream_grows_lem}
 use Rattle.role_node.specs.declared.event.Event.{Event}
 use Rattle.role_node.specs.declared.event.Event.TheVariants.{Issue, Take, Client}
 use Rattle.role_node.specs.Histories.{issued, packets}
 use Rattle.role_node.specs.Access.{stream_at, reach_at}
-use Rattle.role_node.specs.Begun.{is_as_issued, is_begun_twice, IsSeenAt, BegunTwice, BegunTwiceIsSeen}
-use Rattle.role_node.specs.inside.Noting.{IsIssuedAt, AreIssued}
+use Rattle.role_node.specs.Begun.{is_as_issued, is_begun_twice, BegunTwiceIsSeen}
+use Rattle.role_node.specs.inside.Noting.{AreIssued}
 use Rattle.role_node.proofs.HistoryLemmas.{issued-Issue, issued-Take, issued-Client, packets-Issue, packets-Take}
 use Rattle.role_node.proofs.HistoryLemmas.{packets-Client, issued-none, packets-none}
 use Rattle.role_node.proofs.StreamLemmas.{stream_other, stream_of_nothing}
@@ -288,8 +288,8 @@ pub begun_twice_is_seen : BegunTwiceIsSeen
 begun_twice_is_seen s me history = record {
   seen = (
     (λ e.
-    let found = begun_found s me history e in
-    (found.0, (found.1, λ front. clash _ (is_as_issued-from s me (take found.0 history) front) found.2))),
+        let found = begun_found s me history e in
+        (found.0, (found.1, λ front. clash _ (is_as_issued-from s me (take found.0 history) front) found.2))),
     (λ at. by at.0 at.1.0 at.1.1 (is_as_issued s me (take at.0 history)) refl),
   );
   stays = λ more e. begun_stays s me history more e;

@@ -6,7 +6,6 @@ use Rattle.std.specs.Bool.{Decides}
 use Rattle.std.proofs.lemmas.Bool.{cases_lt}
 use Rattle.quorum_sizes.specs.Sizes.{Counts}
 use Rattle.role_commands.specs.Same.{same_command}
-use Rattle.role_commands.specs.Tables.{Table}
 use Rattle.role_commands.specs.declared.command.Command.{Command}
 use Rattle.role_commands.proofs.Exported.{same_command-self, same_command_is}
 use Rattle.link_frames.specs.frames.Packets.{PacketValue}
@@ -16,12 +15,10 @@ use Rattle.owner_streams.specs.declared.steps.StreamStep.{StreamStep}
 use Rattle.role_sessions.specs.declared.event.ClientEvent.{ClientEvent}
 use Rattle.role_node.specs.declared.event.Event.{Event}
 use Rattle.role_node.specs.declared.event.Event.TheVariants.{Issue, Take, Client}
-use Rattle.role_node.specs.declared.event.Reply.{Reply}
 use Rattle.role_node.specs.declared.event.Reply.TheVariants as reply
 use Rattle.role_node.specs.declared.noted.Noted.{Noted}
 use Rattle.role_node.specs.Access.{stream_at, reach_at}
 use Rattle.role_node.specs.Answers.{counted_reply}
-use Rattle.role_node.specs.Begun.{is_begun_twice}
 use Rattle.role_node.specs.Histories.{issued, packets, client_events}
 use Rattle.role_node.specs.inside.Noting.{IsNotedOf, IsIssuedAt, AreIssued}
 use Rattle.role_node.proofs.BegunLemmas.{begun-Issue, begun-Client, begun-other, begun-own}
@@ -48,11 +45,11 @@ pub is_compared : (s : Counts) (me : ℕ) (history : List Event) (place : ℕ) (
     same ≡ same_command own delivered → Decides same (IsIssuedAt s me history place)
 is_compared s me history place delivered own same there mine is = (
   (λ e c at.
-  let one : own ≡ delivered = same_command_is own delivered (sym is ∙ e) in
-  mine ∙ ap Some one ∙ sym there ∙ at),
+      let one : own ≡ delivered = same_command_is own delivered (sym is ∙ e) in
+      mine ∙ ap Some one ∙ sym there ∙ at),
   (λ issued'.
-  let one : own ≡ delivered = two_one own delivered (sym mine ∙ issued' delivered there) in
-  is ∙ ap (same_command own) (sym one) ∙ same_command-self own),
+      let one : own ≡ delivered = two_one own delivered (sym mine ∙ issued' delivered there) in
+      is ∙ ap (same_command own) (sym one) ∙ same_command-self own),
 )
 
 -- nothing was issued there

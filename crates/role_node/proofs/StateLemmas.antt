@@ -1,20 +1,16 @@
 -- The state after one more event.
 use Rattle.std.proofs.Common.{◌≡◌, ℕ, ◌+◌, ◌≤◌, Bool, true, false, List, [], ◌∷◌, ◌++◌}
-use Rattle.std.proofs.Common.{Result, Ok, Err, refl, sym, ap, ◌∙◌, subst, le_refl, arith}
+use Rattle.std.proofs.Common.{Result, Ok, Err, sym, ap, ◌∙◌, subst, le_refl, arith}
 use Rattle.std.specs.Prelude.{if◌then◌else◌, nat_le, OnErr}
 use Rattle.std.proofs.lemmas.List.Elements.{All-nil, All-push}
 use Rattle.quorum_sizes.specs.Sizes.{Counts}
 use Rattle.role_commands.specs.Tables.{Table}
 use Rattle.role_commands.specs.declared.command.Command.{Command}
 use Rattle.link_frames.specs.frames.Packets.{PacketValue, SentByOwner}
-use Rattle.bracha_instance.specs.declared.instance.Effect.{Effect}
-use Rattle.bracha_instance.specs.declared.instance.Effect.TheVariants as effect
 use Rattle.owner_streams.specs.Places.{stream, reach}
-use Rattle.owner_streams.specs.Steps.{step_of, step_due, effect_due, IsAnswer}
+use Rattle.owner_streams.specs.Steps.{step_of, step_due}
 use Rattle.owner_streams.specs.Values.{IsStateOf}
 use Rattle.owner_streams.specs.declared.steps.StreamStep.{StreamStep}
-use Rattle.owner_streams.specs.declared.steps.StreamFault.{StreamFault}
-use Rattle.owner_streams.specs.declared.steps.StreamFault.TheVariants as stream_fault
 use Rattle.rbac_state.specs.Policies.{PolicyValue, IsBlank, SameRelations, IsPolicyOf}
 use Rattle.rbac_state.proofs.Exported.{blank_is_of_no_commands, same_is_of_the_same}
 use Rattle.role_sessions.proofs.Exported.{relations_stay}
@@ -23,13 +19,9 @@ use Rattle.role_sessions.specs.Decisions.{Relations, relations_of}
 use Rattle.role_sessions.specs.Kept.{SessionsValue, KeptAreRight, KeepsRight}
 use Rattle.role_sessions.specs.declared.event.ClientEvent.{ClientEvent}
 use Rattle.role_node.specs.Histories.{packets, client_events}
-use Rattle.role_node.specs.Faults.{of_stream_fault}
-use Rattle.role_node.specs.Answers.{of_effect_due}
 use Rattle.role_node.specs.inside.Kept.{ArePartsOf, IsStateAfter, Stays, obeyed}
 use Rattle.role_node.specs.declared.event.Event.{Event}
 use Rattle.role_node.specs.declared.event.Event.TheVariants.{Issue, Take, Client}
-use Rattle.role_node.specs.declared.faults.NodeFault.{NodeFault}
-use Rattle.role_node.specs.declared.faults.NodeFault.TheVariants as fault
 use Rattle.role_node.specs.declared.state.State.{State}
 use Rattle.role_node.proofs.HistoryLemmas.{issued-Issue, issued-Take, issued-Client, packets-Issue, packets-Take}
 use Rattle.role_node.proofs.HistoryLemmas.{packets-Client, client_events-Issue, client_events-Take}

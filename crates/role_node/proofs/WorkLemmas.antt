@@ -25,7 +25,7 @@ use Rattle.owner_streams.specs.Steps.{SendsAreOwners, step_of, step_due, effect_
 use Rattle.owner_streams.specs.declared.steps.StreamStep.{StreamStep}
 use Rattle.owner_streams.specs.declared.steps.StreamFault.{StreamFault}
 use Rattle.owner_streams.specs.declared.steps.StreamFault.TheVariants.{Beyond}
-use Rattle.role_node.specs.Answers.{is_routed, take_outlook, reply_to, answer_due, is_recorded, IsLegal}
+use Rattle.role_node.specs.Answers.{is_routed, take_outlook, reply_to, answer_due, is_recorded}
 use Rattle.role_node.specs.Configs.{ConfigValue}
 use Rattle.role_node.specs.Histories.{packets}
 use Rattle.role_node.specs.Work.{most_at_place, FewAtPlace}

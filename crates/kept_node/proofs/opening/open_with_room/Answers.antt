@@ -1,6 +1,6 @@
 use Rattle.std.proofs.Common.{◌≤◌}
 use Rattle.kept_node.proofs.OpeningLemmas.{unopened_is, unopened_leaves, head_names, not_err, opened_is}
-use Rattle.kept_node.proofs.OpeningLemmas.{roomless_left}
+use Rattle.kept_node.proofs.OpeningLemmas.{beside_first, roomless_left}
 use Rattle.kept_node.proofs.opening.open_with_room.Goals as goal
 
 pub returns-in-Err-open-clause-why : goal.returns-in-Err-open-clause-why
@@ -32,6 +32,11 @@ returns-then-is_err-clause-left g c clean =
     })
     (head_names c.args.locked.now.node.config c.config.result.now c.args.locked.now.node.me c.me.result c.in-Ok.head
     c.config.ensures.value c.me.ensures.value c.in-Ok.ensures.names) clean
+
+pub returns-clause-alone : goal.returns-clause-alone
+returns-clause-alone g c clean =
+    c.in-Ok-open.ensures.alone
+    (beside_first g.D.Disk.is_clean c.in-Ok-open.opened.0 c.make_room.new.self c.make_room.ensures.same clean)
 
 pub returns-clause-opened : goal.returns-clause-opened
 returns-clause-opened g c =

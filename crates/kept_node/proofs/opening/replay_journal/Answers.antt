@@ -21,15 +21,18 @@ returns-in-Ok-replay_events-clause-kept g c =
     c.in-Ok.ensures.items c.in-Ok.ensures.capacity
 
 pub returns-in-Err-Illegal-clause-why : goal.returns-in-Err-Illegal-clause-why
-returns-in-Err-Illegal-clause-why g c clean =
-    subst (λ (n : ℕ). IsIllegalFile c.args.key.now c.args.locked.now.node.config c.args.locked.now.node.me n
-    (g.D.Disk.seen c.args.files.db)) (sym c.in-Err-Illegal.place-is)
-    (opened_illegal g.D.Disk.may_leave g.D.Disk.is_clean c.args.key.now c.args.locked.now.node.config
-    c.args.locked.now.node.me (g.D.Disk.seen c.args.files.db) c.in_ok-journal.journal c.in_ok-journal.digits.items
-    c.in-Err-Illegal.place c.in_ok-journal.ensures.opened clean
-    (subst (IsReplayFault c.args.locked.now.node.config c.args.locked.now.node.me c.in_ok-journal.digits.items)
-    c.in-Err-Illegal.field-0-is (subst (λ (l : List ℕ). IsReplayFault c.args.locked.now.node.config
-    c.args.locked.now.node.me l c.in-Err-Illegal.field-0) c.deref.ensures.value c.in-Err-Illegal.ensures.illegal)))
+returns-in-Err-Illegal-clause-why g c = (
+  c.in_ok-journal.ensures.alone,
+  λ clean.
+      subst (λ (n : ℕ). IsIllegalFile c.args.key.now c.args.locked.now.node.config c.args.locked.now.node.me n
+      (g.D.Disk.seen c.args.files.db)) (sym c.in-Err-Illegal.place-is)
+      (opened_illegal g.D.Disk.may_leave g.D.Disk.is_clean c.args.key.now c.args.locked.now.node.config
+      c.args.locked.now.node.me (g.D.Disk.seen c.args.files.db) c.in_ok-journal.journal c.in_ok-journal.digits.items
+      c.in-Err-Illegal.place c.in_ok-journal.ensures.opened clean
+      (subst (IsReplayFault c.args.locked.now.node.config c.args.locked.now.node.me c.in_ok-journal.digits.items)
+      c.in-Err-Illegal.field-0-is (subst (λ (l : List ℕ). IsReplayFault c.args.locked.now.node.config
+      c.args.locked.now.node.me l c.in-Err-Illegal.field-0) c.deref.ensures.value c.in-Err-Illegal.ensures.illegal))),
+)
 
 pub returns-in-Err-Illegal-clause-left : goal.returns-in-Err-Illegal-clause-left
 returns-in-Err-Illegal-clause-left g c =

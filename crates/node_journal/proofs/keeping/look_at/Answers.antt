@@ -50,8 +50,9 @@ returns-in-Ok-clause-sight g c clean =
 
 pub returns-in-Err-Illegal-clause-why : goal.returns-in-Err-Illegal-clause-why
 returns-in-Err-Illegal-clause-why g c = (
-  c.has_bytes.new.file,
+  record { log = c.read.new.files.log; db = c.has_bytes.new.file },
   c.in-Err-Illegal.field-0-0,
+  c.in_ok-found.ensures.alone,
   λ clean.
       let found = c.in_ok-found.ensures.found (c.has_bytes.ensures.clean clean) in
       let first = c.in_ok-locked.locked.node in

@@ -1,4 +1,4 @@
-use Rattle.std.specs.Prelude.{◌≤◌, List}
+use Rattle.std.specs.Prelude.{List}
 use Rattle.role_commands.specs.Tables.{Table}
 use Rattle.role_node.specs.inside.Kept.{IsStateAfter}
 use Rattle.role_node.specs.inside.Noting.{AreIssued}
