@@ -5,10 +5,9 @@ ghost use Rattle.std.specs.FinSet as sets;
 ghost use Rattle.quorum_sizes.specs.Sizes.{most_nodes};
 ghost use Rattle.owner_shares.specs.Answers.{answer_of_shares, answer_to_act as act_answer};
 ghost use Rattle.role_node.specs.declared.event.Event.TheVariants.{Issue};
-ghost use Rattle.owner_shares.specs.Shares.{owners_of, places_each, share_in, shares_of, published_events};
+ghost use Rattle.owner_shares.specs.Shares.{owners_of, places_each, share_in, shares_of};
 
 use crate::answer::ShareAnswer;
-use link_frames::Packet;
 use quorum_sizes::{NodeName, NodeSet};
 use role_commands::{Command, RoleTable};
 use role_node::{ClientEvent, Event, Node, NodeFault};

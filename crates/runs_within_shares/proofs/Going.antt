@@ -1,22 +1,20 @@
 -- A run within shares goes on by what is wanted below them.
-use Rattle.std.proofs.Common.{◌≡◌, ℕ, suc, ◌+◌, ◌<◌, ◌⊎◌, inl, inr, ⊎_elim, Bool, true, false, cond, ◌==◌, List, [], ◌∷◌}
-use Rattle.std.proofs.Common.{◌++◌, length, Option, Some, None, Result, Ok, Err, refl, sym, ap, ◌∙◌, subst, arith}
-use Rattle.std.specs.Prelude.{if◌then◌else◌, nat_le, slice_get, All}
-use Rattle.std.specs.List.{cons_option, filter_map}
+use Rattle.std.proofs.Common.{◌≡◌, ℕ, suc, ◌<◌, inl, inr, ⊎_elim, Bool, true, false, ◌==◌, List, [], ◌∷◌}
+use Rattle.std.proofs.Common.{◌++◌, length, Some, None, Ok, refl, sym, ap, ◌∙◌, subst, arith}
+use Rattle.std.specs.Prelude.{if◌then◌else◌, nat_le}
+use Rattle.std.specs.List.{cons_option}
 use Rattle.std.proofs.lemmas.Bool.Decides.{nat_tests}
 use Rattle.std.proofs.lemmas.List.Elements.{All-cons, All-nil, All-push, All-same}
 use Rattle.std.proofs.lemmas.Map.Views.{exact_unsigned_eq}
 use Rattle.quorum_sizes.specs.NodeSets.{Nodes}
 use Rattle.link_frames.specs.frames.Packets.{PacketValue, IsSound}
-use Rattle.bracha_instance.specs.declared.instance.Effect.{Effect}
 use Rattle.bracha_instance.specs.declared.instance.Effect.TheVariants as effect
 use Rattle.role_node.proofs.Exported.{counted_with_room, counted_is_due, packets-Take}
-use Rattle.role_node.specs.Answers.{outlook, reply_to, answer_due, is_recorded}
+use Rattle.role_node.specs.Answers.{outlook, answer_due, is_recorded}
 use Rattle.role_node.specs.Configs.{ConfigValue}
 use Rattle.role_node.specs.Histories.{packets}
 use Rattle.role_node.specs.declared.event.Event.{Event}
 use Rattle.role_node.specs.declared.event.Event.TheVariants as event
-use Rattle.role_node.specs.declared.faults.NodeFault.{NodeFault}
 use Rattle.owner_shares.proofs.Exported.{never_full}
 use Rattle.owner_shares.specs.Laws.{AreSound, IsWithinShares, FindsRoom}
 use Rattle.owner_shares.specs.Shares.{share}
@@ -25,8 +23,8 @@ use Rattle.byz_world.proofs.Exported.{history_of-push, history_of-push_other}
 use Rattle.byz_world.specs.Laws.{PoolIsSound}
 use Rattle.byz_world.specs.Limits.{IsRunUnderLimits}
 use Rattle.byz_world.specs.Progress.{IsWanted, IsComplete, GoesOn}
-use Rattle.byz_world.specs.Runs.{Run, event_at, history_of, IsCorrect, PacketsAreSound, IsClusterRun}
-use Rattle.runs_within_shares.specs.Laws.{IsRunWithinShares, SharesGoOn, GoesOnByGiving, OwnersGoOn}
+use Rattle.byz_world.specs.Runs.{Run, history_of, PacketsAreSound, IsClusterRun}
+use Rattle.runs_within_shares.specs.Laws.{IsRunWithinShares, SharesGoOn, OwnersGoOn}
 
 -- The packets of a history are sound.
 
