@@ -1,7 +1,7 @@
 -- What the fields of a world tell: its nodes, its packets, what was sent, and how far streams agree.
 use Rattle.std.proofs.Common.{◌≡◌, ℕ, ◌*◌, ◌<◌, ◌≤◌, Bool, true, false, ◌&&◌, List, []}
 use Rattle.std.proofs.Common.{◌∷◌, length, min, Option, Some, None, refl, sym, ap, ◌∙◌, arith}
-use Rattle.std.specs.Prelude.{if◌then◌else◌, nat_lt, not, is_some, slice_get, option_map, ◌/◌, ◌%◌}
+use Rattle.std.specs.Prelude.{if◌then◌else◌, nat_lt, not, slice_get, option_map, ◌/◌, ◌%◌}
 use Rattle.std.proofs.lemmas.Bool.{and_parts}
 use Rattle.std.proofs.Math.Nat.{le-mul_of_pos_right}
 use Rattle.owner_streams.proofs.Exported.{echoed-none, readied-none}
