@@ -51,9 +51,9 @@ pub fn server_of<'a, N: HeldNode + Drop, K: FrameKeys + Drop, R: Clock>(
     waker: Waker,
     site: &Site,
 ) -> Result<Server<'a, N, K, R>, AllocError> {
+    let roles = roles_of(alloc, &served.node)?;
     let Served { node, seats, keys } = served;
     let beside = beside_of::<N, K, R>(rt, alloc, seats, queues, &keys, site)?;
-    let roles = roles_of(alloc, &node)?;
     Ok(Server {
         rt,
         alloc,

@@ -25,28 +25,49 @@ use sqlite_std_file::Unknown;
 use std::env;
 use std::fs::File;
 use std::io::ErrorKind;
+use std::net::{Net, TcpListener, TcpStream};
 use std::process::ExitCode;
+use std::sync::Wait;
+use std::thread::Threads;
+use std::time::Clock;
 use words::{Keeping, Words, read_words};
 
 fn main(rt: HostRuntime) -> ExitCode {
-    let outcome = match words_given(&rt) {
-        Ok(Words::Serve { cluster, keeping }) => match (given_of(&rt, &cluster), keeping) {
-            (Ok(given), Keeping::InMemory) => serve_in_memory(&rt, rt.alloc(), given),
-            (Ok(given), Keeping::Journal(path)) => match open_journal(&rt, &path, Unknown) {
-                Ok(files) => serve_kept(&rt, rt.alloc(), given, files),
-                Err(fault) => Err(Fault::Kept(fault)),
-            },
-            (Err(fault), _) => Err(Fault::Given(fault)),
+    match words_given(&rt) {
+        Ok(Words::Serve { cluster, keeping }) => match given_of(&rt, &cluster) {
+            Ok(given) => ended(&rt, serve_given(&rt, &rt, given, keeping)),
+            Err(fault) => ended(&rt, Err(Fault::Given(fault))),
         },
-        Ok(words) => answer(&rt, words),
-        Err(fault) => Err(Fault::Words(fault)),
-    };
+        Ok(words) => ended(&rt, answer(&rt, words)),
+        Err(fault) => ended(&rt, Err(Fault::Words(fault))),
+    }
+}
+
+/// The status with which the program ends. A fault is said.
+fn ended(rt: &HostRuntime, outcome: Result<(), Fault>) -> ExitCode {
     match outcome {
         Ok(()) => ExitCode::SUCCESS,
         Err(fault) => {
             let _ = eprintln!(rt; "tundelca: {fault}");
             ExitCode::from(fault.status())
         }
+    }
+}
+
+/// Serves the node that is given, which keeps what it records as it was said.
+fn serve_given<R>(rt: &R, host: &HostRuntime, given: Given, keeping: Keeping) -> Result<(), Fault>
+where
+    R: Net<Listener = TcpListener, Stream = TcpStream> + Threads + Wait + Clock + Sync,
+    requires me { IsNodeSetup given.setup }
+    requires peers { IsServerSetup given.setup }
+    requires hosts { HasHosts given }
+{
+    match keeping {
+        Keeping::InMemory => serve_in_memory(rt, host.alloc(), given),
+        Keeping::Journal(path) => match open_journal(host, &path, Unknown) {
+            Ok(files) => serve_kept(rt, host.alloc(), given, files),
+            Err(fault) => Err(Fault::Kept(fault)),
+        },
     }
 }
 
@@ -57,19 +78,36 @@ fn answer(rt: &HostRuntime, words: Words) -> Result<(), Fault> {
         Words::Serve { .. } => Ok(()),
         Words::Journal { cluster, journal } => {
             let given = given_of(rt, &cluster)?;
-            let files = make_journal(rt, &journal, Unknown)?;
-            let _journal = begin(rt.alloc(), &given.setup, files)?;
-            Ok(())
+            begin_journal(rt, &given, &journal)
         }
         Words::Check { cluster, journal } => {
             let given = given_of(rt, &cluster)?;
-            say(rt, &report_of(rt.alloc(), &given)?)?;
+            say_report(rt, &given)?;
             match journal {
                 Some(path) => check(rt, given, &path),
                 None => Ok(()),
             }
         }
     }
+}
+
+/// Begins the journal of a node.
+fn begin_journal(rt: &HostRuntime, given: &Given, path: &str) -> Result<(), Fault>
+    requires me { IsNodeSetup given.now.setup }
+    requires peers { IsServerSetup given.now.setup }
+{
+    let files = make_journal(rt, path, Unknown)?;
+    let _journal = begin(rt.alloc(), &given.setup, files)?;
+    Ok(())
+}
+
+/// Says what a cluster file is.
+fn say_report(rt: &HostRuntime, given: &Given) -> Result<(), Fault>
+    requires peers { IsServerSetup given.now.setup }
+    requires hosts { HasHosts given.now }
+{
+    let text = report_of(rt.alloc(), given)?;
+    say(rt, &text)
 }
 
 /// Says what the journal of a node is. The file beside it goes again where it was made for that.

@@ -4,10 +4,12 @@ ghost use Rattle.cluster_text.specs.Setups.{IsServerSetup};
 ghost use Rattle.cluster_hosts.specs.Hosts.{HasHosts};
 
 use cluster_hosts::{Given, of_common, of_key};
+use cluster_text::cluster::Setup;
 use node_journal::Sight;
 use role_commands::RoleTable;
 use std::alloc::{AllocError, Global};
 use std::fmt::Write;
+use std::net::SocketAddr;
 
 /// What a cluster file says, in lines: the cluster and the node, where the nodes take frames, the roles with their
 /// owners, and the fingerprints of what the texts of all nodes have in common and of each key. Nothing in it is secret.
@@ -19,28 +21,40 @@ pub fn report_of(alloc: Global, given: &Given) -> Result<String, AllocError>
     requires peers { IsServerSetup given.now.setup }
     requires hosts { HasHosts given.now }
 {
-    let setup = &given.setup;
     let mut text = String::new(alloc);
+    push_cluster(&mut text, &given.setup)?;
+    push_addresses(&mut text, &given.addresses(alloc)?)?;
+    push_roles(&mut text, given.setup.config.roles())?;
+    push_fingerprints(alloc, &mut text, &given.setup)?;
+    Ok(text)
+}
+
+/// The cluster and the node.
+fn push_cluster(text: &mut String, setup: &Setup) -> Result<(), AllocError> {
     let sizes = setup.config.roles().sizes();
     let (cluster, me) = (setup.config.cluster(), setup.me.index());
     writeln!(text, "cluster {cluster}")?;
     writeln!(text, "nodes {}, of which {} may lie", sizes.n(), sizes.f())?;
-    writeln!(text, "this node {me}, clients at port {}", setup.client)?;
-    let addresses = given.addresses(alloc)?;
+    writeln!(text, "this node {me}, clients at port {}", setup.client)
+}
+
+/// Where the nodes take frames.
+fn push_addresses(text: &mut String, addresses: &[SocketAddr]) -> Result<(), AllocError> {
     for (node, address) in addresses.iter().enumerate() {
         writeln!(text, "node {node} at {address}")?;
     }
-    push_roles(&mut text, setup.config.roles())?;
+    Ok(())
+}
+
+/// The fingerprints of what all nodes have in common, and of each key.
+fn push_fingerprints(alloc: Global, text: &mut String, setup: &Setup) -> Result<(), AllocError> {
     let common = of_common(alloc, &setup.config)?;
     writeln!(text, "fingerprint of cluster, nodes and roles: {common}")?;
     for (other, key) in setup.keys.as_slice().iter().enumerate() {
-        writeln!(
-            text,
-            "fingerprint of the key with node {other}: {}",
-            of_key(key)
-        )?;
+        let print = of_key(key);
+        writeln!(text, "fingerprint of the key with node {other}: {print}")?;
     }
-    Ok(text)
+    Ok(())
 }
 
 /// The roles with their owners, the lowest role first.

@@ -109,33 +109,44 @@ fn kept_in(alloc: Global, words: &ArgMatches<'_>) -> Result<Keeping, WordsFault>
 
 /// The program's words.
 fn program<'a>(alloc: Global, version: &'a str) -> Result<Command<'a>, AllocError> {
-    let journal = journal_word(alloc).required_unless_present("in-memory")?;
-    let in_memory = Arg::new(alloc, "in-memory")
-        .long("in-memory")
-        .help("Keeps nothing over its end")
-        .action(ArgAction::SetTrue)
-        .conflicts_with("journal")?;
-    let serve = Command::new(alloc, "serve")
-        .about("Serves a node")
-        .arg(cluster_word(alloc))?
-        .arg(journal)?
-        .arg(in_memory)?;
-    let begin = Command::new(alloc, "journal")
-        .about("Begins a node's journal, once for a cluster number")
-        .arg(cluster_word(alloc))?
-        .arg(journal_word(alloc).required(true))?;
-    let check = Command::new(alloc, "check")
-        .about("Says what a cluster file is, and a journal that no node has open")
-        .arg(cluster_word(alloc))?
-        .arg(journal_word(alloc))?;
-    Command::new(alloc, "tundelca")
+    let program = Command::new(alloc, "tundelca")
         .about("A node of a registry of roles")
         .version(VERSION)
         .long_version(version)
-        .subcommand_required(true)
-        .subcommand(serve)?
-        .subcommand(begin)?
-        .subcommand(check)
+        .subcommand_required(true);
+    let serving = program.subcommand(serve_words(alloc)?)?;
+    let beginning = serving.subcommand(journal_words(alloc)?)?;
+    beginning.subcommand(check_words(alloc)?)
+}
+
+fn serve_words<'a>(alloc: Global) -> Result<Command<'a>, AllocError> {
+    let serve = Command::new(alloc, "serve")
+        .about("Serves a node")
+        .arg(cluster_word(alloc))?;
+    let kept = serve.arg(journal_word(alloc).required_unless_present("in-memory")?)?;
+    kept.arg(in_memory_word(alloc)?)
+}
+
+fn journal_words<'a>(alloc: Global) -> Result<Command<'a>, AllocError> {
+    Command::new(alloc, "journal")
+        .about("Begins a node's journal, once for a cluster number")
+        .arg(cluster_word(alloc))?
+        .arg(journal_word(alloc).required(true))
+}
+
+fn check_words<'a>(alloc: Global) -> Result<Command<'a>, AllocError> {
+    Command::new(alloc, "check")
+        .about("Says what a cluster file is, and a journal that no node has open")
+        .arg(cluster_word(alloc))?
+        .arg(journal_word(alloc))
+}
+
+fn in_memory_word<'a>(alloc: Global) -> Result<Arg<'a>, AllocError> {
+    Arg::new(alloc, "in-memory")
+        .long("in-memory")
+        .help("Keeps nothing over its end")
+        .action(ArgAction::SetTrue)
+        .conflicts_with("journal")
 }
 
 fn cluster_word<'a>(alloc: Global) -> Arg<'a> {
