@@ -261,7 +261,7 @@ def lines(given):
         well = [json.dumps(WELL).encode(), json.dumps({"op": "decide_all", "asked": [ROW, ROW]}).encode()]
         cut = [line[:end] + line[end + 1:] for line in well for end in range(len(line))]
         cut += [line[:end] for line in well for end in range(1, len(line))]
-        said = talk(cluster, cut)
+        said = talk(cluster, well[:1] + cut)[1:]  # a connection that doesn't begin with a { is ended
         judge(len(said) == len(cut), f"{len(said)} answers to {len(cut)} lines")
         kinds = {answer.get("error", "decided").split()[0] for answer in said}
         judge(kinds <= {"J1", "J2", "J3", "J4", "J5", "J6", "decided"}, str(kinds))
