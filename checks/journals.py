@@ -139,17 +139,22 @@ class Refusals:
             file.write(text)
         os.chmod(self.journal, 0o600)
 
+    def stands(self) -> Tuple[int, bytes]:
+        """How long the file is, and what stands in it, up to where no journal of these is written; -1 where none is."""
+        if not os.path.isfile(self.journal):
+            return -1, b""
+        with open(self.journal, "rb") as file:
+            return os.path.getsize(self.journal), file.read(4 * MIB)
+
     def due(self, fault: str, steps: Tuple[str, ...] = ("serve", "check"), status: int = REFUSED) -> None:
         """Each of these words is refused so."""
-        before = os.stat(self.journal) if os.path.isfile(self.journal) else None
+        before = self.stands()
         for step in steps:
             came = self.run(self.words(step))
             if (came[0], came[2]) != (status, f"tundelca: {fault}\n"):
                 raise Failed(f"{step}: {fault} and status {status} are due, and {came[2]!r}, {came[0]} came")
             self.count += 1
-        after = os.stat(self.journal) if os.path.isfile(self.journal) else None
-        judge((before and (before.st_size, before.st_mtime_ns)) == (after and (after.st_size, after.st_mtime_ns)),
-              f"{fault}: the file that is refused isn't as it was")
+        judge(self.stands() == before, f"{fault}: the file that is refused isn't as it was")
         self.seen[fault.split()[0]] = self.seen.get(fault.split()[0], 0) + 1
 
     def beside(self, end: str, text: bytes) -> None:
