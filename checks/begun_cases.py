@@ -10,7 +10,7 @@ import signal
 import time
 from typing import Any, Dict, List, NamedTuple, Optional, Tuple
 
-from cluster import PATIENCE, ROLE, Cluster, tundelca
+from cluster import PATIENCE, READY, ROLE, Cluster, assign, tundelca
 from runner import Failed, judge
 
 NODES, MAY_LIE = 4, 1
@@ -211,3 +211,28 @@ def same_again(program: str, rng: Any, folder: str) -> str:
             cluster.reach_all(0, count + 5)
             cluster.forgetful = set()
     return f"{', '.join(map(str, counts))} commands, and no word"
+
+
+def votes_ahead(program: str, rng: Any, folder: str) -> str:
+    """Node 3 lies: it votes where node 0 has published nothing yet, and that stops nobody. Once another peer does so too,
+    which no correct one does, node 0 says that it was begun twice."""
+    with Cluster(program, NODES, MAY_LIE, running=range(3), waits=True) as cluster:
+        with cluster.client(0) as node:
+            node.publish(assigns(0, 3), 0, cluster.clients[1:3], 0, patience=PATIENCE)
+            votes_from(cluster, 3)
+            time.sleep(0.5)
+            judge(node.ask("status")["begun_twice"] is False, "one liar has it say that it was begun twice")
+            judge(list(node.ask_all(assigns(3, 1)))[0].get("issued") == 3, "one liar has it refuse commands")
+            cluster.reach_all(0, 4)
+            cluster.forgetful = {0}
+            votes_from(cluster, 2)
+            told(node, time.monotonic())
+            judge(list(node.ask_all(assigns(4, 1))) == [REFUSED], "it says so, and takes a command")
+    return "one may lie; with two it says so"
+
+
+def votes_from(cluster: Cluster, source: int) -> None:
+    """Votes in this node's name about places of node 0's stream: in the window and beyond it."""
+    with cluster.link(0) as link:
+        link.sendall(b"".join(cluster.frame(source, 0, READY, 0, place, assign(place)) for place in (5, 70, 400)))
+        time.sleep(0.1)

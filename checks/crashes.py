@@ -22,7 +22,7 @@ import time
 
 import runner
 from cluster import ROLE, tundelca
-from begun_cases import begun_twice, forgotten, same_again
+from begun_cases import begun_twice, forgotten, same_again, votes_ahead
 from journal_cases import damaged, failing, full, refused, said
 from lives import Lives, compiled
 from loads import Load, ask_on
@@ -172,7 +172,7 @@ def crowded(program, rng, folder):
 
 
 CASES = [said, refused, damaged, killed, torn, ended, broken, lonely, crowded, failing, full, begun_twice, forgotten,
-         same_again]
+         same_again, votes_ahead]
 
 
 def cases(given):
