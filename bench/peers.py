@@ -1,13 +1,11 @@
 """The peers of one real node, which a script plays. For bench/at_rest.py and bench/operators.py."""
 import selectors
 import socket
-import time
 
 from cluster import COMMAND, ECHO, READY, SEND, tundelca
 from forwarders import FRAME
 
 BEYOND = 1_000_000  # a place
-SLOT = 0.005  # seconds in which a newcomer's first frame is read
 
 
 class Peers:
@@ -22,12 +20,11 @@ class Peers:
             self.selector.register(listener, selectors.EVENT_READ, (peer, None))
 
     def connect(self):
-        """A connection of each peer to the real node, one after another: as newcomers give way to others, each says at
-        once what opens, a message beyond the window, and has its slot before the next one comes."""
+        """A connection of each peer to the real node, all at once: as newcomers give way to others, each says as soon as
+        it is connected what opens, a message beyond the window, and has its slot before the next one is taken."""
         for peer in range(1, self.count):
             self.links[peer] = self.cluster.link(0)
             self.say(peer, ECHO, 0, BEYOND, COMMAND)
-            time.sleep(SLOT)
 
     def say(self, peer, kind, owner, place, command):
         """Sends a frame of a peer to the real node."""
