@@ -3,8 +3,8 @@
 Both publish commands (`one`, `in_flight`) and answer reads (`reader`, of which `reads` names the kinds); `again` takes
 connections of its own, for a process that was forked.
 """
-import contextlib
 import os
+import socket
 import time
 
 from cluster import PATIENCE, ROLE, Cluster, tundelca
@@ -22,8 +22,8 @@ class Lines:
     """One client's connection to a node."""
 
     def __init__(self, port):
-        with contextlib.closing(tundelca.Client(port, PATIENCE)) as client:
-            self.socket = client.socket.dup()
+        self.socket = socket.create_connection((tundelca.LOOPBACK, port), PATIENCE)
+        self.socket.setsockopt(socket.IPPROTO_TCP, socket.TCP_NODELAY, 1)
         self.ahead = b""
 
     def ask(self, block, lines=1):
