@@ -216,7 +216,7 @@ def credit(program, nodes):
             gone = cluster.link(0)
             gone.sendall(cluster.votes(2, range(1, WAITS), [ECHO]))
             gone.close()
-            time.sleep(SYNC / 8)
+            time.sleep(SYNC / 2)  # its end is seen, and what it brought is not synced
             stranger = linked(stack, cluster, cluster.votes(2, [0], [ECHO]))
             time.sleep(3 * SYNC)
             last = linked(stack, cluster, cluster.votes(2, [WAITS], [ECHO]))
