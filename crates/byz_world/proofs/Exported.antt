@@ -12,6 +12,7 @@
 --     given_out_is_at_rest, giving_comes_to_rest      the laws of runs that go on by packets of the pool alone
 --     settled_prolongs, settled_is, settled-config      a world that has settled
 --     after_gives-none, after_gives-next, after_gives-pool      packets that are given one after another
+--     right_decision      the verdict of any relations and any session is right
 --     ready_for_one ..      their parts, of a run with what is known of it; `taken_by` is what a node took at a place
 pub use Rattle.byz_world.proofs.Pooled.{sent_is_pooled, pooled_is_sent, pool_is_what_was_sent, has_sent_is}
 pub use Rattle.byz_world.proofs.Pooled.{is_has_sent, has_sent_stays, recorded_after}
@@ -21,9 +22,10 @@ pub use Rattle.byz_world.proofs.Pushing.{history_of-push, history_of-push_other,
 pub use Rattle.byz_world.proofs.Growing.{empty_run, cluster_run_push}
 pub use Rattle.byz_world.proofs.Fronts.{fronts_are_runs, front_of_history}
 pub use Rattle.byz_world.proofs.Stepping.{after_step_runs, after_steps_runs, may_arrive, refused_after}
+pub use Rattle.byz_world.proofs.Headline.{right_decision}
 pub use Rattle.byz_world.proofs.Safety.{consistency, integrity, ready_for_one, deliver_one}
 pub use Rattle.byz_world.proofs.Safety.{delivered_was_ready, ready_was_issued, delivered_was_issued, streamed}
-pub use Rattle.byz_world.proofs.Policy.{same_policy, same_stream}
+pub use Rattle.byz_world.proofs.Policy.{same_policy, same_stream, no_stream}
 pub use Rattle.byz_world.proofs.Rest.{ready_by_all, delivered_by_all, issued_reaches_all, at_rest}
 pub use Rattle.byz_world.proofs.Quiet.{quiet_is_complete}
 pub use Rattle.byz_world.proofs.GoesOn.{each_owner_goes_on}

@@ -120,7 +120,7 @@ module _ (relations : Relations) (user operation object : ℕ) where
   allowed_by session (Allow role) denies h = (role, refl)
   allowed_by session (Deny rule) denies h = absurd (denied session rule (denies rule refl) h)
 
-  right_decision : (found : Option Session)
+  pub right_decision : (found : Option Session)
       → IsRightDecision relations found user operation object (verdict relations found user operation object)
   right_decision None = record {
     allows = λ h. absurd h;

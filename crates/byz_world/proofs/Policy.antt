@@ -30,7 +30,7 @@ module _ (config : ConfigValue) (liars : Nodes) (run : Run) (cluster : IsCluster
       let within : owner < config.roles.sizes.nodes = rw from.owner_is at route.2 in
       absurd (omega arith)
 
-  no_stream : (node owner : ℕ) → config.roles.sizes.nodes ≤ owner → stream_of config run node owner ≡ []
+  pub no_stream : (node owner : ℕ) → config.roles.sizes.nodes ≤ owner → stream_of config run node owner ≡ []
   no_stream node owner past =
       sym (stream_is_one_lem config.roles.sizes owner (packets (history_of node run)) []
       (λ place _. ap (delivered config.roles.sizes) (no_takes node owner place past _ refl)

@@ -6,15 +6,17 @@ ghost use Rattle.std.specs.List.{AllByRecursion, flat_map, list_any};
 ghost use Rattle.std.specs.List.Sorted.{IsStrictlySortedBy};
 ghost use Rattle.sorted_pairs.specs.Blocks.{items_in};
 ghost use Rattle.rbac_state.specs.inside.PermissionNumbers.{permission_of};
+ghost use Rattle.sorted_pairs.specs.KeyRanges.{IsFilled, pairs_in};
 ghost use Rattle.sorted_pairs.specs.Pairs.{number_cmp};
+ghost use Rattle.sorted_pairs.specs.Lists.{is_among};
 ghost use Rattle.rbac_state.specs.inside.Limits.{most_firsts};
 ghost use Rattle.rbac_state.specs.inside.Relations.{IsKeptBothWays, relates, CanBeAsked, is_granting};
 
-use crate::limits::PERMISSIONS;
+use crate::limits::{PERMISSIONS, ROLES};
 use crate::numbered::Numbered;
 use crate::permission_number::Permission;
 use crate::relation::{Grants, Users};
-use sorted_pairs::key_range::blocks_of;
+use sorted_pairs::key_range::{KeyRange, blocks_of};
 use sorted_pairs::{Pair, beginning_with};
 use std::alloc::{AllocError, Global};
 
@@ -199,7 +201,7 @@ fn first_of_few(
     None
 }
 
-/// As `first_granting`: the roles that have the permission are found once for all of these.
+/// As `first_granting`: the roles that have the permission, and those of the user, are found once for all of these.
 fn first_of_many(
     assigned: &Users,
     granted: &Grants,
@@ -217,12 +219,23 @@ fn first_of_many(
     if grants.is_empty() {
         return None;
     }
+    let mine = assigned.of_first(user);
     for role in roles {
-        if grants.has(&Pair::new(permission, *role as u64)) && assigned.has(user, *role) {
+        if is_there(&mine, user, *role) && is_there(&grants, permission, *role) {
             return Some(*role);
         }
     }
     None
+}
+
+/// Whether the pairs that were found have this one.
+fn is_there(found: &KeyRange<'_, ROLES>, first: u64, role: u16) -> bool
+    requires below { first < most_firsts }
+    requires ascending { IsStrictlySortedBy number_cmp (pairs_in found.now) }
+    requires filled { IsFilled found.now }
+    ensures { result ≡ is_among number_cmp (pairs_in found.now) (first, role) }
+{
+    found.has(&Pair::new(first, role as u64))
 }
 
 /// Whether the user has one of these roles. The user's roles are found once for all but the first of these.
