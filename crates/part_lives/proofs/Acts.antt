@@ -1,5 +1,5 @@
 -- What one more act of a node changes: the events of its parts, what it issued and adopted, and the end of its parts.
-use Rattle.std.proofs.Common.{◌≡◌, ℕ, suc, ◌+◌, ◌==◌, ◌≤◌, max, Bool, true, false, ◌&&◌, List, [], ◌∷◌, ◌++◌, None, Some}
+use Rattle.std.proofs.Common.{◌≡◌, ⊎_elim, ℕ, suc, ◌+◌, ◌==◌, ◌<◌, ◌≤◌, max, Bool, true, false, ◌&&◌, List, [], ◌∷◌, ◌++◌, None, Some}
 use Rattle.std.proofs.Common.{length, take, slice_get, refl, sym, ap, ◌∙◌, subst, arith, append-nil, append_assoc, eqb-true}
 use Rattle.std.specs.Prelude.{if◌then◌else◌, IsTrue}
 use Rattle.std.specs.List.{filter_map, cons_option}
@@ -12,6 +12,7 @@ use Rattle.std.proofs.lemmas.Option.{slice_get_within, cond_some}
 use Rattle.role_commands.proofs.Exported.{slice_get-seam, slice_get-front}
 use Rattle.role_commands.specs.declared.command.Command.{Command}
 use Rattle.role_sessions.specs.declared.event.ClientEvent.{ClientEvent}
+use Rattle.role_node.proofs.Exported.{at_push}
 use Rattle.role_node.specs.declared.event.Event.{Event}
 use Rattle.part_lives.specs.Parts.{Plan, Part, Act, In, Client, Adopts, same_part, event_in, events_in, client_in}
 use Rattle.part_lives.specs.Parts.{clients_in, part_of, adopt, adopted, part_end, parts_end}
@@ -43,6 +44,21 @@ life_front plan me past rest life k act there =
     let within : suc k ≤ length past = slice_get_within past k act there in
     subst P (take-append-le k past rest (omega (arith, within)))
     (life k act (slice_get-front past rest k within ∙ there))
+
+-- .. and one more that is due makes a life
+pub life_push : (plan : Plan) (me : ℕ) (acts : List Act) (act : Act) → IsLife plan me acts →
+    IsTrue (is_due plan me acts act) → IsLife plan me (acts ++ act ∷ [])
+life_push plan me acts act life due k next there =
+    ⊎_elim
+    (λ (h : (k < length acts) × (slice_get acts k ≡ Some next)).
+    subst (λ past. IsTrue (is_due plan me past next))
+    (sym (take-append-le k acts (act ∷ []) (omega (arith, h.0)))) (life k next h.1))
+    (λ (h : (k ≡ length acts) × (act ≡ next)).
+    let past : take k (acts ++ act ∷ []) ≡ acts =
+    ap (λ j. take j (acts ++ act ∷ [])) h.0 ∙ take-append_seam acts (act ∷ []) in
+    subst (λ e. IsTrue (is_due plan me (take k (acts ++ act ∷ [])) e)) h.1
+    (subst (λ p. IsTrue (is_due plan me p act)) (sym past) due))
+    (at_push acts act k next there)
 
 -- The parts.
 

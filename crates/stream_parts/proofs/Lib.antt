@@ -1,0 +1,6 @@
+pub mod Runs
+pub mod Origins
+pub mod Ordered
+pub mod Whole
+pub mod Full
+pub mod Growing

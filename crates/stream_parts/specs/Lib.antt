@@ -1,0 +1,2 @@
+pub mod LongRuns
+pub mod Laws
