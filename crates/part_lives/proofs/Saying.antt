@@ -37,21 +37,27 @@ one_key (Granted a b r) (Granted c d s) e = cc
 pub one_pair : maps.IsAntisymmetric pair_cmp
 one_pair p q tied = one_key p q (maps.slice_cmp-IsAntisymmetric maps.nat_cmp-IsAntisymmetric (pair_key p) (pair_key q) tied)
 
+pub itself : (p : Pair) → eq_by_cmp pair_cmp p p ≡ true
+itself p = ap is_eq (tied_itself ordered p)
+
+pub tied_is : (p q : Pair) → eq_by_cmp pair_cmp p q ≡ true → p ≡ q
+tied_is p q tied = one_pair p q (is (pair_cmp p q) tied)
+  where
+    is : (o : Ordering) → is_eq o ≡ true → o ≡ Equal
+    is Equal e = refl
+    is o e = cc
+
 -- a test that is passed just where the pairs are one
 same_test : (p q : Pair) (b : Bool) → (p ≡ q → b ≡ true) → (b ≡ true → p ≡ q) → eq_by_cmp pair_cmp p q ≡ b
 same_test p q b to from = by (eq_by_cmp pair_cmp p q) b refl refl
   where
     tied : p ≡ q → eq_by_cmp pair_cmp p q ≡ true
-    tied e = subst (λ x. eq_by_cmp pair_cmp p x ≡ true) e (ap is_eq (tied_itself ordered p))
-
-    is : (o : Ordering) → is_eq o ≡ true → o ≡ Equal
-    is Equal e = refl
-    is o e = cc
+    tied e = subst (λ x. eq_by_cmp pair_cmp p x ≡ true) e (itself p)
 
     by : (a c : Bool) → eq_by_cmp pair_cmp p q ≡ a → b ≡ c → a ≡ c
     by true true x y = refl
     by false false x y = refl
-    by true false x y = sym (to (one_pair p q (is (pair_cmp p q) x))) ∙ y
+    by true false x y = sym (to (tied_is p q x)) ∙ y
     by false true x y = sym x ∙ tied (from y)
 
 pub eq_assigned : (user role u r : ℕ) →
@@ -98,7 +104,7 @@ said_kept true false = refl
 said_kept false true = refl
 said_kept false false = refl
 
-cleared : (pairs : Pairs) (role : ℕ) (q : Pair) →
+pub cleared : (pairs : Pairs) (role : ℕ) (q : Pair) →
     sets.contains (sets.retain pairs (λ pair. not (pair_role pair == role))) q
     ≡ (sets.contains pairs q && not (pair_role q == role))
 cleared pairs role q =

@@ -4,3 +4,5 @@ pub mod Ordered
 pub mod Whole
 pub mod Full
 pub mod Growing
+pub mod Sizes
+pub mod Room

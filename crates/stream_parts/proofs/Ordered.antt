@@ -22,7 +22,7 @@ use Rattle.part_lives.specs.Parts.{current, total, command_in, all_issued}
 use Rattle.part_lives.proofs.Acts.{along_life, life_front, due_next, one_part, events-same, events-other, events-own}
 use Rattle.part_lives.proofs.Acts.{end-push, end-none, none_past, not_second}
 use Rattle.part_lives.proofs.Dues.{EventDue, event_due, was_due}
-use Rattle.part_lives.proofs.Lists.{get_behind, none_behind, prefix_is, prefix_of_prefix, in_prefix}
+use Rattle.part_lives.proofs.Lists.{get_behind, none_behind, prefix_is, prefix_of_prefix, prefix_shorter, in_prefix}
 use Rattle.part_lives.proofs.Owners.{number_is}
 use Rattle.part_lives.proofs.Picking.{picked_at}
 use Rattle.part_lives.proofs.Spots.{no_rows, next_row}
@@ -86,6 +86,18 @@ row_place f size n end place c full less there =
     in_prefix (in_a_row f n ++ f n) (in_a_row f end) (n * size + place) c (row_more f (suc n) end (omega (arith, less)))
     (ap (λ k. slice_get (in_a_row f n ++ f n) (k + place)) (sym (full_rows f size n full))
     ∙ get_behind (in_a_row f n) (f n) place ∙ there)
+
+-- lists of no more than so many, up to this one
+pub rows_few : (f : ℕ → List Command) (size n end : ℕ) → end ≤ suc n → ((k : ℕ) → length (f k) ≤ size) →
+    length (in_a_row f end) ≤ n * size + length (f n)
+unfolding in_a_row
+rows_few f size n end le few =
+    omega (arith, prefix_shorter (in_a_row f end) (in_a_row f n ++ f n) (row_more f end (suc n) le),
+    length-append (in_a_row f n) (f n), below n)
+  where
+    below : (m : ℕ) → length (in_a_row f m) ≤ m * size
+    below zero = omega arith
+    below (suc m) = omega (arith, length-append (in_a_row f m) (f m), below m, few m, next_row m size)
 
 -- One more act, by what it issues.
 

@@ -120,7 +120,7 @@ module _ (plan : Plan) (me : ℕ) (some : 1 ≤ plan.length) (acts : List Act) (
       (λ k number past there.
       (number, (adopts_due plan me (take k acts) owner number past (life k (Adopts owner number past) there)).long))
 
-  reach_is : current plan acts owner * plan.length ≤ length (total plan acts owner)
+  pub reach_is : current plan acts owner * plan.length ≤ length (total plan acts owner)
   reach_is =
       let state = state_of_life plan acts in
       let at = (of_life plan some me acts life).owners owner in

@@ -3,7 +3,7 @@
 //! Each function's contract is its law, and its body is empty, or calls the laws that it follows from.
 ghost use Rattle.stream_parts.specs.Laws.{PartsAreRuns, TotalsAgree, TotalsAgreeWhenever, TotalIntegrity};
 ghost use Rattle.stream_parts.specs.Laws.{PastIsComplete, SameRelations, HeadlineOverParts, DecidesAlike};
-ghost use Rattle.stream_parts.specs.Laws.{NoPartIsFull, SummaryIsTrue};
+ghost use Rattle.stream_parts.specs.Laws.{IssuedHasRoom, NoPartIsFull, SummaryIsTrue};
 
 use owner_shares::laws::owner_is_bounded;
 
@@ -60,6 +60,13 @@ pub fn decides_alike()
     ensures { DecidesAlike }
 {
     totals_agree_whenever();
+}
+
+/// What a correct owner issued has its effect wherever it is delivered: no room is missing then.
+pub fn issued_has_room()
+    ensures { IssuedHasRoom }
+{
+    total_integrity();
 }
 
 /// A history in a part is shorter than the part's limit, so that F4 is due in no part.
