@@ -1,5 +1,5 @@
 -- What one more act of a node changes: the events of its parts, what it issued and adopted, and the end of its parts.
-use Rattle.std.proofs.Common.{◌≡◌, ⊎_elim, ℕ, suc, ◌+◌, ◌==◌, ◌<◌, ◌≤◌, max, Bool, true, false, ◌&&◌, List, [], ◌∷◌, ◌++◌, None, Some}
+use Rattle.std.proofs.Common.{◌≡◌, ⊎_elim, ℕ, suc, ◌==◌, ◌<◌, ◌≤◌, max, Bool, true, false, ◌&&◌, List, [], ◌∷◌, ◌++◌, None, Some}
 use Rattle.std.proofs.Common.{length, take, slice_get, refl, sym, ap, ◌∙◌, subst, arith, append-nil, append_assoc, eqb-true}
 use Rattle.std.specs.Prelude.{if◌then◌else◌, IsTrue}
 use Rattle.std.specs.List.{filter_map, cons_option}
@@ -10,8 +10,6 @@ use Rattle.std.proofs.lemmas.List.{take-append-le}
 use Rattle.std.proofs.lemmas.List.Elements.{filter_map-append}
 use Rattle.std.proofs.lemmas.Option.{slice_get_within, cond_some}
 use Rattle.role_commands.proofs.Exported.{slice_get-seam, slice_get-front}
-use Rattle.role_commands.specs.declared.command.Command.{Command}
-use Rattle.role_sessions.specs.declared.event.ClientEvent.{ClientEvent}
 use Rattle.role_node.proofs.Exported.{at_push}
 use Rattle.role_node.specs.declared.event.Event.{Event}
 use Rattle.part_lives.specs.Parts.{Plan, Part, Act, In, Client, Adopts, same_part, event_in, events_in, client_in}

@@ -1,8 +1,8 @@
 -- The state of one owner at a moment of a node's life, and after one more act.
-use Rattle.std.proofs.Common.{◌≡◌, ℕ, zero, suc, ◌+◌, ◌-◌, ◌*◌, ◌==◌, ◌<◌, ◌≤◌, max, Bool, true, false, ⊎_elim, List, []}
+use Rattle.std.proofs.Common.{◌≡◌, ℕ, suc, ◌+◌, ◌-◌, ◌*◌, ◌==◌, ◌<◌, ◌≤◌, max, Bool, true, false, ⊎_elim, List, []}
 use Rattle.std.proofs.Common.{◌∷◌, ◌++◌, length, take, slice_get, Option, Some, None, refl, sym, ap, ◌∙◌, subst, arith}
-use Rattle.std.proofs.Common.{append-nil, length-append, take_all, eqb-true}
-use Rattle.std.specs.Prelude.{if◌then◌else◌, nat_le, nat_lt, not, IsTrue, ◌||◌, ◌&&◌}
+use Rattle.std.proofs.Common.{append-nil, length-append, eqb-true}
+use Rattle.std.specs.Prelude.{if◌then◌else◌, nat_le, ◌||◌}
 use Rattle.std.proofs.Math.Seq.{take-append_seam}
 use Rattle.std.proofs.lemmas.Bool.{cases_lt, eq-eqb, leb-true}
 use Rattle.std.proofs.lemmas.Bool.Decides.{nat_tests}
@@ -13,16 +13,15 @@ use Rattle.role_commands.specs.declared.command.Command.{Command}
 use Rattle.role_node.specs.declared.event.Event.{Event}
 use Rattle.owner_streams.specs.Laws.{IsPrefixOf}
 use Rattle.part_lives.specs.Holding.{Pairs}
-use Rattle.part_lives.specs.Laws.{WereHeld, IsStateOf}
 use Rattle.part_lives.specs.Lives.{held_from, held, is_kept}
 use Rattle.part_lives.specs.Parts.{Plan, Act, In, Adopts, Spot, part_of, events_in, spot_at, told_at, adopted, parts_end, total}
 use Rattle.part_lives.specs.Parts.{current, part_stream}
-use Rattle.part_lives.specs.States.{OwnerState, blank, with_event, with_summary, events_kept, held_now}
+use Rattle.part_lives.specs.States.{OwnerState, blank, with_event, with_summary}
 use Rattle.part_lives.proofs.Acts.{events-same, events-other, events-own, events-none, adopted-push, adopted-none, end-push}
 use Rattle.part_lives.proofs.Acts.{end-none, none_past, not_second}
-use Rattle.part_lives.proofs.Lists.{fold_append, get_behind, none_behind, prefix_is, prefix_of_prefix, prefix_short}
+use Rattle.part_lives.proofs.Lists.{fold_append, get_behind, none_behind, prefix_is, prefix_of_prefix}
 use Rattle.part_lives.proofs.Spots.{next_row, no_rows, spot_is, spot_below, below_spot}
-use Rattle.part_lives.proofs.Totals.{IsTotal, is_total, total_is, told_is, told_in, told_none, told_later, told_past}
+use Rattle.part_lives.proofs.Totals.{is_total, total_is, told_is, told_in, told_none, told_later, told_past}
 use Rattle.part_lives.proofs.Totals.{stream_place, stream_few, stream_none}
 
 pub held_on : (plan : Plan) (owner : ℕ) (pairs : Pairs) (xs ys : List Command) →
@@ -111,12 +110,12 @@ module _ (plan : Plan) (some : 1 ≤ plan.length) (w : ℕ) where
         base = [];
         long = omega (arith, no_rows plan.length);
         whole = total_is plan w [] [] some (record {
-            starts = prefix_is (adopted w []) [] (adopted-none w);
-            told = λ p from to.
-                told_past plan w [] some p
-                (omega (arith, ap (λ n. n * plan.length) (end-none w), no_rows plan.length))
-                ∙ sym (slice_get_past {X = Command} [] p (omega arith));
-          }) ∙ sym nothing;
+          starts = prefix_is (adopted w []) [] (adopted-none w);
+          told = λ p from to.
+              told_past plan w [] some p
+              (omega (arith, ap (λ n. n * plan.length) (end-none w), no_rows plan.length))
+              ∙ sym (slice_get_past {X = Command} [] p (omega arith));
+        }) ∙ sym nothing;
         short = omega (arith, ap length nothing, some);
         starts = prefix_is (adopted w []) [] (adopted-none w);
         now = sym (events-none (part_of w 0));
@@ -252,7 +251,12 @@ module _ (plan : Plan) (some : 1 ≤ plan.length) (w : ℕ) where
       before_same k is = at.before k is ∙ sym (other_now k (less_apart k n (omega (arith, is, here))))
 
       at_more : length stream < plan.length → IsAt acts' (record {
-            number = o.number; before = o.before; now = events; past = o.past; pairs = o.pairs })
+        number = o.number;
+        before = o.before;
+        now = events;
+        past = o.past;
+        pairs = o.pairs;
+      })
       at_more few = record {
         base = at.base;
         long = at.long;
@@ -267,14 +271,24 @@ module _ (plan : Plan) (some : 1 ≤ plan.length) (w : ℕ) where
       }
 
       at_next : plan.length ≤ length stream → IsAt acts' (record {
-            number = suc o.number; before = events; now = []; past = Some o.pairs;
-            pairs = held_from plan w o.pairs stream })
+        number = suc o.number;
+        before = events;
+        now = [];
+        past = Some o.pairs;
+        pairs = held_from plan w o.pairs stream;
+      })
       at_next full =
           let nothing : part_stream plan w [] ≡ [] = stream_none plan w some in
           record {
             base = at.base ++ stream;
-            long = omega (arith, length-append at.base stream, at.long, next_row o.number plan.length, full,
-                stream_few plan w events);
+            long = omega (
+              arith,
+              length-append at.base stream,
+              at.long,
+              next_row o.number plan.length,
+              full,
+              stream_few plan w events,
+            );
             whole = whole_now ∙ sym (append-nil (at.base ++ stream)) ∙ ap (λ l. (at.base ++ stream) ++ l) (sym nothing);
             short = omega (arith, ap length nothing, some);
             starts = prefix_of_prefix (adopted w acts') at.base (at.base ++ stream) starts_now (stream, refl);
@@ -316,7 +330,12 @@ module _ (plan : Plan) (some : 1 ≤ plan.length) (w : ℕ) where
           })
 
       at_before : IsAt acts' (record {
-            number = o.number; before = o.before ++ e ∷ []; now = o.now; past = o.past; pairs = o.pairs })
+        number = o.number;
+        before = o.before ++ e ∷ [];
+        now = o.now;
+        past = o.past;
+        pairs = o.pairs;
+      })
       at_before = record {
         base = at.base;
         long = at.long;
@@ -341,7 +360,10 @@ module _ (plan : Plan) (some : 1 ≤ plan.length) (w : ℕ) where
         (here || before) ≡ true → (full : Bool) →
         nat_le plan.length (length (part_stream plan w (o.now ++ e ∷ []))) ≡ full →
         IsAt acts' (if here then (if full then record {
-          number = suc o.number; before = o.now ++ e ∷ []; now = []; past = Some o.pairs;
+          number = suc o.number;
+          before = o.now ++ e ∷ [];
+          now = [];
+          past = Some o.pairs;
           pairs = held_from plan w o.pairs (part_stream plan w (o.now ++ e ∷ []));
         } else record { number = o.number; before = o.before; now = o.now ++ e ∷ []; past = o.past; pairs = o.pairs })
         else record { number = o.number; before = o.before ++ e ∷ []; now = o.now; past = o.past; pairs = o.pairs })

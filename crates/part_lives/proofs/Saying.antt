@@ -1,14 +1,14 @@
 -- What holds by an owner's commands is what they say of each pair, where they have an effect.
 use Rattle.std.proofs.Common.{◌≡◌, ℕ, ◌==◌, Bool, true, false, not, ◌&&◌, ◌||◌, List, [], ◌∷◌, ◌++◌, Option, Some, None}
-use Rattle.std.proofs.Common.{refl, sym, ap, ◌∙◌, subst, append-nil, append_assoc, eqb-true, map, unwrap_or, fold}
-use Rattle.std.specs.Prelude.{if◌then◌else◌, IsTrue}
+use Rattle.std.proofs.Common.{refl, sym, ap, ◌∙◌, subst, append-nil, append_assoc, eqb-true, map, unwrap_or}
+use Rattle.std.specs.Prelude.{if◌then◌else◌}
 use Rattle.std.specs.Cmp.{IsTotalOrder, tied_itself}
-use Rattle.std.specs.Cmp.Lexicographic.{slice_cmp, on_texts}
+use Rattle.std.specs.Cmp.Lexicographic.{on_texts}
 use Rattle.std.specs.FinMap as maps
 use Rattle.std.specs.FinSet as sets
 use Rattle.std.specs.List.{filter_map, last_or, cons_option, list_any}
 use Rattle.std.specs.Option.{option_map_or}
-use Rattle.std.specs.Ordering.{nat_cmp, eq_by_cmp, is_eq}
+use Rattle.std.specs.Ordering.{eq_by_cmp, is_eq}
 use Rattle.std.specs.declared.cmp.Ordering.{Ordering}
 use Rattle.std.specs.declared.cmp.Ordering.TheVariants.{Equal}
 use Rattle.std.proofs.lemmas.Bool.{and_parts, and_from, eq-eqb}
@@ -20,7 +20,7 @@ use Rattle.rbac_state.specs.Says.{says_of_user, says_of_permission}
 use Rattle.part_lives.specs.Holding.{Pair, Assigned, Granted, Pairs, pair_role, pair_key, pair_cmp, command_of}
 use Rattle.part_lives.specs.Holding.{after_command}
 use Rattle.part_lives.specs.Laws.{HeldIsSaid}
-use Rattle.part_lives.specs.Lives.{has_effect, obeyed, held_from, held, effective_from, said}
+use Rattle.part_lives.specs.Lives.{has_effect, held_from, held, effective_from, said}
 use Rattle.part_lives.specs.Parts.{Plan}
 
 -- Pairs.

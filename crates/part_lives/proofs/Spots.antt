@@ -1,5 +1,5 @@
 -- Where the places of a total are: place `number * length + place` is that place of the part of that number.
-use Rattle.std.proofs.Common.{◌≡◌, ℕ, zero, suc, ◌+◌, ◌*◌, ◌-◌, ◌==◌, ◌<◌, ◌≤◌, Bool, true, false, refl, sym, ap, ◌∙◌}
+use Rattle.std.proofs.Common.{◌≡◌, ℕ, zero, suc, ◌+◌, ◌*◌, ◌-◌, ◌==◌, ◌<◌, ◌≤◌, false, ap, ◌∙◌}
 use Rattle.std.proofs.Common.{arith, ⊎_elim}
 use Rattle.std.specs.Prelude.{if◌then◌else◌}
 use Rattle.std.proofs.lemmas.Bool.{cases_lt, eq-eqb}
@@ -114,5 +114,10 @@ module _ (plan : Plan) where
       let is : (spot_at plan p).number ≡ one.number =
       ap (λ q. (spot_at plan q).number) one.is
       ∙ ap (λ (spot : Spot). spot.number) (spot_is one.number one.rest one.small) in
-      omega (arith, one.is, one.small, next_row one.number plan.length,
-      more_rows (suc one.number) number plan.length (omega (arith, is, less)))
+      omega (
+        arith,
+        one.is,
+        one.small,
+        next_row one.number plan.length,
+        more_rows (suc one.number) number plan.length (omega (arith, is, less)),
+      )

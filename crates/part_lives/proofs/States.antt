@@ -1,14 +1,11 @@
 -- The state of a node is enough.
-use Rattle.std.proofs.Common.{◌≡◌, ℕ, zero, suc, ◌+◌, ◌-◌, ◌*◌, ◌==◌, ◌<◌, ◌≤◌, max, Bool, true, false, ⊎_elim, List, []}
+use Rattle.std.proofs.Common.{◌≡◌, ℕ, suc, ◌+◌, ◌-◌, ◌*◌, ◌==◌, ◌<◌, ◌≤◌, max, Bool, true, false, List, []}
 use Rattle.std.proofs.Common.{◌∷◌, ◌++◌, length, take, Option, Some, None, refl, sym, ap, ◌∙◌, subst, arith}
-use Rattle.std.proofs.Common.{append-nil, length-append, eqb-true}
-use Rattle.std.specs.Prelude.{if◌then◌else◌, nat_le, nat_lt, not, IsTrue, ◌||◌, ◌&&◌, fold}
+use Rattle.std.proofs.Common.{length-append, eqb-true}
+use Rattle.std.specs.Prelude.{if◌then◌else◌, nat_lt, not, IsTrue, ◌||◌, ◌&&◌}
 use Rattle.std.specs.FinMap as maps
-use Rattle.std.specs.List.{cons_option}
 use Rattle.std.specs.Option.{option_map}
-use Rattle.std.proofs.Math.Seq.{take-append_seam}
-use Rattle.std.proofs.lemmas.Bool.{and_parts, ltb-true}
-use Rattle.std.proofs.lemmas.Map.Views.{exact_unsigned_eq}
+use Rattle.std.proofs.lemmas.Bool.{and_parts}
 use Rattle.role_commands.specs.Tables.{Table}
 use Rattle.role_commands.specs.declared.command.Command.{Command}
 use Rattle.role_sessions.specs.Sessions.{SessionState, state_of}
@@ -22,15 +19,14 @@ use Rattle.role_node.specs.Answers.{act_fault, answer_due, is_recorded}
 use Rattle.role_node.specs.Faults.{of_session_fault}
 use Rattle.role_node.specs.Histories.{issued}
 use Rattle.role_node.specs.declared.event.Event.{Event}
-use Rattle.role_node.specs.declared.event.Event.TheVariants as event
 use Rattle.role_node.specs.declared.faults.NodeFault.{NodeFault}
-use Rattle.part_lives.specs.Laws.{WereHeld, IsStateOf, IsEnough, StateIsEnough, StateGoesOn}
+use Rattle.part_lives.specs.Laws.{IsStateOf, IsEnough, StateIsEnough, StateGoesOn}
 use Rattle.part_lives.specs.Lives.{held_from, held, is_kept, belongs, is_no_fault, is_due, IsLife, relations_in, sessions_in}
 use Rattle.part_lives.specs.Lives.{relations_of_pairs, under_way, most_acts, most_parts}
 use Rattle.part_lives.specs.Parts.{Plan, Part, Act, In, Client, Adopts, part_of, events_in, clients_in, adopted, parts_end}
-use Rattle.part_lives.specs.Parts.{total, current, part_stream, part_config}
+use Rattle.part_lives.specs.Parts.{total, current, part_config}
 use Rattle.part_lives.specs.States.{State, OwnerState, blank, with_event, with_summary, events_kept, held_now, stream_now}
-use Rattle.part_lives.specs.States.{after, at_owner, sessions_after, state_from, state_of_life, due, relations_now}
+use Rattle.part_lives.specs.States.{after, sessions_after, state_from, state_of_life, due, relations_now}
 use Rattle.part_lives.proofs.Acts.{along_life, events-same, events-other, adopted-push, end-push, clients-push, clients-same}
 use Rattle.part_lives.proofs.Acts.{not_first, turned}
 use Rattle.part_lives.proofs.Dues.{event_due, client_due, adopts_due}

@@ -1,11 +1,11 @@
 -- A total is known by its places: it begins with what was adopted, and each place behind that, up to its end, has what is
 -- delivered there.
 use Rattle.std.proofs.Common.{◌≡◌, ℕ, zero, suc, ◌+◌, ◌-◌, ◌*◌, ◌<◌, ◌≤◌, List, [], ◌∷◌, ◌++◌, length, Option, Some, None}
-use Rattle.std.proofs.Common.{slice_get, refl, sym, ap, ◌∙◌, subst, arith, length-append, ⊎_elim}
+use Rattle.std.proofs.Common.{slice_get, refl, sym, ap, ◌∙◌, arith, length-append, ⊎_elim}
 use Rattle.std.specs.List.{filter_map}
 use Rattle.std.proofs.lemmas.Bool.{cases_lt}
 use Rattle.std.proofs.lemmas.List.Elements.{filter_map-append}
-use Rattle.std.proofs.lemmas.Option.{same_Some, slice_get_past, slice_get_within}
+use Rattle.std.proofs.lemmas.Option.{same_Some, slice_get_past}
 use Rattle.quorum_sizes.specs.Sizes.{Counts}
 use Rattle.role_commands.specs.declared.command.Command.{Command}
 use Rattle.link_frames.specs.frames.Packets.{PacketValue}
@@ -20,7 +20,7 @@ use Rattle.part_lives.specs.Parts.{Plan, Act, Spot, part_of, events_in, spot_at,
 use Rattle.part_lives.specs.Parts.{part_stream}
 use Rattle.part_lives.proofs.Acts.{events-append, none_past}
 use Rattle.part_lives.proofs.Lists.{get_behind}
-use Rattle.part_lives.proofs.Spots.{spot_is, placed, IsPlaced, row_within}
+use Rattle.part_lives.proofs.Spots.{spot_is, placed, row_within}
 
 -- Answers, one after another.
 

@@ -1,10 +1,10 @@
 -- What holds of each life of a node.
-use Rattle.std.specs.Prelude.{◌≡◌, ℕ, ◌-◌, ◌*◌, ◌≤◌, IsTrue, List, [], ◌++◌, take, Some, length}
+use Rattle.std.specs.Prelude.{◌≡◌, ℕ, ◌-◌, ◌*◌, ◌≤◌, IsTrue, List, ◌++◌, take, Some, length}
 use Rattle.rbac_state.specs.Assignments.{is_user_assigned, is_permission_granted}
 use Rattle.role_commands.specs.declared.command.Command.{Command}
 use Rattle.part_lives.specs.Holding.{Pairs}
-use Rattle.part_lives.specs.Lives.{IsPlan, IsLife, is_due, is_kept, held, said, relations_over, relations_in, sessions_in}
-use Rattle.part_lives.specs.Parts.{Plan, Part, Act, events_in, part_of, total, current}
+use Rattle.part_lives.specs.Lives.{IsLife, is_due, is_kept, held, said, relations_over, relations_in, sessions_in}
+use Rattle.part_lives.specs.Parts.{Plan, Act, events_in, part_of, total, current}
 use Rattle.part_lives.specs.States.{State, OwnerState, state_from, state_of_life, due, events_kept, held_now}
 use Rattle.part_lives.specs.States.{relations_now}
 

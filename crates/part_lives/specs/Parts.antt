@@ -2,7 +2,7 @@
 -- event in a part, one of a client, or that it adopts what others have; and what follows from a list of acts for an
 -- owner's total, its parts in a row.
 use Rattle.std.specs.Prelude.{ℕ, zero, suc, ◌+◌, ◌*◌, ◌==◌, Bool, ◌&&◌, max, ◌⊎◌, if◌then◌else◌}
-use Rattle.std.specs.Prelude.{List, [], ◌∷◌, ◌++◌, length, take, fold, Option, Some, None}
+use Rattle.std.specs.Prelude.{List, [], ◌∷◌, ◌++◌, length, fold, Option, Some, None}
 use Rattle.std.specs.List.{filter_map}
 use Rattle.role_commands.specs.Tables.{Table}
 use Rattle.role_commands.specs.declared.command.Command.{Command}

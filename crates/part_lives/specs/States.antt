@@ -15,7 +15,7 @@ use Rattle.role_node.specs.declared.event.Event.{Event}
 use Rattle.part_lives.specs.Holding.{Pairs}
 use Rattle.part_lives.specs.Lives.{held_from, held, relations_of_pairs, is_kept, belongs, is_no_fault}
 use Rattle.part_lives.specs.Lives.{most_acts, most_parts}
-use Rattle.part_lives.specs.Parts.{Plan, Part, Act, In, Client, Adopts, part_config, part_stream}
+use Rattle.part_lives.specs.Parts.{Plan, Act, In, Client, Adopts, part_config, part_stream}
 
 -- of an owner; `past` is what held before the part before, where the node knows that
 pub record OwnerState : Type 0 where

@@ -1,13 +1,11 @@
 -- A node's history in a part is never as long as the part's limit.
-use Rattle.std.proofs.Common.{◌≡◌, ℕ, zero, suc, ◌+◌, ◌*◌, ◌==◌, ◌<◌, ◌≤◌, ⊎_elim, Bool, true, false, List, [], ◌∷◌, length}
-use Rattle.std.proofs.Common.{Result, Ok, Err, slice_get, Some, refl, sym, ap, ◌∙◌, subst, arith}
+use Rattle.std.proofs.Common.{◌≡◌, ℕ, suc, ◌+◌, ◌*◌, ◌==◌, ◌<◌, ◌≤◌, Bool, true, false, List, [], ◌∷◌, length}
+use Rattle.std.proofs.Common.{Result, Ok, Err, slice_get, Some, refl, ap, ◌∙◌, arith}
 use Rattle.std.specs.Prelude.{nat_le, nat_lt, ◌&&◌, count_by, cond}
-use Rattle.std.specs.List.{filter_map}
 use Rattle.std.proofs.lemmas.Bool.Decides.{nat_tests}
 use Rattle.std.proofs.lemmas.List.Sums.{sum_by-cons}
 use Rattle.std.proofs.lemmas.List.Elements.{All-cons, All-nil}
 use native.Mathlib.Nat.{mul-suc}
-use Rattle.quorum_sizes.specs.NodeSets.{Nodes}
 use Rattle.link_frames.specs.frames.Packets.{PacketValue, IsSound}
 use Rattle.role_node.specs.Answers.{unless_full, outlook_with_room}
 use Rattle.role_node.specs.Histories.{issued, packets}
@@ -20,12 +18,10 @@ use Rattle.owner_shares.specs.Laws.{AreSound, is_before, OwnerIsBounded}
 use Rattle.part_lives.specs.Lives.{belongs}
 use Rattle.part_lives.specs.Parts.{Plan, Part, part_config, events_in}
 use Rattle.part_lives.proofs.Dues.{was_due, part_legal}
-use Rattle.stream_parts.specs.LongRuns.{LongRun, acts_of, run_in, IsLongRun}
-use Rattle.stream_parts.specs.Laws.{PartsAreRuns, NoPartIsFull}
+use Rattle.stream_parts.specs.LongRuns.{acts_of}
+use Rattle.stream_parts.specs.Laws.{NoPartIsFull}
 use Rattle.stream_parts.proofs.Ordered.{issued_few}
 use Rattle.stream_parts.proofs.Origins.{stands_at}
-use Rattle.part_lives.proofs.Acts.{event_in_is}
-use Rattle.part_lives.proofs.Picking.{picked_at}
 use Rattle.part_lives.specs.Holding.{Pairs}
 
 -- a command, or a packet about a place of the part
@@ -108,8 +104,11 @@ no_part_is_full bounded plan liars run node part long =
 
     short : length history < (part_config plan part.number).limit
     short =
-        omega (arith, counts plan part history own,
-        bounded (part_config plan part.number) node history part.owner plan.length
-        (part_legal plan node (acts_of node run) part (long.lives node)) sound,
-        issued_few plan node long.is_plan.some part (acts_of node run) (long.lives node),
-        rows plan.length plan.roles.sizes.nodes long.is_plan.some)
+        omega (
+          arith,
+          counts plan part history own,
+          bounded (part_config plan part.number) node history part.owner plan.length
+              (part_legal plan node (acts_of node run) part (long.lives node)) sound,
+          issued_few plan node long.is_plan.some part (acts_of node run) (long.lives node),
+          rows plan.length plan.roles.sizes.nodes long.is_plan.some,
+        )

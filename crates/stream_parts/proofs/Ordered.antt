@@ -7,9 +7,8 @@ use Rattle.std.specs.List.{filter_map, cons_option}
 use Rattle.std.proofs.lemmas.Bool.{and_parts, cases_lt, eq-eqb, ltb-true}
 use Rattle.std.proofs.lemmas.Bool.Decides.{nat_tests}
 use Rattle.std.proofs.lemmas.List.Elements.{filter_map-append}
-use Rattle.std.proofs.lemmas.Option.{slice_get_within, slice_get_past}
+use Rattle.std.proofs.lemmas.Option.{slice_get_within}
 use Rattle.role_commands.specs.declared.command.Command.{Command}
-use Rattle.role_commands.proofs.Exported.{slice_get-front}
 use Rattle.owner_streams.specs.Laws.{IsPrefixOf}
 use Rattle.role_node.specs.Histories.{issued}
 use Rattle.role_node.specs.Histories as history
@@ -19,9 +18,9 @@ use Rattle.role_node.proofs.Exported.{issued-Issue, issued-Take, issued-Client, 
 use Rattle.part_lives.specs.Lives.{has_room, held, under_way, is_due, IsLife}
 use Rattle.part_lives.specs.Parts.{Plan, Part, Act, In, Client, Adopts, same_part, events_in, part_of, parts_end}
 use Rattle.part_lives.specs.Parts.{current, total, command_in, all_issued}
-use Rattle.part_lives.proofs.Acts.{along_life, life_front, due_next, one_part, events-same, events-other, events-own}
-use Rattle.part_lives.proofs.Acts.{end-push, end-none, none_past, not_second}
-use Rattle.part_lives.proofs.Dues.{EventDue, event_due, was_due}
+use Rattle.part_lives.proofs.Acts.{life_front, due_next, one_part, events-same, events-other, events-own}
+use Rattle.part_lives.proofs.Acts.{end-push, none_past, not_second}
+use Rattle.part_lives.proofs.Dues.{event_due, was_due}
 use Rattle.part_lives.proofs.Lists.{get_behind, none_behind, prefix_is, prefix_of_prefix, prefix_shorter, in_prefix}
 use Rattle.part_lives.proofs.Owners.{number_is}
 use Rattle.part_lives.proofs.Picking.{picked_at}
@@ -75,8 +74,13 @@ full_rows : (f : ℕ → List Command) (size n : ℕ) → ((k : ℕ) → k < n �
 unfolding in_a_row
 full_rows f size zero full = sym (no_rows size)
 full_rows f size (suc n) full =
-    omega (arith, length-append (in_a_row f n) (f n), full_rows f size n (λ k less. full k (omega (arith, less))),
-    full n (omega arith), next_row n size)
+    omega (
+      arith,
+      length-append (in_a_row f n) (f n),
+      full_rows f size n (λ k less. full k (omega (arith, less))),
+      full n (omega arith),
+      next_row n size,
+    )
 
 pub row_place : (f : ℕ → List Command) (size n end place : ℕ) (c : Command) →
     ((k : ℕ) → k < n → length (f k) ≡ size) → n < end → slice_get (f n) place ≡ Some c →
@@ -92,8 +96,12 @@ pub rows_few : (f : ℕ → List Command) (size n end : ℕ) → end ≤ suc n �
     length (in_a_row f end) ≤ n * size + length (f n)
 unfolding in_a_row
 rows_few f size n end le few =
-    omega (arith, prefix_shorter (in_a_row f end) (in_a_row f n ++ f n) (row_more f end (suc n) le),
-    length-append (in_a_row f n) (f n), below n)
+    omega (
+      arith,
+      prefix_shorter (in_a_row f end) (in_a_row f n ++ f n) (row_more f end (suc n) le),
+      length-append (in_a_row f n) (f n),
+      below n,
+    )
   where
     below : (m : ℕ) → length (in_a_row f m) ≤ m * size
     below zero = omega arith

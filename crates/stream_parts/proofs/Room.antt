@@ -1,18 +1,17 @@
 -- What a correct owner issued has room wherever it is delivered: what holds by its total, with all pairs that the commands
 -- under way name, is never more than it may have.
-use Rattle.std.proofs.Common.{◌≡◌, ℕ, zero, suc, ◌+◌, ◌-◌, ◌*◌, ◌==◌, ◌<◌, ◌≤◌, ⊎_elim, Bool, true, false, not, ◌&&◌, ◌||◌}
+use Rattle.std.proofs.Common.{◌≡◌, ℕ, zero, suc, ◌+◌, ◌==◌, ◌<◌, ◌≤◌, ⊎_elim, Bool, true, false, not, ◌||◌}
 use Rattle.std.proofs.Common.{List, [], ◌∷◌, ◌++◌, length, take, drop, slice_get, Option, Some, None, refl, sym, ap, ◌∙◌}
-use Rattle.std.proofs.Common.{inl, inr, ◌⊎◌, take-take, subst, arith, append-nil, append_assoc, length-append, take-append-drop, cond, take_all}
+use Rattle.std.proofs.Common.{inl, inr, ◌⊎◌, take-take, subst, arith, append-nil, append_assoc, length-append, cond, take_all}
 use Rattle.std.specs.Prelude.{if◌then◌else◌, nat_lt, nat_le, IsTrue}
 use Rattle.std.specs.FinSet as sets
 use Rattle.std.specs.List.{list_any}
 use Rattle.std.specs.Option.{option_map_or}
 use Rattle.std.specs.Ordering.{eq_by_cmp}
 use Rattle.std.proofs.Math.Seq.{take-append_seam}
-use Rattle.std.proofs.lemmas.Bool.{and_parts, and_from, cases_lt, ltb-true, lt-ltb}
+use Rattle.std.proofs.lemmas.Bool.{and_from, cases_lt, ltb-true, lt-ltb}
 use Rattle.std.proofs.lemmas.List.{take-append-le}
-use Rattle.std.proofs.lemmas.Map.Views.{exact_unsigned_eq}
-use Rattle.std.proofs.lemmas.Option.{slice_get_within, same_Some}
+use Rattle.std.proofs.lemmas.Option.{slice_get_within}
 use Rattle.quorum_sizes.specs.NodeSets.{Nodes}
 use Rattle.role_commands.specs.Rules.{role_of}
 use Rattle.role_commands.specs.Tables.{owns}
@@ -27,14 +26,14 @@ use Rattle.role_node.specs.declared.event.Event.TheVariants as event
 use Rattle.role_node.specs.declared.faults.NodeFault.TheVariants as fault
 use Rattle.role_node.proofs.Exported.{at_push}
 use Rattle.part_lives.specs.Holding.{Pair, Pairs, pair_cmp, pair_of, adds}
-use Rattle.part_lives.specs.Lives.{IsPlan, has_effect, has_room, held, held_from, under_way, is_due, IsLife}
+use Rattle.part_lives.specs.Lives.{has_effect, has_room, held, held_from, under_way, is_due, IsLife}
 use Rattle.part_lives.specs.Parts.{Plan, Part, Act, In, Client, Adopts, part_config, part_of, events_in, told_at, adopted}
-use Rattle.part_lives.specs.Parts.{total, current, parts_end, all_issued, Agree}
+use Rattle.part_lives.specs.Parts.{total, current, parts_end, all_issued}
 use Rattle.part_lives.proofs.Acts.{life_front, due_next, adopted-push}
 use Rattle.part_lives.proofs.Dues.{event_due, adopts_due}
-use Rattle.part_lives.proofs.Lists.{none_behind, shorter_is_prefix, prefix_of_prefix, prefix_shorter}
+use Rattle.part_lives.proofs.Lists.{none_behind, prefix_shorter}
 use Rattle.part_lives.proofs.Owners.{held_on}
-use Rattle.part_lives.proofs.Saying.{ordered, tied_is, itself}
+use Rattle.part_lives.proofs.Saying.{ordered, tied_is}
 use Rattle.part_lives.proofs.Spots.{no_rows}
 use Rattle.part_lives.proofs.Totals.{is_total, told_later}
 use Rattle.link_frames.specs.frames.Packets.{message_of}
@@ -281,7 +280,7 @@ take_next {A} (x ∷ xs) (suc t) =
 -- Along the life of a correct owner.
 
 module _ (plan : Plan) (liars : Nodes) (run : LongRun) (long : IsLongRun plan liars run) (integrity : TotalIntegrity)
-      (owner : ℕ) (correct : IsCorrectIn plan liars owner) where
+    (owner : ℕ) (correct : IsCorrectIn plan liars owner) where
   abbrev some : 1 ≤ plan.length
   some = long.is_plan.some
 
@@ -360,8 +359,14 @@ module _ (plan : Plan) (liars : Nodes) (run : LongRun) (long : IsLongRun plan li
       let few = rows_few (issued_in owner acts) plan.length now (parts_end owner acts)
       (end_is plan owner some acts life owner)
       (λ k. issued_few plan owner some (part_of owner k) acts life) in
-      omega (arith, few, ap length (issued_in_order plan owner some acts life), ap length was.split,
-      length-append (total plan acts owner) was.way, reach_is plan owner some acts life owner)
+      omega (
+        arith,
+        few,
+        ap length (issued_in_order plan owner some acts life),
+        ap length was.split,
+        length-append (total plan acts owner) was.way,
+        reach_is plan owner some acts life owner,
+      )
 
   fine_issue : (acts : List Act) (part : Part) (c : Command) → Fine acts → IsLife plan owner acts →
       IsTrue (is_due plan owner acts (In part (event.Issue c))) →

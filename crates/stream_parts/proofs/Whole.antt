@@ -1,8 +1,8 @@
 -- What follows for totals: that they are what a correct owner issued, what they leave, and what they decide.
-use Rattle.std.proofs.Common.{◌≡◌, ℕ, zero, suc, ◌+◌, ◌-◌, ◌*◌, ◌==◌, ◌<◌, ◌≤◌, ⊎_elim, inl, inr, Bool, true, false, List}
-use Rattle.std.proofs.Common.{[], ◌∷◌, ◌++◌, length, take, slice_get, filter, find, not, Option, Some, None, refl, sym, ap}
+use Rattle.std.proofs.Common.{◌≡◌, ℕ, suc, ◌+◌, ◌-◌, ◌*◌, ◌==◌, ◌<◌, ◌≤◌, ⊎_elim, inl, inr, Bool, true, false, List}
+use Rattle.std.proofs.Common.{[], ◌∷◌, length, take, slice_get, filter, find, not, Option, Some, None, refl, sym, ap}
 use Rattle.std.proofs.Common.{◌∙◌, subst, arith, eqb-true, length-append, ◌⊎◌}
-use Rattle.std.specs.Prelude.{if◌then◌else◌, IsTrue}
+use Rattle.std.specs.Prelude.{if◌then◌else◌}
 use Rattle.std.specs.FinMap as maps
 use Rattle.std.specs.FinSet as sets
 use Rattle.std.specs.Option.{option_map_or}
@@ -25,28 +25,28 @@ use Rattle.byz_world.specs.Runs.{history_of, stream_of}
 use Rattle.byz_world.proofs.Exported.{right_decision, no_stream}
 use Rattle.part_lives.specs.Holding.{Pair, Assigned, Granted, pair_role}
 use Rattle.part_lives.specs.Lives.{held, holds_by, relations_over, relations_in, session_in, IsLife}
-use Rattle.part_lives.specs.Parts.{Plan, Part, Act, Adopts, Spot, part_config, part_of, events_in, spot_at, first_spot}
+use Rattle.part_lives.specs.Parts.{Plan, Part, Act, Adopts, Spot, part_config, part_of, events_in, spot_at}
 use Rattle.part_lives.specs.Parts.{told_at, adopted, total, current, parts_end, part_stream, all_issued, Agree}
 use Rattle.part_lives.proofs.Acts.{none_past}
 use Rattle.part_lives.proofs.Dues.{adopts_due}
 use Rattle.part_lives.proofs.Lists.{agree_same, none_behind, prefix_by_places}
 use Rattle.part_lives.proofs.Owners.{number_is}
-use Rattle.part_lives.proofs.Spots.{IsPlaced, placed, spot_is, next_row, no_rows, more_rows, row_within}
+use Rattle.part_lives.proofs.Spots.{IsPlaced, placed, spot_is, next_row, no_rows, more_rows}
 use Rattle.part_lives.proofs.States.{of_life}
-use Rattle.part_lives.proofs.Totals.{is_total, told_is, told_in, stream_place}
+use Rattle.part_lives.proofs.Totals.{is_total, told_is, stream_place}
 use Rattle.part_lives.specs.States.{state_of_life}
 use Rattle.stream_parts.specs.LongRuns.{LongRun, acts_of, run_in, IsCorrectIn, IsLongRun}
 use Rattle.stream_parts.specs.Laws.{PartsAreRuns, TotalsAgree, TotalsAgreeWhenever, TotalIntegrity, PastIsComplete}
-use Rattle.stream_parts.specs.Laws.{HasPart, SameRelations, HeadlineOverParts, DecidesAlike, HasSummary, SummaryIsTrue}
+use Rattle.stream_parts.specs.Laws.{SameRelations, HeadlineOverParts, DecidesAlike, HasSummary, SummaryIsTrue}
 use Rattle.stream_parts.proofs.Ordered.{issued_in, issued_in_order, issued_few, row_place, end_is}
-use Rattle.stream_parts.proofs.Origins.{Has, HasAll, whole_has, issued_there, of_last_adopted}
+use Rattle.stream_parts.proofs.Origins.{HasAll, whole_has, issued_there, of_last_adopted}
 use Rattle.stream_parts.proofs.Runs.{history_in}
 
 -- What a correct owner issued.
 
 module _ (plan : Plan) (liars : Nodes) (run : LongRun) (long : IsLongRun plan liars run) (are_runs : PartsAreRuns)
-      (owner : ℕ) (correct : IsCorrectIn plan liars owner) (xs : List Command)
-      (all : HasAll plan liars run long owner xs) where
+    (owner : ℕ) (correct : IsCorrectIn plan liars owner) (xs : List Command)
+    (all : HasAll plan liars run long owner xs) where
   abbrev own : List Act
   own = acts_of owner run
 
@@ -67,21 +67,35 @@ module _ (plan : Plan) (liars : Nodes) (run : LongRun) (long : IsLongRun plan li
       let some = long.is_plan.some in
       let p : ℕ = k * plan.length + last in
       let within : p < length xs =
-      omega (arith, slice_get_within xs (number * plan.length + place) c there, next_row k plan.length,
-      more_rows (suc k) number plan.length less, some) in
+      omega (
+        arith,
+        slice_get_within xs (number * plan.length + place) c there,
+        next_row k plan.length,
+        more_rows (suc k) number plan.length less,
+        some,
+      ) in
       by p within (slice_get xs p) refl
     where
       by : (p : ℕ) → p < length xs → (o : Option Command) →
           slice_get xs (k * plan.length + (plan.length - 1)) ≡ o → length (issued_in owner own k) ≡ plan.length
       by p within None is =
-          absurd (omega (arith, none_behind xs (k * plan.length + (plan.length - 1)) is,
-          slice_get_within xs (number * plan.length + place) c there, next_row k plan.length,
-          more_rows (suc k) number plan.length less, long.is_plan.some))
+          absurd (omega (
+            arith,
+            none_behind xs (k * plan.length + (plan.length - 1)) is,
+            slice_get_within xs (number * plan.length + place) c there,
+            next_row k plan.length,
+            more_rows (suc k) number plan.length less,
+            long.is_plan.some,
+          ))
       by p within (Some d) is =
           let issued_last = in_its_part k (plan.length - 1) d (omega (arith, long.is_plan.some)) is in
           let few = issued_few plan owner long.is_plan.some (part_of owner k) own (long.lives owner) in
-          omega (arith, few, slice_get_within (issued_in owner own k) (plan.length - 1) d issued_last,
-          long.is_plan.some)
+          omega (
+            arith,
+            few,
+            slice_get_within (issued_in owner own k) (plan.length - 1) d issued_last,
+            long.is_plan.some,
+          )
 
   pub all_were_issued : (p : ℕ) (c : Command) → slice_get xs p ≡ Some c → slice_get (all_issued own) p ≡ Some c
   all_were_issued p c there =
@@ -126,8 +140,13 @@ module _ (plan : Plan) (me : ℕ) (some : 1 ≤ plan.length) (acts : List Act) (
       let at = (of_life plan some me acts life).owners owner in
       let o = state.owners owner in
       let number = number_is plan some owner acts o at in
-      omega (arith, ap (λ n. n * plan.length) number, at.long, ap length at.whole,
-      length-append at.base (part_stream plan owner o.now))
+      omega (
+        arith,
+        ap (λ n. n * plan.length) number,
+        at.long,
+        ap length at.whole,
+        length-append at.base (part_stream plan owner o.now),
+      )
 
   had_part : (number : ℕ) → number < current plan acts owner →
       (plan.length ≤ length (part_stream plan owner (events_in (part_of owner number) acts)))
@@ -141,8 +160,13 @@ module _ (plan : Plan) (me : ℕ) (some : 1 ≤ plan.length) (acts : List Act) (
       (λ (few : length stream < plan.length).
       let p : ℕ = number * plan.length + length stream in
       let within : p < length (total plan acts owner) =
-      omega (arith, few, reach_is, next_row number plan.length,
-      more_rows (suc number) (current plan acts owner) plan.length less) in
+      omega (
+        arith,
+        few,
+        reach_is,
+        next_row number plan.length,
+        more_rows (suc number) (current plan acts owner) plan.length less,
+      ) in
       let from : length (adopted owner acts) ≤ p =
       omega (arith, whole_parts.1, more_rows whole_parts.0 number plan.length h) in
       let nothing : slice_get (total plan acts owner) p ≡ None =

@@ -1,5 +1,5 @@
 -- What holds of every long run.
-use Rattle.std.specs.Prelude.{◌≡◌, ◌≢◌, ℕ, suc, ◌*◌, ◌<◌, ◌≤◌, ◌⊎◌, nat_lt, List, [], length, take, slice_get, Some, IsTrue}
+use Rattle.std.specs.Prelude.{◌≡◌, ◌≢◌, ℕ, suc, ◌*◌, ◌<◌, ◌≤◌, ◌⊎◌, List, [], length, take, slice_get, Some, IsTrue}
 use Rattle.std.specs.FinSet as sets
 use Rattle.quorum_sizes.specs.NodeSets.{Nodes, AreNodes}
 use Rattle.role_commands.specs.declared.command.Command.{Command}

@@ -7,6 +7,7 @@
 pub mod laws;
 
 pub use laws::{
-    decides_alike, issued_has_room, keeps_the_promise, no_part_is_full, parts_are_runs, past_is_complete,
-    same_relations, summary_is_true, total_integrity, totals_agree, totals_agree_whenever,
+    decides_alike, issued_has_room, keeps_the_promise, no_part_is_full, parts_are_runs,
+    past_is_complete, same_relations, summary_is_true, total_integrity, totals_agree,
+    totals_agree_whenever,
 };

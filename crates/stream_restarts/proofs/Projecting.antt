@@ -9,7 +9,6 @@ use Rattle.std.specs.FinSet as sets
 use Rattle.std.proofs.Math.Seq.{take-append_seam}
 use Rattle.std.proofs.lemmas.List.Elements.{filter_map-append}
 use Rattle.std.proofs.lemmas.List.{take-append-le, take-take, take_all}
-use Rattle.std.proofs.lemmas.Bool.{and_parts}
 use Rattle.std.proofs.lemmas.Map.Views.{exact_unsigned_eq}
 use Rattle.quorum_sizes.specs.Sizes.{Counts, AreSizes}
 use Rattle.quorum_sizes.specs.NodeSets.{Nodes, nodes_among}
@@ -31,7 +30,7 @@ use Rattle.part_lives.specs.Parts.{Plan, Part, Act, In, Adopts, part_config, eve
 use Rattle.part_lives.specs.Lives.{is_due, IsLife}
 use Rattle.part_lives.proofs.Acts.{event_in_is, life_front, same_part-self}
 use Rattle.part_lives.proofs.Dues.{event_due}
-use Rattle.stream_parts.specs.LongRuns.{LongRun, acts_of, at_node, pair_in, run_in, IsCorrectIn, MayAdopt}
+use Rattle.stream_parts.specs.LongRuns.{LongRun, acts_of, at_node, pair_in, run_in, IsCorrectIn}
 use Rattle.stream_restarts.specs.LongLives.{Deed, Does, Syncs, Crashes, restored_to, Moment, at_first, after, moment}
 use Rattle.stream_restarts.specs.LongLives.{has_left, MayDo, May}
 use Rattle.stream_restarts.specs.Laws.{LongLivesAreRuns, NothingIsTakenBack, NobodyIsToldTwoStories}
