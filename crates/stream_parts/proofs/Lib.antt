@@ -6,3 +6,4 @@ pub mod Full
 pub mod Growing
 pub mod Sizes
 pub mod Room
+pub mod Example

@@ -1,2 +1,3 @@
 pub mod LongRuns
 pub mod Laws
+pub mod Example

@@ -1,10 +1,12 @@
 //! What holds of every long run of a cluster, whatever its liars and the network do.
 //!
 //! Each function's contract is its law, and its body is empty, or calls the laws that it follows from.
+ghost use Rattle.stream_parts.specs.Example.{AnExample};
 ghost use Rattle.stream_parts.specs.Laws.{PartsAreRuns, TotalsAgree, TotalsAgreeWhenever, TotalIntegrity};
 ghost use Rattle.stream_parts.specs.Laws.{PastIsComplete, SameRelations, HeadlineOverParts, DecidesAlike};
 ghost use Rattle.stream_parts.specs.Laws.{IssuedHasRoom, NoPartIsFull, SummaryIsTrue};
 
+use byz_world::laws::an_example as example_of_world;
 use owner_shares::laws::owner_is_bounded;
 
 /// What happens in a part is a run of the part's cluster, so that every law of a cluster speaks of it.
@@ -82,4 +84,11 @@ pub fn summary_is_true()
     ensures { SummaryIsTrue }
 {
     totals_agree();
+}
+
+/// There is a long run of four nodes, one of which lies, that comes into a second part.
+pub fn an_example()
+    ensures { AnExample }
+{
+    example_of_world();
 }
