@@ -1,17 +1,16 @@
 -- A run of byz_world's four nodes is one of their first part, of one place.
-use Rattle.std.proofs.Common.{◌≡◌, ℕ, zero, suc, ◌+◌, ◌-◌, ◌*◌, ◌==◌, ◌<◌, ◌≤◌, max, ◌⊎◌, inl, inr, ⊎_elim, Bool, true}
-use Rattle.std.proofs.Common.{false, not, ◌&&◌, ◌||◌, List, [], ◌∷◌, ◌++◌, map, length, take, drop, fold, slice_get, Option}
+use Rattle.std.proofs.Common.{◌≡◌, ℕ, zero, suc, ◌+◌, ◌-◌, ◌*◌, ◌==◌, ◌<◌, ◌≤◌, ◌⊎◌, inl, inr, ⊎_elim, Bool, true}
+use Rattle.std.proofs.Common.{false, ◌&&◌, List, [], ◌∷◌, ◌++◌, map, length, take, drop, slice_get}
 use Rattle.std.proofs.Common.{Some, None, Result, Ok, Err, refl, sym, ap, ◌∙◌, subst, arith, length-take, length-append}
 use Rattle.std.specs.Prelude.{if◌then◌else◌, nat_lt, nat_le, IsTrue}
 use Rattle.std.specs.FinSet as sets
 use Rattle.std.specs.List.{filter_map, cons_option, list_all}
-use Rattle.std.specs.Option.{option_map}
 use Rattle.std.proofs.lemmas.Bool.{and_parts, and_from, lt-ltb, ltb-true, eq-eqb, cases_lt}
 use Rattle.std.proofs.lemmas.Bool.Decides.{nat_tests}
 use Rattle.std.proofs.lemmas.Map.Views.{exact_unsigned_eq}
-use Rattle.std.proofs.lemmas.Option.{slice_get_within, slice_get_past, cond_some, same_Some}
+use Rattle.std.proofs.lemmas.Option.{slice_get_within, cond_some, same_Some}
 use Rattle.link_frames.specs.declared.frames.packet.Message.{Message}
-use Rattle.link_frames.specs.frames.Packets.{PacketValue, IsSound, message_of}
+use Rattle.link_frames.specs.frames.Packets.{PacketValue, message_of}
 use Rattle.bracha_instance.specs.Broadcast.{is_for}
 use Rattle.bracha_instance.specs.declared.instance.Effect.{Effect}
 use Rattle.bracha_instance.specs.declared.instance.Effect.TheVariants as effect
@@ -19,7 +18,7 @@ use Rattle.role_commands.specs.declared.command.Command.{Command}
 use Rattle.owner_streams.specs.Places.{answers_from}
 use Rattle.role_node.specs.Access.{sent_at}
 use Rattle.role_node.specs.Answers.{answer_due, is_recorded, answered, unless_full, outlook_with_room, reply_to}
-use Rattle.role_node.specs.Histories.{issued, packets}
+use Rattle.role_node.specs.Histories.{issued}
 use Rattle.role_node.specs.declared.event.Event.{Event}
 use Rattle.role_node.specs.declared.event.Event.TheVariants.{Issue, Take, Client}
 use Rattle.role_node.specs.declared.event.Reply.TheVariants as reply
@@ -28,9 +27,9 @@ use Rattle.byz_world.specs.Example.{four, four_nodes, three_lies, user_seven, ex
 use Rattle.byz_world.specs.Example as world
 use Rattle.byz_world.specs.Laws.{delivered_by}
 use Rattle.byz_world.specs.Runs.{Run, event_at, history_of, of_kind, has_sent, IsClusterRun}
-use Rattle.part_lives.specs.Holding.{Pair, Pairs, pair_cmp}
-use Rattle.part_lives.specs.Lives.{IsPlan, held, held_from, is_kept, belongs, has_room, is_due, IsLife, most_acts, under_way}
-use Rattle.part_lives.specs.Parts.{Plan, Part, Act, In, Adopts, part_config, part_of, events_in, spot_at, adopted, parts_end}
+use Rattle.part_lives.specs.Holding.{pair_cmp}
+use Rattle.part_lives.specs.Lives.{held, is_kept, belongs, has_room, is_due, IsLife, most_acts, under_way}
+use Rattle.part_lives.specs.Parts.{Part, Act, In, Adopts, part_config, part_of, events_in, spot_at, adopted, parts_end}
 use Rattle.part_lives.specs.Parts.{total, told_at, current}
 use Rattle.part_lives.proofs.Acts.{adopted-push, events-other, events-own}
 use Rattle.owner_streams.specs.Places.{delivered_at}
@@ -38,7 +37,7 @@ use Rattle.role_node.proofs.Exported.{packets-Issue}
 use Rattle.part_lives.proofs.Picking.{picked_at}
 use Rattle.part_lives.proofs.Totals.{total_is, told_is, told_in, told_none, few_answers}
 use Rattle.stream_parts.specs.Example.{one_place, user_nine, first_part, in_first, two_parts, AnExample}
-use Rattle.stream_parts.specs.LongRuns.{LongRun, act_at, acts_of, has_sent_in, IsCorrectIn, IsLongRun}
+use Rattle.stream_parts.specs.LongRuns.{acts_of, has_sent_in, IsCorrectIn, IsLongRun}
 use Rattle.stream_parts.proofs.Growing.{long_run_push, acts_push}
 use Rattle.stream_parts.proofs.Sizes.{no_more, cover, cover-contains, cover_few, held_in, or_right}
 
@@ -98,9 +97,14 @@ unfolding total
 short_total h =
     let few = few_answers (told_at one_place (done h) 0) (length (adopted 0 (done h)))
     (parts_end 0 (done h) * 1) in
-    omega (arith, few, end_done h, ap length (none_adopted 0 h),
-    length-append (adopted 0 (done h)) (answers_from (told_at one_place (done h) 0)
-    (length (adopted 0 (done h))) (parts_end 0 (done h) * 1)))
+    omega (
+      arith,
+      few,
+      end_done h,
+      ap length (none_adopted 0 h),
+      length-append (adopted 0 (done h)) (answers_from (told_at one_place (done h) 0)
+          (length (adopted 0 (done h))) (parts_end 0 (done h) * 1)),
+    )
 
 kept_of : (n : ℕ) → n ≤ 1 → is_kept (spot_at one_place n).number 0 ≡ true
 unfolding spot_at
@@ -159,7 +163,7 @@ get_all t (y ∷ xs) zero x all there = subst (λ z. t z ≡ true) (same_Some y 
 get_all t (y ∷ xs) (suc k) x all there = get_all t xs k x (and_parts (t y) (list_all t xs) all).1 there
 
 module _ (run : Run) (is_run : IsClusterRun four_nodes three_lies ((0, Issue user_seven) ∷ run))
-      (all_fit : list_all fits run ≡ true) (short : (n : ℕ) → length (history_of n ((0, Issue user_seven) ∷ run)) ≤ 11) where
+    (all_fit : list_all fits run ≡ true) (short : (n : ℕ) → length (history_of n ((0, Issue user_seven) ∷ run)) ≤ 11) where
   abbrev whole : Run
   whole = (0, Issue user_seven) ∷ run
 
@@ -351,7 +355,7 @@ short_lives (suc (suc (suc zero))) less = omega arith
 short_lives (suc (suc (suc (suc n)))) less = absurd (omega (arith, less))
 
 module _ (is_run : IsClusterRun four_nodes three_lies example_run)
-      (at_zero : delivered_by four_nodes example_run 0 0 0 ≡ Some user_seven) where
+    (at_zero : delivered_by four_nodes example_run 0 0 0 ≡ Some user_seven) where
   -- a node that is none does nothing
   short_if : (n : ℕ) → length (history_of n example_run) ≤ 11
   short_if n = ⊎_elim (λ (less : n < 4). short_lives n less)

@@ -1,2 +1,3 @@
 pub mod Cutting
+pub mod Firm
 pub mod Projecting
