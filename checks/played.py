@@ -35,7 +35,8 @@ class Played:
 
 
 class Node:
-    """A played node, at a port or a socket's path. `lacks` commands of each owner it hasn't; `changed` are members of its status that it says so.
+    """A played node, at a port or a socket's path. `lacks` commands of each owner it hasn't; `changed` are members of
+    its status that it says so.
 
     Where `mute`, it takes lines and answers none; `garbage` is said in place of each answer; `drips` is how many
     seconds go by before each byte of an answer. `lies` are for an operation what is said in place of its answer: bytes,
