@@ -69,6 +69,7 @@ pub fn server_of<'a, N: HeldNode + Drop, K: FrameKeys + Drop, R: Clock>(
         waker,
         idle: site.idle,
         operators: site.operators,
+        shares: site.shares,
         syncs: Mutex::new(SyncTally::new()),
         heard: Mutex::new(beside.heard),
         votes_ahead: Mutex::new(false),
@@ -158,6 +159,7 @@ fn crew_of<'a, N: HeldNode, K: FrameKeys, R: Clock>(
     let (sizes, me) = (keys.sizes(), keys.me());
     let hold_rules = HoldRules {
         begun_twice: site.operators,
+        shares: site.shares,
     };
     let front = Front::new(alloc, sizes, me, hold_rules, most_batch::<N>(), millis(rt))?;
     Ok(Crew {
