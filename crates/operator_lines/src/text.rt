@@ -69,9 +69,19 @@ fn add_acts(text: &mut String, node: &NodeStanding) -> Result<(), AllocError>
     ensures { OnOk result (string_bytes text.new ≡ string_bytes text.old ++ texts.acts_text node.now) }
 {
     add_number(text, "{\"acts\":", u64::from(node.acts))?;
-    match &node.shares {
-        Some(_) => add_number(text, ",\"acts_share\":", u64::from(ACTS_SHARE)),
-        None => text.push_str(",\"acts_share\":null"),
+    text.push_str(",\"acts_share\":")?;
+    add_acts_share(text, &node.shares)?;
+    Ok(())
+}
+
+/// Adds how many acts clients may do, where there are shares.
+fn add_acts_share(text: &mut String, places: &Option<Items<u32>>) -> Result<(), AllocError>
+    ensures { OnOk result (string_bytes text.new
+        ≡ string_bytes text.old ++ texts.or_null texts.acts_share_text places.now) }
+{
+    match places {
+        Some(_) => text.push_str(Buffer::new().format(ACTS_SHARE)),
+        None => text.push_str("null"),
     }
 }
 
