@@ -1,14 +1,16 @@
 //! The node over TCP: frames of its peers at its host, and lines of its clients on this machine's own address.
 
-ghost use Rattle.std.specs.Prelude.{◌≡◌, IsTrue, IfOk};
+ghost use Rattle.std.specs.Prelude.{◌≡◌, IsTrue, IfOk, Some};
 ghost use Rattle.cluster_text.specs.Setups.{IsNodeSetup, IsServerSetup};
 ghost use Rattle.cluster_hosts.specs.Hosts.{HasHosts, AreAddresses};
+ghost use Rattle.owner_shares.specs.Shares.{shares_of};
 
 use crate::fault::Fault;
 use cluster_hosts::Given;
 use node_journal::{keys_of, restored};
 use node_lock::SharedNode;
 use node_server::{Limits, SEATS, Site, listen};
+use owner_shares::Shares;
 use role_node::Node;
 use sqlite_disk::{Disk, Files};
 use std::alloc::Global;
@@ -114,7 +116,7 @@ where
     Ok(())
 }
 
-/// Where a node is served.
+/// Where a node is served, with the shares of its table.
 ///
 /// # Errors
 ///
@@ -125,7 +127,8 @@ where
     requires me { IsNodeSetup given.now.setup }
     requires peers { IsServerSetup given.now.setup }
     requires hosts { HasHosts given.now }
-    ensures { IfOk result (λ site. AreAddresses given.now site.addresses.items) }
+    ensures addresses { IfOk result (λ site. AreAddresses given.now site.addresses.items) }
+    ensures shares { IfOk result (λ site. site.shares ≡ Some (shares_of given.now.setup.config.roles)) }
 {
     let clients = SocketAddr::V4(SocketAddrV4::new(Ipv4Addr::LOCALHOST, given.setup.client));
     Ok(Site {
@@ -135,5 +138,6 @@ where
         limits: Limits::new(),
         idle: Duration::from_millis(IDLE),
         operators: true,
+        shares: Some(Shares::of(given.setup.config.roles())),
     })
 }
