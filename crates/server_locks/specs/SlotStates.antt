@@ -1,5 +1,5 @@
 -- How a client's slot stands, by what its thread says of itself.
-use Rattle.std.specs.Prelude.{ℕ, Bool, true, false, if◌then◌else◌, Option, Some, None, is_some}
+use Rattle.std.specs.Prelude.{ℕ, ◌==◌, Bool, false, if◌then◌else◌, Option, Some, None, is_some}
 use Rattle.frame_queues.specs.declared.doors.SlotStanding.{SlotStanding}
 use Rattle.frame_queues.specs.declared.doors.SlotStanding.TheVariants.{Free, Answered, Waits, Leaves}
 use Rattle.server_locks.specs.declared.slot.SlotState.{SlotState}
@@ -18,6 +18,7 @@ standing_of s =
     if is_some s.stream then (if s.gave_way then Leaves else waiting_since s.waits_since)
     else without_stream (is_some s.queue)
 
-abbrev pub does_wait : SlotStanding → Bool
-does_wait (Waits since) = true
-does_wait standing = false
+-- it waits for the end of a line since this time
+abbrev pub does_wait : ℕ → SlotStanding → Bool
+does_wait since (Waits other) = other == since
+does_wait since standing = false

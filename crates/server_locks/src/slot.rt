@@ -83,17 +83,26 @@ impl<'a> SlotState<'a> {
         self.waits_since = Some(self.waits_since.unwrap_or(now));
     }
 
-    /// The connection gives way, if it waits for the end of a line, and hasn't given way before. Whether it does.
-    fn give_way(&mut self) -> bool
-        ensures waits { result ≡ does_wait (standing_of self.old) }
+    /// The connection gives way, if it waits for the end of a line since this time still. Whether it does.
+    fn give_way(&mut self, since: u64) -> bool
+        ensures waits { result ≡ does_wait since (standing_of self.old) }
         ensures gives { IsTrue result → self.new ≡ record self.old { gave_way = true } }
         ensures same { IsFalse result → self.new ≡ self.old }
     {
-        if !matches!(self.standing(), SlotStanding::Waits(_)) {
-            return false;
+        let waits = self.does_wait(since);
+        if waits {
+            self.gave_way = true;
         }
-        self.gave_way = true;
-        true
+        waits
+    }
+
+    fn does_wait(&self, since: u64) -> bool
+        ensures { result ≡ does_wait since (standing_of self.now) }
+    {
+        match self.standing() {
+            SlotStanding::Waits(other) => other == since,
+            _ => false,
+        }
     }
 
     /// The slot is free once more, if so many jobs are done, all that were put: else one could meet the next
@@ -192,11 +201,11 @@ impl<'a> Slot<'a> {
         self.state.lock(rt).waits_since = None;
     }
 
-    /// The connection gives way, if it still waits for the end of a line: it is shut for reading. What had come of it
-    /// as whole lines is answered still.
-    pub fn give_way<R: Wait>(&self, rt: &R) {
+    /// The connection gives way, if it waits for the end of a line since this time still: it is shut for reading. What
+    /// had come of it as whole lines is answered.
+    pub fn give_way<R: Wait>(&self, rt: &R, since: u64) {
         let mut state = self.state.lock(rt);
-        if state.give_way() {
+        if state.give_way(since) {
             if let Some(stream) = &state.stream {
                 let _ = stream.shutdown(Shutdown::Read);
             }
