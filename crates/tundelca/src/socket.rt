@@ -5,10 +5,10 @@ ghost use Rattle.tundelca.specs.Sockets as due;
 
 use crate::fault::Fault;
 use std::alloc::Global;
-use std::fs::{DirBuilder, Files, Metadata, Permissions, PermissionsExt};
+use std::fs::{DirBuilder, Files, Metadata, Permissions};
 use std::io::{Error, ErrorKind};
 use std::net::Net;
-use std::os::unix::fs::{DirBuilderExt, FileTypeExt, MetadataExt, chown};
+use std::os::unix::fs::{DirBuilderExt, FileTypeExt, MetadataExt, PermissionsExt, chown};
 use std::os::unix::net::UnixListener;
 use std::path::Path;
 use std::{fs, io};
@@ -23,11 +23,11 @@ const SOCKET_MODE: u32 = 0o660;
 /// Why no socket is made at a path.
 #[derive(Clone, Copy, Debug, PartialEq, Eq, Error)]
 pub enum SocketFault {
-    /// The folder could not be made, or not looked at.
-    #[error("its folder can't be made or looked at")]
+    /// Of the folder: it could not be made, or not looked at.
+    #[error("no folder that can be made or looked at")]
     NoFolder,
-    /// Others reach what is in the folder, or its group may write there.
-    #[error("its folder's mode has a bit of 027: it has to be 0750, or less")]
+    /// Of the folder: others reach what is in it, or its group may write there.
+    #[error("a folder whose mode has a bit of 027: it has to be 0750, or less")]
     IsOpen,
     /// Somebody listens there.
     #[error("somebody listens there")]
@@ -81,22 +81,28 @@ pub fn make_socket<'a, R: Files + Net>(
     alloc: Global,
     path: &'a str,
 ) -> Result<(UnixListener, MadeSocket<'a>), Fault> {
-    match made_socket(rt, path) {
+    let folder = folder_of(path);
+    let seen = match folder_for(rt, folder) {
+        Ok(seen) => seen,
+        Err(why) => return Err(Fault::Socket(String::from_str(alloc, folder.as_str())?, why)),
+    };
+    match made_socket(rt, path, &seen) {
         Ok(made) => Ok(made),
         Err(why) => Err(Fault::Socket(String::from_str(alloc, path)?, why)),
     }
 }
 
+/// Makes the socket, in the folder that was seen.
 fn made_socket<'a, R: Files + Net>(
     rt: &R,
     path: &'a str,
+    folder: &Metadata,
 ) -> Result<(UnixListener, MadeSocket<'a>), SocketFault> {
-    let folder = folder_of(rt, path)?;
     if removes(at_path(rt, path))? {
         fs::remove_file(rt, path).map_err(|_| SocketFault::IsUnknown)?;
     }
     let listener = UnixListener::bind(rt, path).map_err(fault_at)?;
-    match settle(rt, path, &folder, &listener) {
+    match settle(rt, path, folder, &listener) {
         Ok(made) => Ok((listener, made)),
         Err(why) => {
             let _ = fs::remove_file(rt, path);
@@ -123,12 +129,16 @@ pub fn remove_socket(files: &impl Files, made: MadeSocket<'_>) {
     }
 }
 
-/// The folder of a path, made where it is absent. Nobody reaches what is in it but its owner and its group.
-fn folder_of(files: &impl Files, path: &str) -> Result<Metadata, SocketFault> {
-    let folder = match Path::new(path).parent() {
+/// The folder of a path.
+fn folder_of(path: &str) -> Path<'_> {
+    match Path::new(path).parent() {
         Some(folder) if !folder.as_str().is_empty() => folder,
         _ => Path::new("."),
-    };
+    }
+}
+
+/// What a folder is, which is made where it is absent. Nobody reaches what is in it but its owner and its group.
+fn folder_for(files: &impl Files, folder: Path<'_>) -> Result<Metadata, SocketFault> {
     let folder = seen_folder(files, folder).map_err(|_| SocketFault::NoFolder)?;
     if !folder.is_dir() {
         Err(SocketFault::NoFolder)
