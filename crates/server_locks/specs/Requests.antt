@@ -34,5 +34,5 @@ HoldsOfAll operators (Some bytes) told = told ≡ is_foreign operators bytes
 
 -- Where a connection has given way to another, half a line isn't obeyed: nothing stands behind the last whole line.
 abbrev pub whole_next : Next → Bool → Next
-whole_next (next.Last count) true = next.End
+whole_next (next.Last count) gave_way = if gave_way then next.End else next.Last count
 whole_next what gave_way = what
