@@ -70,8 +70,8 @@ pub struct Site {
     /// After so long a client that sends nothing is closed.
     pub idle: Duration,
     /// Whether the lines of operators are answered, beside those of clients. Then a connection of clients begins with
-    /// `{`; else one that does not begin as an HTTP request is a client's. And then a command at a node that was begun
-    /// twice is refused.
+    /// `{`; else one that does not begin as an HTTP request is a client's. Then a command at a node that was begun twice
+    /// is refused, and a client's connection gives way to another where the door's slots are all taken.
     pub operators: bool,
 }
 

@@ -92,8 +92,12 @@ impl<N: HeldNode, K: FrameKeys, R: Wait + Clock> Server<'_, N, K, R> {
         standings
     }
 
-    /// The connection in a slot gives way to another, if it still stands as it did, and waits for the end of a line.
+    /// The connection in a slot gives way to another, if it still stands as it did, and waits for the end of a line. None
+    /// does where operators' lines are not answered.
     pub fn give_way(&self, slot: usize, standings: &[SlotStanding; ALL_SLOTS]) {
+        if !self.operators {
+            return;
+        }
         if let (Some(slot), Some(SlotStanding::Waits(since))) = (
             self.slots.get(slot),
             standings.get(slot),

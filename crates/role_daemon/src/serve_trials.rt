@@ -164,26 +164,20 @@ where
     Ok(false)
 }
 
-/// Whether the seventeenth client is served, for which of sixteen idle ones that gives way which came first, and no
-/// other.
-fn eldest_gives_way<R>(rt: &R, alloc: Global, client: u16) -> Result<bool, Fail>
+fn seventeenth_is_closed<R>(rt: &R, alloc: Global, client: u16) -> Result<bool, Fail>
 where
     R: Net<Listener = TcpListener, Stream = TcpStream> + Clock,
 {
-    let held = sixteen_served(rt, alloc, client, OPEN)?;
-    let is_served = opens_once(rt, alloc, client)?;
-    match (held.first(), held.get(1)) {
-        (Some(eldest), Some(next)) => Ok(is_served && is_closed(eldest) && is_kept(next)?),
-        _ => Ok(false),
-    }
+    let _held = sixteen_served(rt, alloc, client, OPEN)?;
+    Ok(is_closed(&connected(rt, client)?))
 }
 
-/// Whether the seventeenth client is served in place of another, and the next at once.
+/// Whether the seventeenth client is closed, and served once another has gone.
 fn many_clients<R>(rt: &R, alloc: Global, place: &Place) -> Result<bool, Fail>
 where
     R: Net<Listener = TcpListener, Stream = TcpStream> + Clock,
 {
-    Ok(eldest_gives_way(rt, alloc, place.client)? && opens(rt, alloc, place.client)?)
+    Ok(seventeenth_is_closed(rt, alloc, place.client)? && opens(rt, alloc, place.client)?)
 }
 
 /// A client that does not read the answers to its 10,000 lines.
