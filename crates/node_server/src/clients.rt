@@ -15,6 +15,7 @@ use served_node::answers::hold_answer;
 use served_node::{HeldNode, millis};
 use server_locks::{ClientStream, Farewell, JobQueue, LineReader, Slot, hears_foreign, whole_next};
 use std::io::Read;
+use std::mem;
 use std::net::Shutdown;
 use std::sync::Wait;
 use std::time::Clock;
@@ -24,6 +25,9 @@ const LAST_READS: u64 = 2_000;
 
 /// The milliseconds in which a client has to take its last answers.
 const LAST_WRITES: u64 = 1_000;
+
+/// After so many bytes of a line that is too long it is looked whether its connection has given way.
+const LINE_PART: u64 = 65_536;
 
 /// What is to be done after a client's line.
 #[derive(Clone, Copy, Debug, PartialEq, Eq)]
@@ -51,6 +55,8 @@ pub struct Client<'a, 'b, N: HeldNode, K: FrameKeys, R> {
     put: u32,
     /// The last line was a question about an access.
     asked: bool,
+    /// The connection had given way before this thread last waited.
+    left: bool,
     requests: RequestReader,
     held: Held,
     writer: Watched<&'b ClientStream>,
@@ -93,6 +99,7 @@ impl<'a, 'b, N: HeldNode, K: FrameKeys, R: Wait + Clock> Client<'a, 'b, N, K, R>
             in_flight: 0,
             put: 0,
             asked: false,
+            left: false,
             requests: RequestReader::new(server.alloc),
             held: Held::new(server.alloc),
             writer: Watched::new(stream),
@@ -156,6 +163,9 @@ impl<N: HeldNode, K: FrameKeys, R: Wait + Clock> Client<'_, '_, N, K, R> {
     /// Whether one of the lines that come within two seconds, and are answered no more, stops the node. No line of a
     /// connection that is no client's does.
     fn leaves_a_stop(&mut self, ahead: &mut Ahead) -> bool {
+        if self.slot.has_given_way(self.server.rt) {
+            return false;
+        }
         self.begin_wait();
         let _ = self.stream.shutdown(Shutdown::Write);
         let mut reader = Watched::new(Farewell::new(self.server.rt, self.stream, LAST_READS));
@@ -247,6 +257,7 @@ impl<N: HeldNode, K: FrameKeys, R: Wait + Clock> Client<'_, '_, N, K, R> {
     fn answer_next(&mut self, ahead: &mut Ahead) -> Result<AfterLine, AheadFault> {
         let next = match ahead.begins(MOST_LINE_BYTES) {
             Some(Next::Line(count)) if self.lines < MOST_LINES => Next::Line(count),
+            None if self.has_left() => return Ok(AfterLine::Close),
             _ => self.wait_for_next(ahead)?,
         };
         match next {
@@ -259,6 +270,13 @@ impl<N: HeldNode, K: FrameKeys, R: Wait + Clock> Client<'_, '_, N, K, R> {
             Next::Last(_) => self.answer_last(ahead, next),
             Next::TooLong => self.answer_long(ahead),
         }
+    }
+
+    /// Whether the connection had given way when this thread last asked. So what it had sent by then is read once more,
+    /// and not what it goes on sending.
+    fn has_left(&mut self) -> bool {
+        let gave_way = self.slot.has_given_way(self.server.rt);
+        mem::replace(&mut self.left, gave_way)
     }
 
     /// Answers the last line, which has no end, if it is obeyed.
@@ -274,7 +292,7 @@ impl<N: HeldNode, K: FrameKeys, R: Wait + Clock> Client<'_, '_, N, K, R> {
 
     /// Answers a line that is too long, once it is read to its end, for which this thread has waited.
     fn answer_long(&mut self, ahead: &mut Ahead) -> Result<AfterLine, AheadFault> {
-        let had_end = ahead.pass_line(&mut Watched::new(self.stream))?;
+        let had_end = self.pass_line(ahead)?;
         self.slot.end_wait(self.server.rt);
         self.say(&ClientAnswer::BadLine(LineFault::NotJson))?;
         if had_end {
@@ -282,6 +300,20 @@ impl<N: HeldNode, K: FrameKeys, R: Wait + Clock> Client<'_, '_, N, K, R> {
         } else {
             Ok(AfterLine::Close)
         }
+    }
+
+    /// Reads a line to its end, unless the connection gives way before. Whether it had an end.
+    fn pass_line(&self, ahead: &mut Ahead) -> Result<bool, AheadFault> {
+        for _ in self.server.rt.forever() {
+            let mut part = self.stream.take(LINE_PART);
+            if ahead.pass_line(&mut Watched::new(&mut part))? {
+                return Ok(true);
+            }
+            if part.limit() > 0 || self.slot.has_given_way(self.server.rt) {
+                return Ok(false);
+            }
+        }
+        unreachable!()
     }
 
     /// Answers a line, or puts a job for it.
