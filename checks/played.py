@@ -12,6 +12,7 @@ import time
 import tundelca
 
 SIZE = 100  # of a page of sessions
+ACTS_SHARE = 1_044_480  # of the clients of a node
 
 
 class Played:
@@ -20,6 +21,8 @@ class Played:
     def __init__(self, ports, owners):
         self.streams = [[] for _ in ports]
         self.lock, self.owners = threading.Lock(), owners
+        each = tundelca.places_each(list(owners.items()), len(ports))
+        self.shares = [each if me in owners.values() else 0 for me in range(len(ports))]
         self.nodes = [Node(self, me, port) for me, port in enumerate(ports)]
 
     def __enter__(self):
@@ -43,7 +46,7 @@ class Node:
 
     def __init__(self, cluster, me, port):
         self.cluster, self.me, self.port = cluster, me, port
-        self.lacks, self.changed, self.sessions, self.newest = {}, {}, {}, 0
+        self.lacks, self.changed, self.sessions, self.newest, self.acts = {}, {}, {}, 0, 0
         self.mute, self.garbage, self.drips, self.connections, self.lies = False, None, None, [], {}
         node = self
 
@@ -108,7 +111,8 @@ class Node:
     def on_status(self, _):
         count = len(self.cluster.nodes)
         peer = {"again": 0, "connected": True, "heard": True, "lost": 0, "unopened": 0, "waiting": 0}
-        said = {"at": sum(map(len, self.cluster.streams)) * (2 * count + 1), "journal": None, "limit": 4_194_304,
+        said = {"acts": self.acts, "acts_share": ACTS_SHARE, "shares": self.cluster.shares,
+                "at": sum(map(len, self.cluster.streams)) * (2 * count + 1), "journal": None, "limit": 4_194_304,
                 "peers": [None if name == self.me else dict(peer) for name in range(count)],
                 "published": len(self.cluster.streams[self.me]), "reaches": [self.reach(o) for o in range(count)],
                 "sessions": len(self.sessions), "unopened": 0}
@@ -140,7 +144,7 @@ class Node:
         return {"at": 1, "sessions": [list(pair) for pair in found[:SIZE]]}
 
     def on_open(self, asked):
-        self.newest += 1
+        self.newest, self.acts = self.newest + 1, self.acts + 1
         self.sessions[self.newest] = asked["user"]
         return {"session": self.newest}
 
@@ -148,6 +152,7 @@ class Node:
         if self.sessions.get(asked["session"]) != asked["user"]:
             return {"error": "N1 NoSession"}
         del self.sessions[asked["session"]]
+        self.acts += 1
         return {"done": True}
 
     def on_assigned_users(self, asked):

@@ -16,6 +16,7 @@ import client_tried
 import lies_told
 import played
 import runner
+import shares_tried
 import standings_tried
 from cluster import Cluster, tundelca
 from runner import judge, wait_until
@@ -302,6 +303,7 @@ def cases(given):
     tried = [
         ("tools: words", words_are_told),
         *standings_tried.trials(),
+        *shares_tried.trials(),
         ("tools: colours, --watch", colours_are_for_terminals),
         ("tools: stream, diff", streams_are_read),
         ("tools: sessions", sessions_are_closed),
