@@ -181,7 +181,7 @@ def before_nodes(program):
         port = gateway.port
         judge(ask(port, "/check", WRITE, "guess") == no("unknown token", 401), "a guessed token")
         judge_all(port, [
-            ("/health", None, (200, {"well": True})),
+            ("/health", None, (200, WELL)),
             ("/check", WRITE, no("logged out")),
             ("/login", BOTH, DONE),
             ("/check", WRITE, ALLOWED),
@@ -228,7 +228,7 @@ def before_nodes(program):
             nodes.kill(me)
         allow_all(nodes)
         time.sleep(1.1)
-        judge_all(port, [("/health", None, (200, {"well": True})), ("/login", BOTH, DONE), ("/check", WRITE, ALLOWED)])
+        judge_all(port, [("/health", None, (200, WELL)), ("/login", BOTH, DONE), ("/check", WRITE, ALLOWED)])
     return said
 
 
