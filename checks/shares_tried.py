@@ -24,7 +24,8 @@ MORE = "node 0 has used 300 places, 44 more than its share"
 
 def seen_of(cluster):
     """The nodes as a look of a tool sees them."""
-    return [nodes.Seen(nodes.Named(node.port), nodes.standing_of(node.on_status(None))) for node in cluster.nodes]
+    return [nodes.Seen(nodes.Named(tundelca.door(node.port)), nodes.standing_of(node.on_status(None)))
+            for node in cluster.nodes]
 
 
 def tells(port, others, text):
@@ -105,7 +106,7 @@ def ends_are_told():
             return looks.sight(seen_of(cluster), 1, now)
 
         def ends(sight):
-            return sight.shares[0].ends, sight.shares["port", last.port].ends
+            return sight.shares[0].ends, sight.shares[tundelca.door(last.port)].ends
 
         judge(ends(look(0.0, 100, 0)) == (None, None), "one look")
         judge(ends(look(shares.FIRST - 1, 200, 10)) == (None, None), "too soon")
@@ -123,13 +124,13 @@ def ends_are_told():
         judge(ends(look(1_001.0, 1_100, 500))[1] is None, "acts of before it began again count")
         cluster.shares = [1_200, 1_200, 0, 0]
         told = [found.text for found in look(1_010.0, 1_110, 500).spent()]
-        due = "node 0 has used 92 % of its share: 90 of 1,200 places are left, for 90 seconds at the last ten minutes' rate"
-        judge(told == [due], f"{told}")
+        due = "node 0 has used 92 % of its share: 90 of 1,200 places are left"
+        judge(told == [f"{due}, for 90 seconds at the last ten minutes' rate"], f"{told}")
     return "in days, hours and seconds"
 
 
 def holdings_have_places():
-    """What roles hold is more than their owner has places: `begin-anew` tells it before anything stops or is written."""
+    """An owner's roles hold more than it has places: `begin-anew` tells it before anything stops or is written."""
     each = PLACES[4, 2]
     with Cluster("", NODES, MAY_LIE, roles=[*ROLES, (4, 0)], running=()) as cluster, cluster.play() as played:
         new, kept = (os.path.join(cluster.folder.name, name) for name in ("new", "kept"))

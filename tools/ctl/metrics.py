@@ -20,7 +20,8 @@ Nodes are asked at each scrape, for so long as --patience says. One that is away
 nothing else. When a share ends is told with --port alone, by the scrapes of ten minutes. The status is 2 where one
 is away, and 1 where one is begun twice: it says so, or more of its own commands are there than it has published. What
 is published at it is lost.""")
-    one.add_argument("nodes", nargs="+", type=nodes.node, metavar="NODE", help="a client port, or a cluster file")
+    one.node("nodes", nargs="+")
+    one.account("--owner")
     one.add_argument("--port", type=int, metavar="P", help="serve it at this port of 127.0.0.1; 0 takes a free one")
     one.add_argument("--may-lie", type=int, metavar="F", help="how many may, by which others' word counts of a node "
                                                               "that was begun twice; by a cluster file if one is named")
@@ -102,32 +103,31 @@ def peers(it, number):
 
 def ending(sight):
     """What is left of each share, and where looks before this one show it when it ends."""
-    owners = {share.owner: share for share in sight.shares.values() if share.owner is not None}
-    clients = {name[1]: share for name, share in sight.shares.items() if share.owner is None}
-    for kind, label, whose, rows in (("places", "owner", "the owner", owners), ("acts", "port", "clients", clients)):
+    owners = [({"owner": name}, share) for name, share in sight.shares.items() if share.owner is not None]
+    clients = [(one.node.labels(), sight.shares[one.node.door]) for one in sight.seen if one.node.door in sight.shares]
+    for kind, whose, rows in (("places", "the owner", owners), ("acts", "clients", clients)):
         yield from family(f"left_{kind}", "gauge", f"What is left of the share of {whose}.",
-                          [({label: name}, share.left()) for name, share in rows.items()])
-        soon = {name: round(share.ends) for name, share in rows.items() if share.ends is not None}
+                          [(labels, share.left()) for labels, share in rows])
         yield from family(f"left_{kind}_seconds", "gauge", "In how long it ends at the last ten minutes' rate.",
-                          [({label: name}, seconds) for name, seconds in soon.items()])
+                          [(labels, round(share.ends)) for labels, share in rows if share.ends is not None])
 
 
 def text(sight, took):
     """All samples, each below its help and its kind."""
     seen, most = sight.seen, furthest(sight.seen)
-    answer = [(one.node.port, one.standing) for one in seen if one.standing is not None]
-    lines = family("up", "gauge", "1 where the node answers.", [({"port": one.node.port}, int(one.standing is not None))
+    answer = [(one.node.labels(), one.standing) for one in seen if one.standing is not None]
+    lines = family("up", "gauge", "1 where the node answers.", [(one.node.labels(), int(one.standing is not None))
                                                                for one in seen])
-    names = [({"port": one.node.port, "node": one.me()}, 1) for one in seen if one.me() is not None]
-    lines += family("node_info", "gauge", "The name of the node at a client port.", names)
+    names = [({**one.node.labels(), "node": one.me()}, 1) for one in seen if one.me() is not None]
+    lines += family("node_info", "gauge", "The name of the node at a client port, or at a socket.", names)
     lines += family("behind_commands", "gauge", "Commands that the node lacks and another of these has.",
-                    [({"port": port}, behind(it, most)) for port, it in answer])
+                    [(at, behind(it, most)) for at, it in answer])
     lines += family("begun_twice", "gauge", "1 where the node's own stream isn't what it has published.",
-                    [({"port": one.node.port}, int(one.begun_twice() is not None)) for one in seen
+                    [(one.node.labels(), int(one.begun_twice() is not None)) for one in seen
                      if one.standing is not None and one.standing.published is not None])
     for name, kind, help, samples in NODE_METRICS:
-        lines += family(name, kind, help, [({"port": port, **labels}, number)
-                                           for port, it in answer for labels, number in samples(it)])
+        lines += family(name, kind, help, [({**at, **labels}, number)
+                                           for at, it in answer for labels, number in samples(it)])
     lines += ending(sight)
     lines += family("look_seconds", "gauge", "How long it took to ask the nodes.", [({}, round(took, 6))])
     return "\n".join(lines) + "\n"
@@ -139,6 +139,12 @@ def family(name, kind, help, samples):
         return []
     lines = [f"# HELP tundelca_{name} {help}", f"# TYPE tundelca_{name} {kind}"]
     for labels, number in samples:
-        inside = ",".join(f'{label}="{value}"' for label, value in labels.items())
+        inside = ",".join(f'{label}="{escaped(value)}"' for label, value in labels.items())
         lines.append(f"tundelca_{name}{'{' + inside + '}' if inside else ''} {number}")
     return lines
+
+
+def escaped(value):
+    """A label's value as Prometheus reads it, in ASCII: a path may have what ends a label."""
+    text = str(value).replace("\\", "\\\\").replace('"', '\\"').replace("\n", "\\n")
+    return text.encode("ascii", "backslashreplace").decode("ascii")

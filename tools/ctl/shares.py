@@ -44,12 +44,12 @@ class Share:
 
 
 def shares_of(seen, most):
-    """The shares that nodes tell: by its owner that of each that has any places, and by its port each node's clients'.
+    """The shares that nodes tell: by its owner that of each that has any places, and by its door each node's clients'.
 
     `most` is how far each owner's stream is. A share is what most of them say, since few of them lie.
     """
     told = [one for one in seen if one.standing is not None and one.standing.shares is not None]
-    rows = {("port", one.node.port): Share(one.standing.acts, one.standing.acts_share, node=str(one)) for one in told}
+    rows = {one.node.door: Share(one.standing.acts, one.standing.acts_share, node=str(one)) for one in told}
     for owner, reach in enumerate(most):
         said = [one.standing.shares[owner] for one in told if owner < len(one.standing.shares)]
         used = max([reach, *(one.standing.published for one in told if one.me() == owner)])
