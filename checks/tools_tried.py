@@ -182,7 +182,7 @@ def files_fit_together():
             judge(all(prints[min(me, you), max(me, you)] in said for you in range(NODES) if you != me), said)
             judge(os.stat(path("node", me)).st_mode & 0o777 == 0o600, "others may read it")
         paths = [path("node", me) for me in range(NODES)]
-        tool("check", *paths)
+        judge("165,564 places for 2 owners each" in tool("check", *paths), "it doesn't say how many places there are")
         tool("file", path("new"), "--like", paths[0], "--cluster", 6, status=WRONG)  # keys are wanted anew
         tool("file", path("new"), "--like", paths[0], "--client", clients[1])
         judge("both of node 0" in tool("check", paths[0], path("new"), status=BEHIND), "fits")
