@@ -10,12 +10,11 @@ import socket
 import struct
 import time
 
-from cluster import ECHO, FRAME, PATIENCE, ROLE, SEND, Cluster, assign
+from cluster import ECHO, FRAME, PATIENCE, READY, ROLE, SEND, Cluster, assign
 from lives import compiled
 from runner import judge, wait_until
 from timed_client import SOON, Client
 
-READY = 3
 UNTAGGED = FRAME - 32  # bytes of a frame before its tag
 PEERS = 128  # connections of peers at once
 PLACES = 400  # by which peers are ahead of a node; its window has 64
@@ -31,10 +30,10 @@ LAB_FRAME = bytes.fromhex(  # a SEND of `assign 7 2` at place 0 of node 0, from 
 
 
 class Second(Cluster):
-    """Node 1 of four, alone. Role 2 is its own."""
+    """Node 1 of four, alone. Role 2 is its own, and role 3 node 0's."""
 
-    def __init__(self, program, **more):
-        super().__init__(program, 4, 1, roles=[(ROLE, 1)], running=[1], waits=True, **more)
+    def __init__(self, program):
+        super().__init__(program, 4, 1, roles=[(ROLE, 1), (ROLE + 1, 0)], running=[1], waits=True)
 
     def good(self):
         """A frame that counts, if it is the first from node 0."""
@@ -334,7 +333,7 @@ def lost_frames(program):
 def said_ahead(cluster, peer):
     """All that a peer has to say to node 1 at many places of node 0's stream."""
     kinds = [SEND, ECHO, READY] if peer == 0 else [ECHO, READY]
-    return b"".join(cluster.frame(peer, 1, kind, 0, place, assign(place))
+    return b"".join(cluster.frame(peer, 1, kind, 0, place, assign(place, ROLE + 1))
                     for place in range(PLACES) for kind in kinds)
 
 
@@ -375,7 +374,7 @@ def idle_client(program):
         cluster.stops()
         cluster.variables = {"LD_PRELOAD": library}
         cluster.start(1)
-        client = Client(cluster.wait([1]), 1)
+        cluster.wait([1])
         for _ in range(20):  # it may be closed before it is served, where this script was slow
             client = Client(cluster, 1)
             with contextlib.suppress(ConnectionError):

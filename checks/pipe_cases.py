@@ -3,6 +3,7 @@
 A device goes wrong by checks/mishaps.c: `read` or `write` of standard input, of a cluster file, or of standard output.
 """
 import os
+import socket
 import subprocess
 import tempfile
 
@@ -269,7 +270,7 @@ def second_read(daemon):
 def cluster_file(daemon):
     """Each read of a cluster file in turn fails, and it is unread; it is read as patiently as all else. Where it is
     read whole the node finds its port for clients taken."""
-    with Cluster(daemon, 1, 0, running=()) as cluster, tundelca.socket.socket() as held:
+    with Cluster(daemon, 1, 0, running=()) as cluster, socket.socket() as held:
         held.bind((tundelca.LOOPBACK, cluster.clients[0]))
         held.listen(1)
         with open(cluster.paths[0], "rb") as file:
