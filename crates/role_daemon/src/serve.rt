@@ -68,6 +68,7 @@ where
     requires me { IsNodeSetup setup.now }
     requires peers { IsServerSetup setup.now }
 {
+    let idle = Duration::from_millis(IDLE);
     let ports = setup.nodes.as_slice();
     let peers = listen(rt, local(ports[usize::from(setup.me.index())]))?;
     let clients = listen(rt, local(setup.client))?;
@@ -76,7 +77,7 @@ where
         clients,
         addresses: addresses(alloc, ports)?,
         limits: Limits::within(setup.config.roles().sizes().n(), MOST_PEERS),
-        idle: Duration::from_millis(IDLE),
+        idle,
         operators: false,
     })
 }
