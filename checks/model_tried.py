@@ -1,0 +1,2 @@
+REQUESTS = 5_000
+def beside(given): return ""
