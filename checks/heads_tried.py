@@ -67,7 +67,7 @@ ROWS: List[Tuple[str, bytes, List[int], List[bool]]] = [  # a name, bytes, the s
     ("closed, then another", request(more=b"Connection: close\r\n") + request(), [200], [True]),
     ("100-continue", request(more=b"Expect: 100-continue\r\n"), [100, 200], [True]),
     ("the preface of HTTP/2", b"PRI * HTTP/2.0\r\n\r\nSM\r\n\r\n", [400], []),
-    ("a hello of TLS", b"\x16\x03\x01\x02\x00\x01\x00\x01\xfc\x03\x03" + b"\0" * 100, [], []),
+    ("a hello of TLS", b"\x16\x03\x01\x02\x00\x01\x00\x01\xfc\x03\x03" + b"\0" * 100, [400], []),
     ("two tokens", request(more=b"Authorization: Bearer guess\r\n"), [401], []),
     ("a member twice", request(BODY.replace(b'{"type": "user"', b'{"id": "bob", "type": "user"')), [400], []),
 ]

@@ -19,6 +19,7 @@ from ctl import AWAY, INTERRUPTED, NO, REFUSED, STATUSES, WORDS, Fault  # noqa: 
 from ctl.words import NAME, Steps, Words  # noqa: E402
 
 GROUPS = {  # the commands, each with the module that does it
+    "to begin with, and the gateway": {"try": "trial", "policy": "policies"},
     "to see how nodes are": {"status": "status", "health": "status", "metrics": "metrics", "board": "board"},
     "to read and to publish": {"ask": "publishing", "stream": "streams", "diff": "streams", "publish": "publishing",
                                "sessions": "sessions", "lab": "lab"},

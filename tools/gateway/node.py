@@ -16,7 +16,7 @@ from gateway.questions import Row
 
 PATIENCE = 2.0  # seconds for an answer of the node
 FRESH = 1.0  # seconds between two looks at how the node stands
-SOON = 0.25  # seconds at least between two looks, where a connection ended
+SOON = 0.25  # seconds between two while its word doesn't count
 A_LINE = tundelca.A_LINE  # rows
 MOST_ROWS = 2_000  # that are under way at a time
 LONGEST = tundelca.LONGEST
@@ -243,7 +243,7 @@ class Node:
         self.looked()
 
     async def watch(self) -> None:
-        """Asks the node each second how it stands, and at once where the connection for decisions ended."""
+        """Asks the node each second how it stands, and sooner where its word doesn't count or its connection ended."""
         standing = Standing(self.where)
         while True:
             self.wake.clear()
@@ -253,8 +253,9 @@ class Node:
             if not self.wake.is_set():
                 self.stand(SILENT if status is None else trouble_of(status))
             await asyncio.sleep(SOON)
-            with contextlib.suppress(asyncio.TimeoutError):
-                await asyncio.wait_for(self.wake.wait(), FRESH - SOON)
+            if self.trouble is None:
+                with contextlib.suppress(asyncio.TimeoutError):
+                    await asyncio.wait_for(self.wake.wait(), FRESH - SOON)
 
 
 class Standing:
