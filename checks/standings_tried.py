@@ -149,7 +149,7 @@ def changes_are_told():
         def stands_still(lacks, now):
             """What is told of it at this time, where it lacks so many commands."""
             last.lacks = {0: lacks}
-            seen = [nodes.Seen(nodes.Named(node.port), nodes.standing_of(node.on_status(None)))
+            seen = [nodes.Seen(nodes.Named(tundelca.door(node.port)), nodes.standing_of(node.on_status(None)))
                     for node in cluster.nodes]
             return [found.text for found in looks.sight(seen, 1, now).changes]
 

@@ -24,7 +24,7 @@ from tool_runs import (
     serving, tool)
 
 PAIRS = 5_000  # that are published, kept and published anew
-COMMANDS = ["status", "health", "metrics", "board", "ask", "stream", "diff", "publish", "sessions", "lab", "key",
+COMMANDS = ["status", "health", "metrics", "board", "ask", "stream", "diff", "publish", "sessions", "stop", "lab", "key",
             "file", "files", "check", "begin-anew"]
 
 

@@ -1,9 +1,11 @@
 #!/usr/bin/env python3
 """A gateway before a node: it knows its users, and a node doesn't. An example to begin from, not a product.
 
-    python3 examples/gateway.py NODE_PORT PORT TABLE
+    python3 examples/gateway.py NODE PORT TABLE [OWNER]
 
-NODE_PORT is the node's client port, PORT the gateway's own, on this machine's own address alone. TABLE is a JSON file:
+NODE is the node's client port, its socket's path, @NAME for the package's node NAME, or its cluster file; PORT the
+gateway's own, on this machine's own address alone. At a socket the node has to be of the gateway's own account, of root
+or `tundelca`, or of the account OWNER, else it isn't asked. TABLE is a JSON file:
 
     {"tokens": {"TOKEN": "alice"}, "users": {"alice": 7},
      "roles": {"editor": 2, "guest": 3}, "owners": {"editor": 0, "guest": 1},
@@ -58,15 +60,15 @@ class Denied(Exception):
 class Node:
     """The node, over connections that are kept: one that broke is made anew. Each answer has its deadline."""
 
-    def __init__(self, port, may_lie):
-        self.port, self.may_lie, self.tells = port, may_lie, True
+    def __init__(self, door, may_lie):
+        self.door, self.may_lie, self.tells = door, may_lie, True
         self.lock, self.trouble, self.next_look = threading.Lock(), None, 0.0
         self.kept = queue.LifoQueue()
         for _ in range(CONNECTIONS):
             self.kept.put(None)
 
     def ask(self, op, **members):
-        """The node's answer. A line goes out once: where no answer comes it may have been obeyed."""
+        """The node's answer. A command goes out once: where no answer comes it may have been obeyed."""
         try:
             client = self.kept.get(timeout=PATIENCE)
         except queue.Empty:
@@ -75,7 +77,7 @@ class Node:
             if client is not None and select.select([client.socket], [], [], 0)[0]:
                 client.close()  # no answer is due, so what came is its end
                 client = None
-            client = client or tundelca.Client(self.port, PATIENCE)
+            client = client or tundelca.Client(self.door, PATIENCE)
             return client.ask(op, **members)
         except (tundelca.Unreachable, ValueError):
             if client is not None:
@@ -160,8 +162,8 @@ class Opened:
 class Gateway:
     """The names, and the sessions of each token: one for each set of owners that an object accepts."""
 
-    def __init__(self, node_port, table, path):
-        self.table, self.node, self.opened = table, Node(node_port, table["may_lie"]), Opened(path)
+    def __init__(self, door, table, path):
+        self.table, self.node, self.opened = table, Node(door, table["may_lie"]), Opened(path)
         self.sets = {frozenset(owners) for owners in table["accepted"].values() if owners}
         self.sessions, self.left, self.lock = {}, queue.SimpleQueue(), threading.Lock()
 
@@ -318,11 +320,12 @@ class Server(ThreadingHTTPServer):
 
 
 def main():
-    if len(sys.argv) != 4:
+    if len(sys.argv) not in (4, 5):
         sys.exit(__doc__)
     try:
         with open(sys.argv[3], encoding="utf-8") as file:
-            gateway = Gateway(int(sys.argv[1]), json.load(file), sys.argv[3] + ".sessions")
+            door = tundelca.door(sys.argv[1], *sys.argv[4:])
+            gateway = Gateway(door, json.load(file), sys.argv[3] + ".sessions")
         gateway.begin()
         server = Server((tundelca.LOOPBACK, int(sys.argv[2])), Handler)
     except Denied as no:

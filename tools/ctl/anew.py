@@ -6,10 +6,10 @@ import sys
 
 import tundelca
 from ctl import DONE, NO, WORDS, Fault, files, nodes
-from ctl.nodes import Nodes, read_json
+from ctl.nodes import Nodes
 from ctl.publishing import issue, pace
 from ctl.terminal import counted
-from ctl.words import Steps
+from ctl.words import NODE, Steps
 
 
 def add(steps):
@@ -33,8 +33,8 @@ One of the nodes may lie, so ask as many as can be reached. The status is 1 wher
 in how many commands of an owner they have; where a node hasn't all that it published; and where one has more commands
 at the end than before. At last it is told how many commands of each owner were there: stop a node only while `status`
 shows the same numbers, or keep again.""")
-    one.add_argument("nodes", nargs="+", type=nodes.node, metavar="NODE",
-                     help="a client port, or a cluster file; one file at least")
+    one.node("nodes", f"{NODE}; one file at least", nargs="+")
+    one.account("--owner")
     one.patience(30.0)
     one.set_defaults(run=keep)
     one = steps.add_parser("compare", "whether files of `keep` are the same", example="""
@@ -57,15 +57,15 @@ The status is 1 where they differ; it is told in which roles.""")
 Name all nodes whose client ports can be reached: it waits for all but F of them, as the files say. 20,000
 assignments take some seconds.""")
     one.add_argument("kept", metavar="KEPT")
-    one.add_argument("nodes", nargs="+", type=nodes.node, metavar="NODE",
-                     help="a new cluster file, or a client port by which it is paced")
+    one.node("nodes", "a new cluster file, or another node by which it is paced", nargs="+")
+    one.account("--owner")
     pace(one)
     one.set_defaults(run=publish)
 
 
-def holdings(port, roles, patience):
-    """For each role its users and its permissions, as the node at this port has them."""
-    with tundelca.Client(port, patience) as client:
+def holdings(door, roles, patience):
+    """For each role its users and its permissions, as the node at this door has them."""
+    with tundelca.Client(door, patience) as client:
         return {str(role): held for role, held in nodes.holdings(client, roles).items()}
 
 
@@ -73,11 +73,11 @@ def keep(given):
     """Prints what all the nodes say that the roles hold, and tells how many commands of each owner that is."""
     files_of_some = [one for one in given.nodes if one.text is not None]
     if not files_of_some:
-        raise Fault(WORDS, "one cluster file at least is wanted: ports alone don't tell the roles")
+        raise Fault(WORDS, "one cluster file at least is wanted: a node alone doesn't tell all roles")
     roles = sorted(role for role, _ in files_of_some[0].text["roles"])
     with Nodes(given.nodes, given.patience) as watched:
         before = level(watched)
-        heard = list(watched.pool.map(lambda one: holdings(one.port, roles, given.patience), watched.named))
+        heard = list(watched.pool.map(lambda one: holdings(one.door, roles, given.patience), watched.named))
         for one, other in zip(watched.named[1:], heard[1:]):
             for role in heard[0]:
                 if other[role] != heard[0][role]:
@@ -121,7 +121,7 @@ def reaches_text(reaches):
 def read_kept(path):
     """What a file of `keep` holds: for each role its users and its permissions."""
     try:
-        held = read_json(path)
+        held = tundelca.read_json(path)
     except ValueError as error:
         raise Fault(WORDS, str(error)) from None
     try:

@@ -30,7 +30,8 @@ def add(steps):
 
 It takes GET alone and can have nothing done. It keeps a connection to each node, of the 16 that a node gives
 clients.""")
-    one.add_argument("nodes", nargs="+", type=nodes.node, metavar="NODE", help="a client port, or a cluster file")
+    one.node("nodes", nargs="+")
+    one.account("--owner")
     one.add_argument("--port", type=int, required=True, metavar="P", help="of 127.0.0.1; 0 takes a free one")
     one.add_argument("--every", type=nodes.seconds, default=1.0, metavar="S",
                      help="how often nodes are asked (%(default)g s)")
@@ -73,7 +74,7 @@ class Samples:
 
 def row_of(one, sight):
     """What the page shows of a node."""
-    row = {"port": one.node.port, "me": one.me(), "state": sight.state(one)[0]}
+    row = {"where": str(one.node.door), "short": one.node.door.short(), "me": one.me(), "state": sight.state(one)[0]}
     it = one.standing
     if it is None:
         return row

@@ -69,18 +69,18 @@ class Looks:
         """Of which connected peers more frames are lost than at the last look."""
         for name, peer in enumerate(one.standing.peers or []):
             if peer is not None:
-                before = self.lost.get((one.node.port, name), peer.lost)
+                before = self.lost.get((one.node.door, name), peer.lost)
                 if peer.connected and peer.lost > before:
                     yield Finding(ALARM, f"{one} lost {counted(peer.lost - before, 'frame')} for node {name} since the "
                                          f"last look: that machine, or the network, is slow")
-                self.lost[one.node.port, name] = peer.lost
+                self.lost[one.node.door, name] = peer.lost
 
     def delays(self, one, most, now):
         """Of which owners the node lacks commands, and gets none."""
         for owner, reach in enumerate(one.standing.reaches):
-            before, since = self.still.get((one.node.port, owner), (reach, now))
+            before, since = self.still.get((one.node.door, owner), (reach, now))
             since = since if reach == before and reach < most[owner] else now
-            self.still[one.node.port, owner] = reach, since
+            self.still[one.node.door, owner] = reach, since
             if now - since >= LONG:
                 yield Finding(ALARM, f"{one} has been at {reach:,} of {most[owner]:,} commands of node {owner} for "
                                      f"{now - since:.0f} seconds: is it full, or does it lie?")
@@ -144,7 +144,7 @@ def between(standings):
     """What is not well between nodes that answer."""
     names = [it.me for it in standings if it.me is not None]
     for name in sorted({name for name in names if names.count(name) > 1}):
-        yield Finding(NOTE, f"{names.count(name)} of these ports say that they are node {name}")
+        yield Finding(NOTE, f"{names.count(name)} of these say that they are node {name}")
     if len({len(it.peers) for it in standings if it.peers is not None}) > 1:
         yield Finding(NOTE, "the nodes are of clusters of different sizes")
     yield from unheard(standings)

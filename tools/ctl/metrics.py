@@ -18,7 +18,8 @@ def add(steps):
 Nodes are asked at each scrape, for so long as --patience says. One that is away has tundelca_up 0, and
 nothing else. The status is 2 where one is away, and 1 where one is begun twice: it says so, or more of its own
 commands are there than it has published. What is published at it is lost.""")
-    one.add_argument("nodes", nargs="+", type=nodes.node, metavar="NODE", help="a client port, or a cluster file")
+    one.node("nodes", nargs="+")
+    one.account("--owner")
     one.add_argument("--port", type=int, metavar="P", help="serve it at this port of 127.0.0.1; 0 takes a free one")
     one.add_argument("--may-lie", type=int, metavar="F", help="how many may, by which others' word counts of a node "
                                                               "that was begun twice; by a cluster file if one is named")
@@ -96,19 +97,19 @@ def peers(it, number):
 def text(seen, took):
     """All samples, each below its help and its kind."""
     most = furthest(seen)
-    answer = [(one.node.port, one.standing) for one in seen if one.standing is not None]
-    lines = family("up", "gauge", "1 where the node answers.", [({"port": one.node.port}, int(one.standing is not None))
+    answer = [(one.node.labels(), one.standing) for one in seen if one.standing is not None]
+    lines = family("up", "gauge", "1 where the node answers.", [(one.node.labels(), int(one.standing is not None))
                                                                for one in seen])
-    names = [({"port": one.node.port, "node": one.me()}, 1) for one in seen if one.me() is not None]
-    lines += family("node_info", "gauge", "The name of the node at a client port.", names)
+    names = [({**one.node.labels(), "node": one.me()}, 1) for one in seen if one.me() is not None]
+    lines += family("node_info", "gauge", "The name of the node at a client port, or at a socket.", names)
     lines += family("behind_commands", "gauge", "Commands that the node lacks and another of these has.",
-                    [({"port": port}, behind(it, most)) for port, it in answer])
+                    [(at, behind(it, most)) for at, it in answer])
     lines += family("begun_twice", "gauge", "1 where the node's own stream isn't what it has published.",
-                    [({"port": one.node.port}, int(one.begun_twice() is not None)) for one in seen
+                    [(one.node.labels(), int(one.begun_twice() is not None)) for one in seen
                      if one.standing is not None and one.standing.published is not None])
     for name, kind, help, samples in NODE_METRICS:
-        lines += family(name, kind, help, [({"port": port, **labels}, number)
-                                           for port, it in answer for labels, number in samples(it)])
+        lines += family(name, kind, help, [({**at, **labels}, number)
+                                           for at, it in answer for labels, number in samples(it)])
     lines += family("look_seconds", "gauge", "How long it took to ask the nodes.", [({}, round(took, 6))])
     return "\n".join(lines) + "\n"
 
@@ -119,6 +120,12 @@ def family(name, kind, help, samples):
         return []
     lines = [f"# HELP tundelca_{name} {help}", f"# TYPE tundelca_{name} {kind}"]
     for labels, number in samples:
-        inside = ",".join(f'{label}="{value}"' for label, value in labels.items())
+        inside = ",".join(f'{label}="{escaped(value)}"' for label, value in labels.items())
         lines.append(f"tundelca_{name}{'{' + inside + '}' if inside else ''} {number}")
     return lines
+
+
+def escaped(value):
+    """A label's value as Prometheus reads it, in ASCII: a path may have what ends a label."""
+    text = str(value).replace("\\", "\\\\").replace('"', '\\"').replace("\n", "\\n")
+    return text.encode("ascii", "backslashreplace").decode("ascii")

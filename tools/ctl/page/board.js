@@ -23,7 +23,7 @@ function shape(name, members) {
 const byId = (name) => document.getElementById(name);
 const digits = (number) => number === undefined || number === null ? "–" : Math.round(number).toLocaleString("en");
 const short = (number) => number >= 100 || number === 0 ? digits(number) : number.toFixed(1);
-const nameOf = (node) => node.me === null ? `port ${node.port}` : `node ${node.me}`;
+const nameOf = (node) => node.me === null ? node.where : `node ${node.me}`;
 const micros = (time) =>
   time < 1000 ? `${time} µs` : time < 1e6 ? `${short(time / 1000)} ms` : `${short(time / 1e6)} s`;
 
@@ -131,7 +131,7 @@ function life(node) {
 function nodeRow(node, at, rates) {
   const key = shape("svg", { class: `key key-${at % 8}`, width: 10, height: 10, viewBox: "0 0 10 10" });
   key.append(shape("circle", { cx: 5, cy: 5, r: 4 }));
-  const row = element("tr", "", element("td", "", key, ` ${nameOf(node)}`), element("td", "soft", String(node.port)),
+  const row = element("tr", "", element("td", "", key, ` ${nameOf(node)}`), element("td", "soft", node.short),
     element("td", "left", element("span", `pill ${WELL[node.state]}`, node.state)));
   if (node.state === "away" && node.at === undefined) {
     for (let left = 0; left < 11; left++) row.append(element("td", "soft", "–"));
@@ -154,7 +154,7 @@ function nodeRow(node, at, rates) {
 
 function nodeTable(rates) {
   const left = (text) => ({ text, style: "left" });
-  byId("nodes").replaceChildren(head("", "port", left("state"), left("commands a second"), "behind", "history",
+  byId("nodes").replaceChildren(head("", "at", left("state"), left("commands a second"), "behind", "history",
     left("life span used"), "sessions", "hears", "waiting", "sent again", "lost", "unopened", "sync: mean, worst"),
   ...now.nodes.map((node, at) => nodeRow(node, at, rates)));
 }
