@@ -3,8 +3,8 @@
 
     tundelca-gateway NODE POLICY [--listen ADDRESS:PORT | --socket PATH]
 
-NODE is the node's client port on this machine, or the path of its socket; POLICY the policy file, which says whose word
-counts for each type of thing and which number each name is. It is at 127.0.0.1:7500 if nothing else is said, and never
+NODE is the node's client port on this machine, the path of its socket, or @NAME for that of the package's node NAME;
+POLICY the policy file, which says whose word counts for each type of thing and which number each name is. It is at 127.0.0.1:7500 if nothing else is said, and never
 anywhere but at a loopback address or a socket: TLS and other machines are a proxy's. `man tundelca-gateway` has the
 calls and the policy file, `tundelca-ctl policy` looks at one.
 
@@ -18,10 +18,12 @@ import os
 import socket
 import stat
 import sys
-from typing import List, Tuple, Union
+from typing import List, Tuple
 
 if __name__ == "__main__":
     sys.dont_write_bytecode = True
+
+import tundelca  # noqa: E402
 
 NAME, LISTEN = "tundelca-gateway", "127.0.0.1:7500"
 WORDS, DEVICE = 3, 4  # exit statuses: of words and of the policy file, of an address or socket that can't be had
@@ -33,15 +35,6 @@ class Words(argparse.ArgumentParser):
 
     def error(self, message: str) -> "None":  # type: ignore[override]
         self.exit(WORDS, f"{self.prog}: {message}; --help says more\n")
-
-
-def node(word: str) -> Union[int, str]:
-    """A node: a client port, or a socket's path."""
-    if word.isdecimal() and 0 < int(word) < 65_536:
-        return int(word)
-    if "/" not in word:
-        raise argparse.ArgumentTypeError(f"{word} is no port, and no path of a socket")
-    return word
 
 
 def address(word: str) -> Tuple[str, int]:
@@ -61,11 +54,13 @@ def address(word: str) -> Tuple[str, int]:
 
 def parsed(words: List[str]) -> argparse.Namespace:
     parser = Words(prog=NAME, description=__doc__, formatter_class=argparse.RawDescriptionHelpFormatter)
-    parser.add_argument("node", type=node, metavar="NODE", help="the node's client port, or the path of its socket")
+    parser.add_argument("node", metavar="NODE", help="the node's client port, its socket's path, or @NAME")
     parser.add_argument("policy", metavar="POLICY", help="the policy file")
     where = parser.add_mutually_exclusive_group()
     where.add_argument("--listen", type=address, metavar="ADDRESS:PORT", help=f"where it listens ({LISTEN})")
     where.add_argument("--socket", metavar="PATH", help="a socket where it listens, for its account and its group")
+    parser.add_argument("--account", metavar="ACCOUNT",
+                        help="whose node it may be, beside root, tundelca and its own, where it listens at a socket")
     parser.add_argument("--url", metavar="URL", help="its address as callers know it, in what it tells of itself")
     return parser.parse_args(words)
 
@@ -123,6 +118,10 @@ def main() -> int:
             raise
         return told(f"{sys.executable} has no module tornado: apt-get install python3-tornado", WORDS)
     try:
+        door = tundelca.door(given.node, given.account)
+    except ValueError as fault:
+        return told(fault, WORDS)
+    try:
         policy.read(given.policy)
     except policy.Wrong as wrong:
         return told(f"the policy file {given.policy} is refused: {wrong}", WORDS)
@@ -133,7 +132,7 @@ def main() -> int:
     try:
         listener.listen(BACKLOG)
         listener.setblocking(False)
-        asyncio.run(server.serve(given.node, given.policy, listener, (given.url or url).rstrip("/")))
+        asyncio.run(server.serve(door, given.policy, listener, (given.url or url).rstrip("/")))
         return 0
     except policy.Wrong as wrong:
         return told(f"the policy file {given.policy} is refused: {wrong}", WORDS)

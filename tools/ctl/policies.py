@@ -24,6 +24,7 @@ decision, 3 where the file is refused.""")
     one.add_argument("file", metavar="FILE")
     one.add_argument("asked", nargs="*", metavar="WORD", help=USAGE)
     one.add_argument("--node", type=nodes.node, metavar="NODE", help="of `why`: whom to ask")
+    one.account()
     one.patience(2.0)
     one.set_defaults(run=run)
 
@@ -120,8 +121,7 @@ def why(read, given):
     if given.node is None:
         print("no node was asked: --node NODE")
         return DONE
-    with given.node.client(given.patience) if hasattr(given.node, "client") else \
-            tundelca.Client(given.node.port, given.patience) as client:
+    with tundelca.Client(given.node.door, given.patience) as client:
         return decided(read, given, item, client)
 
 
@@ -147,8 +147,8 @@ def decided(read, given, item, client):
 
 
 def roles_of(named, owner):
-    """The owner's roles, by a cluster file; None where only a port is known."""
-    text = getattr(named, "text", None)
+    """The owner's roles, by a cluster file; None where only a door is known."""
+    text = named.text
     return None if text is None else sorted(role for role, its in text["roles"] if its == owner)
 
 

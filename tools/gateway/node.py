@@ -9,7 +9,7 @@ import collections
 import contextlib
 import json
 from dataclasses import dataclass, field
-from typing import Any, Callable, Deque, Dict, List, Optional, Tuple, Union
+from typing import Any, Callable, Deque, Dict, List, Optional, Tuple
 
 import tundelca
 from gateway.questions import Row
@@ -21,7 +21,6 @@ A_LINE = tundelca.A_LINE  # rows
 MOST_ROWS = 2_000  # that are under way at a time
 LONGEST = tundelca.LONGEST
 SILENT = "the node doesn't answer"
-Where = Union[int, str]  # a client port of this machine, or the path of a socket
 Decided = List[Dict[str, Any]]  # the decisions on the rows of one group
 Told = Callable[[Optional[List[Decided]], str], None]  # hears the decisions, or None and why there are none
 
@@ -42,13 +41,14 @@ def trouble_of(status: Dict[str, Any]) -> Optional[str]:
     return None
 
 
-async def connected(where: Where, protocol: "Lines") -> None:
-    """Connects to a node. An OSError where it isn't there."""
+async def connected(door: tundelca.Door, protocol: "Lines") -> None:
+    """Connects to a node. An OSError where it isn't there, and a `Stranger` where another account listens at a socket.
+    """
     loop = asyncio.get_running_loop()
-    if isinstance(where, int):
-        await loop.create_connection(lambda: protocol, tundelca.LOOPBACK, where)
+    if door.is_port():
+        await loop.create_connection(lambda: protocol, tundelca.LOOPBACK, int(door.address))
     else:
-        await loop.create_unix_connection(lambda: protocol, where)
+        await loop.create_unix_connection(lambda: protocol, sock=door.begin())
 
 
 class Lines(asyncio.Protocol):
@@ -120,8 +120,8 @@ def lines_of(some: List[Asked]) -> List[Line]:
 class Node:
     """The node, as long as the gateway runs. `looked` is called where it was looked at, or its connection ended."""
 
-    def __init__(self, where: Where, looked: Callable[[], None]) -> None:
-        self.where, self.looked = where, looked
+    def __init__(self, door: tundelca.Door, looked: Callable[[], None]) -> None:
+        self.door, self.looked = door, looked
         self.trouble: Optional[str] = "the node wasn't asked yet"
         self.status: Dict[str, Any] = {}
         self.waiting: Deque[Asked] = collections.deque()
@@ -182,10 +182,10 @@ class Node:
         """Makes the connection, and sends what waits then."""
         link = Lines(LONGEST["decide_all"], self.came, self.end)
         try:
-            await asyncio.wait_for(connected(self.where, link), PATIENCE)
+            await asyncio.wait_for(connected(self.door, link), PATIENCE)
             self.link = link
             self.begin()
-        except (OSError, asyncio.TimeoutError):
+        except (OSError, tundelca.Unreachable, asyncio.TimeoutError):
             link.leave()
             self.end(SILENT)
 
@@ -244,7 +244,7 @@ class Node:
 
     async def watch(self) -> None:
         """Asks the node each second how it stands, and sooner where its word doesn't count or its connection ended."""
-        standing = Standing(self.where)
+        standing = Standing(self.door)
         while True:
             self.wake.clear()
             status = await standing.ask()
@@ -261,8 +261,8 @@ class Node:
 class Standing:
     """A connection on which the node is asked how it stands."""
 
-    def __init__(self, where: Where) -> None:
-        self.where = where
+    def __init__(self, door: tundelca.Door) -> None:
+        self.door = door
         self.link: Optional[Lines] = None
         self.answer: "Optional[asyncio.Future[Optional[Dict[str, Any]]]]" = None
 
@@ -271,14 +271,14 @@ class Standing:
         self.answer = asyncio.get_running_loop().create_future()
         try:
             return await asyncio.wait_for(self.asked(self.answer), PATIENCE)
-        except (OSError, asyncio.TimeoutError):
+        except (OSError, tundelca.Unreachable, asyncio.TimeoutError):
             self.said(None)
             return None
 
     async def asked(self, answer: "asyncio.Future[Optional[Dict[str, Any]]]") -> Optional[Dict[str, Any]]:
         if self.link is None:
             link = Lines(LONGEST["status"], self.came, lambda _: self.said(None))
-            await connected(self.where, link)
+            await connected(self.door, link)
             self.link = link
         self.link.send(b'{"op":"status"}\n')
         return await answer

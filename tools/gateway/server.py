@@ -19,9 +19,10 @@ from gateway import calls, heads
 from gateway.calls import Reply, Request
 from gateway.counts import Counts
 from gateway.heads import Stream
-from gateway.node import Decided, Node, Told, Where
+from gateway.node import Decided, Node, Told
 from gateway.policy import Policy, Wrong, read
 from gateway.questions import Bad, NoDecision, Question, Row
+from tundelca import Door
 
 MOST_CONNECTIONS = 512
 LOOKS = 0.5  # seconds between two looks at what is due
@@ -136,8 +137,8 @@ class Exchange(HTTPMessageDelegate):
 class Server(HTTPServerConnectionDelegate):
     """The gateway, from its start to its end."""
 
-    def __init__(self, where: Where, path: str, policy: Policy, listener: socket.socket, url: str) -> None:
-        self.where, self.path, self.policy, self.listener, self.url = where, path, policy, listener, url
+    def __init__(self, door: Door, path: str, policy: Policy, listener: socket.socket, url: str) -> None:
+        self.door, self.path, self.policy, self.listener, self.url = door, path, policy, listener, url
         self.counts, self.streams = Counts(), set()  # type: Tuple[Counts, Set[Stream]]
         self.wrong: Optional[str] = None  # why the policy file is refused, where it is
         self.unfit: Optional[str] = None  # why the policy isn't one for this cluster, where it isn't
@@ -145,7 +146,7 @@ class Server(HTTPServerConnectionDelegate):
         self.date, self.is_ending = formatdate(usegmt=True), False
         self.tasks: Set["asyncio.Future[Any]"] = set()
         self.said: Optional[str] = ""  # the trouble that was told last
-        self.node = Node(where, self.stand)
+        self.node = Node(door, self.stand)
 
     def trouble(self) -> Optional[str]:
         """Why there are no decisions; None where there are."""
@@ -275,7 +276,7 @@ class Server(HTTPServerConnectionDelegate):
         refuse = add_accept_handler(self.listener, self.accept)
         self.keep(asyncio.ensure_future(self.sweep()))
         self.keep(asyncio.ensure_future(self.reread()))
-        say(f"listens at {self.url}, asks the node at {self.where}, policy {self.policy.fingerprint} of {self.path}")
+        say(f"listens at {self.url}, asks the node at {self.door}, policy {self.policy.fingerprint} of {self.path}")
         await over.wait()
         self.is_ending = True
         refuse()
@@ -297,9 +298,9 @@ def mark_of(path: str) -> Tuple[int, ...]:
         return (fault.errno or 0,)
 
 
-async def serve(where: Where, path: str, listener: socket.socket, url: str) -> None:
+async def serve(door: Door, path: str, listener: socket.socket, url: str) -> None:
     """Serves at a listener, by a policy file. Raises `Wrong` where it is."""
     mark = mark_of(path)
-    server = Server(where, path, read(path), listener, url)
+    server = Server(door, path, read(path), listener, url)
     server.seen = mark
     await server.run()
