@@ -1,9 +1,9 @@
 #!/usr/bin/env python3
 """Tries the gateway from outside, as callers and proxies have it: checks/deciding.py [CHECKOUT]
 
-It is a process of its own, before built nodes and before nodes that are played, of which some answer wrongly. Its answers
-are held against a model that is written from docs/DECIDING.md. Without Debian's tornado its cases are skipped, and say
-so; without nginx those behind nginx. --requests NUMBER makes more.
+It is a process of its own, before built nodes and before nodes that are played, of which some answer wrongly. Its
+answers are held against a model that is written from docs/DECIDING.md. Without Debian's tornado its cases are skipped,
+and say so; without nginx those behind nginx. --requests NUMBER makes more.
 """
 import runner
 import calls_tried

@@ -1,5 +1,4 @@
-"""The gateway as a process of its own, as its callers have it, before nodes or what plays one. For deciding and others.
-"""
+"""The gateway as a process of its own, as callers have it, before nodes or what plays one. For deciding and others."""
 import hashlib
 import http.client
 import json
@@ -45,12 +44,15 @@ COMMANDS: List[Dict[str, Any]] = [  # of owner 0, and the last two of owner 1
 Answer = Tuple[int, Any]
 
 
+def has_tornado() -> bool:
+    """Whether Debian's Python and its tornado are here."""
+    words = [PYTHON, "-c", "import tornado.http1connection"]
+    return os.path.exists(PYTHON) and not subprocess.run(words, capture_output=True, timeout=PATIENCE).returncode
+
+
 def expect_tornado() -> None:
-    """Skips the case where Debian's tornado isn't here."""
-    if not os.path.exists(PYTHON):
-        raise Skipped(f"NO GATEWAY WAS TRIED: there is no {PYTHON}")
-    ran = subprocess.run([PYTHON, "-c", "import tornado.http1connection"], capture_output=True, timeout=PATIENCE)
-    if ran.returncode:
+    """Skips the case where they aren't."""
+    if not has_tornado():
         raise Skipped(f"NO GATEWAY WAS TRIED: {PYTHON} has no tornado; apt-get install python3-tornado")
 
 
@@ -192,7 +194,8 @@ class Before:
         made = []
         for user, owner, operation, object_ in asked["asked"]:
             allow, role, rule = models[owner].decision(user, operation, object_)
-            made.append({"allow": allow, "reach": models[owner].length, **({"role": role} if allow else {"rule": rule})})
+            made.append({"allow": allow, "reach": models[owner].length,
+                         **({"role": role} if allow else {"rule": rule})})
         return json.dumps({"at": 9, "decisions": made}).encode() + b"\n"
 
     def stands(self, changed: Dict[str, Any], is_ready: bool) -> None:

@@ -95,7 +95,8 @@ def made_access(draws: random.Random) -> Tuple[str, str, str, str, str]:
 
 def body_of(access: Tuple[str, str, str, str, str]) -> Dict[str, Any]:
     who, subject, action, kind, thing = access
-    return {"subject": {"type": who, "id": subject}, "action": {"name": action}, "resource": {"type": kind, "id": thing}}
+    return {"subject": {"type": who, "id": subject}, "action": {"name": action},
+            "resource": {"type": kind, "id": thing}}
 
 
 def held(answer: Dict[str, Any], due: Answer, what: Any) -> None:
@@ -175,6 +176,8 @@ def beside(given: Any) -> str:
                 allowed, why = call(gateway, whole, draws)
                 name = "allowed" if allowed else str(why)
                 seen[name] = seen.get(name, 0) + 1
-    judge({"allowed", "N3", "N4", "N5", "no route", "unknown subject", "unknown action", "unknown resource"} <= seen.keys(),
+    judge({"allowed", "N3", "N4", "N5", "no route", "unknown subject", "unknown action",
+           "unknown resource"} <= seen.keys(),
           json.dumps(seen))
-    return f"{given.words.requests:,} requests, " + ", ".join(f"{count:,} {what}" for what, count in sorted(seen.items()))
+    return f"{given.words.requests:,} requests, " + ", ".join(f"{count:,} {what}" for what,
+                                                              count in sorted(seen.items()))

@@ -1,5 +1,4 @@
-"""The gateway before a node that is away, out of touch, slow, or answers wrongly: no decision is ever a yes. For deciding.
-"""
+"""The gateway before a node that is away, out of touch, slow, or answers wrongly: nothing of it is a yes. For deciding."""
 import json
 import os
 import signal
@@ -29,7 +28,8 @@ UNWELL: List[Any] = [  # what a node says of itself, and whether there are decis
     ({"journal": {**JOURNAL, "sound": False}}, False), ({"peers": None}, False),
     ({"published": 4, "reaches": [5, 0, 0, 0]}, False), ({"published": 5, "reaches": [5, 9, 0, 0]}, True),
     ({"begun_twice": True}, False), ({"begun_twice": False}, True), ({"journal": {**JOURNAL, "sound": 1}}, False),
-    ({"limit": 0}, False), ({"f": 9}, False), ({"f": None}, False), ({"journal": {**JOURNAL, "more": 1}, "more": 1}, True),
+    ({"limit": 0}, False), ({"f": 9}, False), ({"f": None}, False),
+    ({"journal": {**JOURNAL, "more": 1}, "more": 1}, True),
     ({"peers": [None, peer()], "reaches": [5, 2], "f": 0}, True),
     ({"peers": [None], "reaches": [5], "f": 0}, False)]  # the policy speaks of owner 1, who is no node then
 
@@ -58,7 +58,8 @@ def decisions(*made: Dict[str, Any]) -> bytes:
 
 ALLOWED, DENIED = {"allow": True, "reach": 5, "role": 2}, {"allow": False, "reach": 5, "rule": "N4"}
 LIES = [b"", b"\n", b"{}\n", b"nope\n", b'{"error":"J4 UnknownOp"}\n', b'{"error":"F9 Odd"}\n', b'{"error":7}\n',
-        decisions(ALLOWED), decisions(ALLOWED, ALLOWED, ALLOWED), decisions(), decisions({**ALLOWED, "allow": 1}, DENIED),
+        decisions(ALLOWED), decisions(ALLOWED, ALLOWED, ALLOWED), decisions(),
+        decisions({**ALLOWED, "allow": 1}, DENIED),
         decisions({**ALLOWED, "more": 1}, DENIED), decisions({"allow": True, "reach": 5}, DENIED),
         decisions({**DENIED, "role": 2}, DENIED), decisions({**DENIED, "rule": "N2"}, DENIED),
         decisions({**ALLOWED, "reach": -1}, DENIED), decisions({**ALLOWED, "reach": 1 << 40}, DENIED),

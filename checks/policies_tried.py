@@ -1,5 +1,4 @@
-"""Policy files that are refused, each with the place that is named, and what `tundelca-ctl policy` tells. For deciding.
-"""
+"""Policy files that are refused, each with the place that is named. For deciding."""
 import copy
 import json
 import os
@@ -55,10 +54,13 @@ WRONG: List[Tuple[Change, str]] = [  # each change, and the place that is named
     (put("subjects", "user", "bob", 7), "subjects.user.bob"),
     (put("subjects", "user", "bob", 150), "subjects.user.bob"),
     (put("subjects", "staff", [199, 300]), "subjects.staff"),
-    (put("subjects", "user", "bob", 1 << 32), "subjects.user.bob"), (put("subjects", "user", "bob", -1), "subjects.user.bob"),
-    (put("subjects", "user", "bob", True), "subjects.user.bob"), (put("subjects", "user", "bob", 8.0), "subjects.user.bob"),
+    (put("subjects", "user", "bob", 1 << 32), "subjects.user.bob"),
+    (put("subjects", "user", "bob", -1), "subjects.user.bob"),
+    (put("subjects", "user", "bob", True), "subjects.user.bob"),
+    (put("subjects", "user", "bob", 8.0), "subjects.user.bob"),
     (put("subjects", "user", "", 70), "subjects.user"),
-    (put("subjects", "employee", [199, 100]), "subjects.employee"), (put("subjects", "employee", [1]), "subjects.employee"),
+    (put("subjects", "employee", [199, 100]), "subjects.employee"),
+    (put("subjects", "employee", [1]), "subjects.employee"),
     (put("subjects", "employee", [1, 1 << 32]), "subjects.employee[1]"),
     (put(*RECORD, "owner", 128), "types.record.owner"), (put(*RECORD, "owner", "0"), "types.record.owner"),
     (put(*RECORD, "all", 9), "types.record.all"), (put("types", "page", "all", 2), "types.page.all"),
@@ -75,11 +77,13 @@ WRONG: List[Tuple[Change, str]] = [  # each change, and the place that is named
     (put("forward", "subject", "nobody"), "forward.subject"), (put("forward", "header", "Host"), "forward.header"),
     (put("forward", "header", "X User"), "forward.header"), (put("forward", "routes", {}), "forward.routes"),
     *((put("forward", "routes", [route]), f"forward.routes[0]{place}") for route, place in [
-        (["GET"], ""), (["GET", 1, "read", "record"], ""), (["get", *ROUTE[1:]], "[0]"), (["GET", "x", *ROUTE[2:]], "[1]"),
+        (["GET"], ""), (["GET", 1, "read", "record"], ""), (["get", *ROUTE[1:]], "[0]"),
+        (["GET", "x", *ROUTE[2:]], "[1]"),
         (["GET", "/x/../{id}", *ROUTE[2:]], "[1]"), (["GET", "/x//{id}", *ROUTE[2:]], "[1]"),
         (["GET", "/{id}/{id}", *ROUTE[2:]], "[1]"), (["GET", "/x%20/{id}", *ROUTE[2:]], "[1]"),
         (["GET", "/x{id}", *ROUTE[2:]], "[1]"), (["GET", "/x/{id}?a", *ROUTE[2:]], "[1]"),
-        ([*ROUTE[:2], "fly", "record"], "[2]"), ([*ROUTE[:3], "castle"], "[3]"), (["GET", "/x", "read", "page"], "[1]")]),
+        ([*ROUTE[:2], "fly", "record"], "[2]"), ([*ROUTE[:3], "castle"], "[3]"),
+        (["GET", "/x", "read", "page"], "[1]")]),
     (put("forward", "routes", [ROUTE, ROUTE]), "forward.routes[1]"),
 ]
 TWICE = [  # texts in place of texts of the file, and the place

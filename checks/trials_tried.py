@@ -55,7 +55,8 @@ def once(given: Any) -> str:
     lines = ran.stdout.splitlines()
     answers = [json.loads(line) for line in lines if line.startswith("    {")]
     judge([one["decision"] for one in answers] == [True, False] and len(lines) <= LINES, ran.stdout)
-    judge(answers[0]["context"]["role"] == "editor" and answers[1]["context"]["reason"] == "N4 NoneAssigned", ran.stdout)
+    judge(answers[0]["context"]["role"] == "editor" and answers[1]["context"]["reason"] == "N4 NoneAssigned",
+          ran.stdout)
     took = [float(found) for found in re.findall(r"after ([\d.]+) s$", ran.stdout, re.MULTILINE)]
     revoked = re.search(r"after (\d+) ms, and a yes (\d+) ms", ran.stdout)
     judge(len(took) == 1 and took[0] <= FIRST and revoked is not None, ran.stdout)
@@ -88,7 +89,7 @@ class Standing:
 
 
 def ended(given: Any) -> str:
-    """An interrupt ends all and leaves nothing; a trial that is killed takes its children along. Its lines can be run."""
+    """An interrupt ends all and leaves nothing; one that is killed takes its children along. Its lines can be run."""
     expect_tornado()
     before, program = left(), given.program("tundelca")
     for number, due in [(signal.SIGINT, 0), (signal.SIGTERM, 1), (signal.SIGKILL, -9)]:
@@ -136,7 +137,8 @@ def without_tornado(_: Any) -> str:
 
 def ctl(*words: Any, due: int = 0) -> str:
     """What `tundelca-ctl policy` prints."""
-    ran = subprocess.run([sys.executable, CTL, "policy", *map(str, words)], capture_output=True, text=True, timeout=PATIENCE)
+    ran = subprocess.run([sys.executable, CTL, "policy", *map(str, words)], capture_output=True, text=True,
+                         timeout=PATIENCE)
     judge(ran.returncode == due, f"policy {words}: status {ran.returncode}, {ran.stdout} {ran.stderr}")
     return ran.stdout + ran.stderr
 
@@ -149,7 +151,8 @@ def tables(_: Any) -> str:
             json.dump(POLICY, file)
         os.chmod(path, 0o644)
         told = ctl(path)
-        for due in ("next free number 10", "next free action at owner 0: 7", "next free action at owner 1: 8", "7  is alice",
+        for due in ("next free number 10", "next free action at owner 0: 7", "next free action at owner 1: 8",
+                    "7  is alice",
                     "from 100 to 199 is itself", "caller shop: 2 tokens", "GET /records/{id} is to read record"):
             judge(due in told, f"{due} is missing: {told}")
         found = re.search(r"^fingerprint ([0-9a-f]{16}),", told)
@@ -186,7 +189,8 @@ def why(given: Any) -> str:
         judge("yes, in role 2 (editor)" in ctl(path, *asked), "alice")
         for who, action, kind, thing in [("bob", "read", "record", "9"), ("alice", "print", "page", "news"),
                                          ("bob", "print", "page", "news"), ("120", "write", "record", "3")]:
-            words = ["why", "employee" if who == "120" else "user", who, action, kind, thing, "--node", cluster.paths[2]]
+            words = ["why", "employee" if who == "120" else "user", who, action, kind, thing, "--node",
+                     cluster.paths[2]]
             told = ctl(path, *words, due=1)
             for line in re.findall(r"tundelca-ctl ask NODE (.*)", told):
                 owner = int(re.findall(r"said at node (\d)", told)[0])
@@ -201,7 +205,8 @@ def why(given: Any) -> str:
         for me in (0, 1):
             cluster.kill(me)
         wait_until(lambda: subprocess.run([sys.executable, CTL, "policy", path, *map(str, asked)],
-                                          capture_output=True, timeout=PATIENCE).returncode == 2, "a deaf node: no decision")
+                                          capture_output=True, timeout=PATIENCE).returncode == 2,
+                                          "a deaf node: no decision")
     return "a yes, and four noes that become one"
 
 

@@ -4,9 +4,9 @@
     tundelca-gateway NODE POLICY [--listen ADDRESS:PORT | --socket PATH]
 
 NODE is the node's client port on this machine, the path of its socket, or @NAME for that of the package's node NAME;
-POLICY the policy file, which says whose word counts for each type of thing and which number each name is. It is at 127.0.0.1:7500 if nothing else is said, and never
-anywhere but at a loopback address or a socket: TLS and other machines are a proxy's. `man tundelca-gateway` has the
-calls and the policy file, `tundelca-ctl policy` looks at one.
+POLICY the policy file, which says whose word counts for each type of thing and which number each name is. It listens at
+127.0.0.1:7500 if nothing else is said, and never anywhere but at a loopback address or a socket: TLS and other machines
+are a proxy's. `man tundelca-gateway` has the calls and the policy file, `tundelca-ctl policy` looks at one.
 
 It wants Debian's python3-tornado. SIGTERM has it answer what is under way, and end with 0.
 """

@@ -12,7 +12,8 @@ USAGE = "why SUBJECT_TYPE SUBJECT ACTION TYPE ID, or token"
 
 def add(steps):
     """The words of this command."""
-    one = steps.add_parser("policy", "the gateway's policy file read: its numbers, why and why not, new tokens", example="""
+    one = steps.add_parser("policy", "the gateway's policy file read: its numbers, why and why not, new tokens",
+                           example="""
   tundelca-ctl policy policy.json                              its tables, the next free numbers, its fingerprint
   tundelca-ctl policy policy.json why user alice read record 9 --node 7402
                                                                the numbers, the answer, and what would allow it
@@ -167,7 +168,7 @@ def allowing(rows, rule, roles, client):
         role = mine[0] if roles is not None and mine else "ROLE"
         yield f"  tundelca-ctl ask NODE grant role={role} operation={operation} object={thing}"
         if role == "ROLE":
-            yield f"  (ROLE is one of owner {owner}'s that user {user} has; it has {', '.join(map(str, has)) or 'none'})"
+            yield f"  (ROLE is one of owner {owner}'s that user {user} has, of {', '.join(map(str, has)) or 'none'})"
         return
     yield f"  tundelca-ctl ask NODE assign user={user} role={able[0] if able else 'ROLE'}"
     if not able:

@@ -20,7 +20,8 @@ NODES, MAY_LIE, ASKED, OWNER = 4, 1, 2, 0  # the gateway asks node 2, and node 0
 ROLES = [(2, 0), (3, 1)]
 PATIENCE = 30.0  # seconds for all to stand
 POLICY = {"subjects": {"user": {"alice": 7, "bob": 8}},
-          "types": {"record": {"owner": OWNER, "ids": [1, 4_294_967_295], "all": 0, "actions": {"read": 5, "write": 6}}},
+          "types": {"record": {"owner": OWNER, "ids": [1, 4_294_967_295], "all": 0,
+                               "actions": {"read": 5, "write": 6}}},
           "roles": {"editor": 2},
           "forward": {"subject": "user", "header": "X-User", "routes": [["GET", "/records/{id}", "read", "record"]]}}
 COMMANDS = [{"op": "assign", "user": 7, "role": 2}, {"op": "grant", "role": 2, "operation": 5, "object": 0}]
@@ -30,7 +31,8 @@ HERE = os.path.dirname(os.path.dirname(os.path.abspath(__file__)))
 
 def add(steps):
     """The words of this command."""
-    one = steps.add_parser("try", "four nodes in memory and a gateway, to be asked with curl; nothing is left", example="""
+    one = steps.add_parser("try", "four nodes in memory and a gateway, to be asked with curl; nothing is left",
+                           example="""
   tundelca-ctl try             stands until Ctrl-C
   tundelca-ctl try --once      shows it, and ends
 
@@ -87,8 +89,8 @@ class Shown:
         self.kept.request("GET", path, headers={"Authorization": f"Bearer {self.token}", "X-User": subject})
         answer = self.kept.getresponse()
         answer.read()
-        print(f"curl -so /dev/null -w '%{{http_code}}\\n' -H 'Authorization: Bearer {self.token}' -H 'X-User: {subject}' "
-              f"{tundelca.LOOPBACK}:{self.port}{path}\n    {answer.status}", flush=True)
+        print(f"curl -so /dev/null -w '%{{http_code}}\\n' -H 'Authorization: Bearer {self.token}' "
+              f"-H 'X-User: {subject}' {tundelca.LOOPBACK}:{self.port}{path}\n    {answer.status}", flush=True)
 
     def until(self, decision, begun):
         """Asks until alice's decision is this one. The seconds since the moment."""
@@ -198,8 +200,8 @@ def run(given):
         shown = Shown(trial.port, trial.token)
         shown.ask("alice")
         first = time.monotonic() - begun
-        print(f"four nodes in memory, at the client ports {', '.join(map(str, trial.clients))}: any one of them may lie")
-        print(f"node {OWNER} owns role 2, the editors, and has published that user 7 is one and that they may read records")
+        print(f"four nodes in memory, at the client ports {', '.join(map(str, trial.clients))}; any one may lie")
+        print(f"node {OWNER} owns role 2, the editors, and has published that user 7 is one and that they may read")
         print(f"a gateway asks node {ASKED}; by its policy alice is user 7, bob is user 8; its first answer came after "
               f"{first:.1f} s")
         for subject in ("alice", "bob"):

@@ -41,6 +41,11 @@ def trouble_of(status: Dict[str, Any]) -> Optional[str]:
     return None
 
 
+def words_of(fault: Exception) -> str:
+    """Why there is no connection."""
+    return str(fault) if isinstance(fault, tundelca.Stranger) else SILENT
+
+
 async def connected(door: tundelca.Door, protocol: "Lines") -> None:
     """Connects to a node. An OSError where it isn't there, and a `Stranger` where another account listens at a socket.
     """
@@ -185,9 +190,9 @@ class Node:
             await asyncio.wait_for(connected(self.door, link), PATIENCE)
             self.link = link
             self.begin()
-        except (OSError, tundelca.Unreachable, asyncio.TimeoutError):
+        except (OSError, tundelca.Unreachable, asyncio.TimeoutError) as fault:
             link.leave()
-            self.end(SILENT)
+            self.end(words_of(fault))
 
     def came(self, text: str) -> None:
         """A line has come: the decisions that are due next, or the connection ends."""
@@ -247,11 +252,15 @@ class Node:
         standing = Standing(self.door)
         while True:
             self.wake.clear()
-            status = await standing.ask()
-            if status is not None:
-                self.status = status
+            why: Optional[str] = SILENT
+            try:
+                status = await standing.ask()
+                if status is not None:
+                    self.status, why = status, trouble_of(status)
+            except tundelca.Stranger as stranger:
+                why = str(stranger)
             if not self.wake.is_set():
-                self.stand(SILENT if status is None else trouble_of(status))
+                self.stand(why)
             await asyncio.sleep(SOON)
             if self.trouble is None:
                 with contextlib.suppress(asyncio.TimeoutError):
@@ -267,11 +276,12 @@ class Standing:
         self.answer: "Optional[asyncio.Future[Optional[Dict[str, Any]]]]" = None
 
     async def ask(self) -> Optional[Dict[str, Any]]:
-        """What the node says of itself; None where it doesn't, or not in time, or what no node says."""
+        """What the node says of itself; None where it doesn't, or not in time, or what no node says. A `Stranger` may
+        be there in its place."""
         self.answer = asyncio.get_running_loop().create_future()
         try:
             return await asyncio.wait_for(self.asked(self.answer), PATIENCE)
-        except (OSError, tundelca.Unreachable, asyncio.TimeoutError):
+        except (OSError, asyncio.TimeoutError):
             self.said(None)
             return None
 
