@@ -30,10 +30,10 @@ HARDENED = {
 GATEWAY = {
     "User": "tundelca-gateway", "Group": "tundelca-gateway", "UMask": "0077", "NoNewPrivileges": "yes",
     "ProtectSystem": "strict", "Restart": "on-failure", "RestartPreventExitStatus": "3", "IPAddressDeny": "any",
-    "IPAddressAllow": "localhost", "LimitCORE": "0", "SystemCallFilter": "@system-service",
-    "EnvironmentFile": "-/etc/tundelca-gateway/environment", "InaccessiblePaths": "-/etc/tundelca -/var/lib/tundelca",
+    "IPAddressAllow": "localhost", "LimitCORE": "0", "SystemCallFilter": "@system-service", "SupplementaryGroups": "tundelca-clients",
+    "EnvironmentFile": "-/etc/tundelca-gateway/%i.environment", "InaccessiblePaths": "-/etc/tundelca -/var/lib/tundelca",
 }
-DECIDE = ["${NODE}", "${POLICY}", "--listen", "${LISTEN}"]
+DECIDE = ["${NODE}", "/etc/tundelca-gateway/%i.json", "--listen", "${LISTEN}"]
 SERVE = ["serve", "--cluster", "/etc/tundelca/%i.json", "--journal", "/var/lib/tundelca/%i/node.journal"]
 MODULES = "usr/lib/python3/dist-packages"  # where Debian's Python looks by itself
 LIBC = {"libc.so.6", "libm.so.6", "libpthread.so.0", "ld-linux-x86-64.so.2", "linux-vdso.so.1"}
@@ -121,7 +121,7 @@ def unit(one):
     """The units, by reading: their users, what they may not, when they are started again, and that what they start is
     there. The gateway's account is in no group that reads keys."""
     counts = [read_unit(one, "tundelca@.service", HARDENED, SERVE),
-              read_unit(one, "tundelca-gateway.service", GATEWAY, DECIDE)]
+              read_unit(one, "tundelca-gateway@.service", GATEWAY, DECIDE)]
     with open(os.path.join(one.control, "postinst"), encoding="utf-8") as file:
         script = file.read()
     for due in ("useradd --system --user-group --home-dir /nonexistent",

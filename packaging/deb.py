@@ -30,7 +30,7 @@ TOP = os.path.dirname(HERE)
 NAME, PROGRAMS = "tundelca", ("tundelca", "role_lab")
 STARTED = {"tundelca_ctl.py": "tundelca-ctl", "tundelca_gateway.py": "tundelca-gateway"}  # tools by their commands
 ETC = (NAME, "tundelca-gateway")  # folders of what nodes and the gateway are told
-UNITS = ("tundelca@.service", "tundelca-gateway.service")
+UNITS = ("tundelca@.service", "tundelca-gateway@.service")
 PAGES = {  # of docs/: the man page and its section, and what it is about
     "OPERATIONS.md": ("tundelca", 8, "run nodes of a role registry that tolerates lying nodes"),
     "DECIDING.md": ("tundelca-gateway", 8, "a decision point before a node, asked over HTTP"),

@@ -66,6 +66,9 @@ class Site(Protocol):
     def trouble(self) -> Optional[str]:
         """Why there are no decisions; None where there are."""
 
+    def soon(self) -> List[str]:
+        """What of the node is nearly used up."""
+
     def metrics(self) -> str:
         """All counts, as text."""
 
@@ -92,7 +95,7 @@ def opened(request: Request, path: str, site: Site) -> Reply:
     trouble = site.trouble()
     if trouble is not None:
         return told(503, {"ready": False, "reason": trouble})
-    return told(200, {"policy": site.policy.fingerprint, "ready": True})
+    return told(200, {"policy": site.policy.fingerprint, "ready": True, "soon": site.soon()})
 
 
 def caller(request: Request, policy: Policy) -> Optional[str]:

@@ -52,6 +52,7 @@ class Counts:
 STATE = [
     ("ready", "gauge", "1 where there are decisions."),
     ("policy_wrong", "gauge", "1 where the policy file was changed and is refused: the one before counts."),
+    ("warnings", "gauge", "How many shares of the node are nearly used up."),
     ("connections", "gauge", "Connections that stand."),
     ("node_rounds_total", "counter", "How often questions that waited went to the node together."),
     ("node_rows_total", "counter", "Rows that the node was asked."),

@@ -129,6 +129,7 @@ class Node:
         self.door, self.looked = door, looked
         self.trouble: Optional[str] = "the node wasn't asked yet"
         self.status: Dict[str, Any] = {}
+        self.warnings: List[str] = []  # of what is nine tenths used
         self.waiting: Deque[Asked] = collections.deque()
         self.under_way: Deque[Line] = collections.deque()
         self.link: Optional[Lines] = None
@@ -257,6 +258,7 @@ class Node:
                 status = await standing.ask()
                 if status is not None:
                     self.status, why = status, trouble_of(status)
+                    self.warnings = tundelca.shares_told(status)
             except tundelca.Stranger as stranger:
                 why = str(stranger)
             if not self.wake.is_set():

@@ -130,8 +130,14 @@ class Exchange(HTTPMessageDelegate):
         line = ResponseStartLine("HTTP/1.1", answer.status, REASONS[answer.status])
         written = self.connection.write_headers(line, fields, None if self.request.method == "HEAD" else answer.body)
         if self.server.is_ending:
-            written.add_done_callback(lambda one: one.cancelled() or one.exception() or stream.close())
+            written.add_done_callback(lambda one: self.last(one, stream))
         self.connection.finish()
+
+    @staticmethod
+    def last(written: "asyncio.Future[None]", stream: Stream) -> None:
+        """The last answer on the connection was written, or wasn't."""
+        if not written.cancelled() and written.exception() is None:
+            stream.close()
 
 
 class Server(HTTPServerConnectionDelegate):
@@ -145,12 +151,17 @@ class Server(HTTPServerConnectionDelegate):
         self.seen: Optional[Tuple[int, ...]] = None
         self.date, self.is_ending = formatdate(usegmt=True), False
         self.tasks: Set["asyncio.Future[Any]"] = set()
+        self.warned: Set[str] = set()  # whose share is nearly used up, as was told
         self.said: Optional[str] = ""  # the trouble that was told last
         self.node = Node(door, self.stand)
 
     def trouble(self) -> Optional[str]:
         """Why there are no decisions; None where there are."""
         return self.unfit or self.node.trouble
+
+    def soon(self) -> List[str]:
+        """What of the node is nearly used up, as it tells."""
+        return self.node.warnings
 
     def ask(self, groups: List[List[Row]], told: Told) -> None:
         """Has the node decide, where its word counts and it knows all owners of the policy."""
@@ -228,7 +239,8 @@ class Server(HTTPServerConnectionDelegate):
         """All counts, as text."""
         trouble = self.trouble()
         state = {"ready": float(trouble is None), "policy_wrong": float(self.wrong is not None),
-                 "connections": float(len(self.streams)), "node_rounds_total": float(self.node.rounds),
+                 "warnings": float(len(self.node.warnings)), "connections": float(len(self.streams)),
+                 "node_rounds_total": float(self.node.rounds),
                  "node_rows_total": float(self.node.rows)}
         return self.counts.text(state, {"fingerprint": self.policy.fingerprint}, trouble)
 
@@ -245,6 +257,10 @@ class Server(HTTPServerConnectionDelegate):
         if trouble != self.said:
             self.said = trouble
             say("decides" if trouble is None else f"no decisions: {trouble}")
+        warned = {text.partition(" used ")[0]: text for text in self.node.warnings}
+        for whose in warned.keys() - self.warned:
+            say(f"soon: {warned[whose]}")
+        self.warned = set(warned)
 
     async def reread(self) -> None:
         """Reads the policy file anew where it has changed. Where it is wrong, the policy before goes on."""
