@@ -44,6 +44,10 @@ def standings(_: Any) -> str:
             judge(one.gateway.metric("ready") == is_well, f"{changed}: its metric")
             if not is_well:
                 one.stands({}, True)
+        one.stands({"acts": 1_000_000}, True)  # it goes on, and says so
+        wait_until(lambda: "acts are left" in str(one.gateway.ask("GET", "/health/ready")[1]["soon"]), "it warns", 5)
+        judge(one.gateway.decides() is True and one.gateway.metric("warnings") == 1, "it warns, and decides")
+        judge(one.gateway.log().count("acts are left") == 1, one.gateway.log())
         status, answer = one.gateway.ask("GET", "/health/live", token=None)
         judge(status == 200 and answer["live"] is True, "it lives")
         told = one.gateway.log()
