@@ -187,8 +187,8 @@ def why(given: Any) -> str:
         counts = {0: 5, 1: 2}
         asked = ["why", "user", "alice", "read", "record", 9, "--node", cluster.clients[2]]
         judge("yes, in role 2 (editor)" in ctl(path, *asked), "alice")
-        for who, action, kind, thing in [("bob", "read", "record", "9"), ("alice", "print", "page", "news"),
-                                         ("bob", "print", "page", "news"), ("120", "write", "record", "3")]:
+        for who, action, kind, thing in [("bob", "read", "record", "9"), ("bob", "print", "page", "news"),
+                                         ("alice", "print", "page", "news"), ("120", "write", "record", "3")]:
             words = ["why", "employee" if who == "120" else "user", who, action, kind, thing, "--node",
                      cluster.paths[2]]
             told = ctl(path, *words, due=1)
