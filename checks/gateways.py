@@ -3,6 +3,7 @@ import hashlib
 import http.client
 import json
 import os
+import re
 import signal
 import socket
 import subprocess
@@ -41,6 +42,7 @@ COMMANDS: List[Dict[str, Any]] = [  # of owner 0, and the last two of owner 1
     {"op": "grant", "role": 2, "operation": 6, "object": 9}, {"op": "assign", "user": 120, "role": 4},
     {"op": "grant", "role": 4, "operation": 5, "object": 3}, {"op": "assign", "user": 8, "role": 3},
     {"op": "grant", "role": 3, "operation": 7, "object": 1}]
+FAULTS = re.compile("Traceback|fault|[Ee]xception|never")  # in what it says, where it isn't as it should be
 Answer = Tuple[int, Any]
 
 
@@ -165,8 +167,10 @@ class Gateway:
                  trace: Optional[TracebackType]) -> None:
         self.process.kill()
         self.process.wait()
+        said = self.log()
         self.said.close()
         self.folder.cleanup()
+        judge(kind is not None or not FAULTS.search(said), f"a fault of the gateway: {said}")
 
 
 class Before:

@@ -132,8 +132,7 @@ def main() -> int:
     try:
         listener.listen(BACKLOG)
         listener.setblocking(False)
-        asyncio.run(server.serve(door, given.policy, listener, (given.url or url).rstrip("/")))
-        return 0
+        return asyncio.run(server.serve(door, given.policy, listener, (given.url or url).rstrip("/")))
     except policy.Wrong as wrong:
         return told(f"the policy file {given.policy} is refused: {wrong}", WORDS)
     finally:

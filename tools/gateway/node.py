@@ -9,13 +9,14 @@ import collections
 import contextlib
 import json
 from dataclasses import dataclass, field
-from typing import Any, Callable, Deque, Dict, List, Optional, Tuple
+from typing import Any, Callable, Deque, Dict, List, Optional, Set, Tuple
 
 import tundelca
 from gateway.questions import Row
 
 PATIENCE = 2.0  # seconds for an answer of the node
 FRESH = 1.0  # seconds between two looks at how the node stands
+STALE = 4.0  # seconds after which it isn't known any more how the node stands
 SOON = 0.25  # seconds between two while its word doesn't count
 A_LINE = tundelca.A_LINE  # rows
 MOST_ROWS = 2_000  # that are under way at a time
@@ -127,7 +128,8 @@ class Node:
 
     def __init__(self, door: tundelca.Door, looked: Callable[[], None]) -> None:
         self.door, self.looked = door, looked
-        self.trouble: Optional[str] = "the node wasn't asked yet"
+        self.known: Optional[str] = "the node wasn't asked yet"  # why its word doesn't count, when it was looked at last
+        self.looked_at = 0.0
         self.status: Dict[str, Any] = {}
         self.warnings: List[str] = []  # of what is nine tenths used
         self.waiting: Deque[Asked] = collections.deque()
@@ -137,14 +139,21 @@ class Node:
         self.late: Optional[asyncio.TimerHandle] = None
         self.wake = asyncio.Event()
         self.rounds = self.rows = 0
-        self.tasks = {asyncio.ensure_future(self.watch())}
+        self.watching = asyncio.ensure_future(self.watch())
+        self.tasks: Set["asyncio.Future[None]"] = set()
+
+    def trouble(self) -> Optional[str]:
+        """Why the node's word doesn't count; None where it does."""
+        if self.known is None and asyncio.get_running_loop().time() - self.looked_at > STALE:
+            return "how the node stands isn't known"
+        return self.known
 
     def ask(self, groups: List[List[Row]], told: Told) -> None:
         """Has the groups decided, each by one history. Where the node's word doesn't count there are no decisions."""
-        if self.trouble is not None:
-            told(None, self.trouble)
+        trouble, loop = self.trouble(), asyncio.get_running_loop()
+        if trouble is not None:
+            told(None, trouble)
             return
-        loop = asyncio.get_running_loop()
         self.waiting.append(Asked(groups, told, loop.time()))
         if not self.is_busy:
             self.is_busy = True
@@ -152,8 +161,9 @@ class Node:
 
     def begin(self) -> None:
         """Sends what waits."""
-        if self.trouble is not None:
-            self.fail(self.waiting, self.trouble)
+        trouble = self.trouble()
+        if trouble is not None:
+            self.fail(self.waiting, trouble)
         if not self.waiting:
             self.is_busy = False
         elif self.link is None:
@@ -245,7 +255,7 @@ class Node:
 
     def stand(self, trouble: Optional[str]) -> None:
         """Notes why the node's word doesn't count, or that it does."""
-        self.trouble = trouble
+        self.known = trouble
         self.looked()
 
     async def watch(self) -> None:
@@ -254,6 +264,7 @@ class Node:
         while True:
             self.wake.clear()
             why: Optional[str] = SILENT
+            begun = asyncio.get_running_loop().time()
             try:
                 status = await standing.ask()
                 if status is not None:
@@ -262,9 +273,10 @@ class Node:
             except tundelca.Stranger as stranger:
                 why = str(stranger)
             if not self.wake.is_set():
+                self.looked_at = begun
                 self.stand(why)
             await asyncio.sleep(SOON)
-            if self.trouble is None:
+            if self.known is None:
                 with contextlib.suppress(asyncio.TimeoutError):
                     await asyncio.wait_for(self.wake.wait(), FRESH - SOON)
 

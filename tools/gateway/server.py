@@ -7,6 +7,7 @@ import signal
 import socket
 import sys
 import time
+import traceback
 from email.utils import formatdate
 from typing import Any, Dict, List, Optional, Set, Tuple
 
@@ -37,7 +38,8 @@ NAME = "tundelca-gateway"
 
 def say(text: str) -> None:
     """A line of log."""
-    print(f"{NAME}: {text}", file=sys.stderr, flush=True)
+    shown = "".join(letter if letter.isprintable() else "?" for letter in text)
+    print(f"{NAME}: {shown}", file=sys.stderr, flush=True)
 
 
 class Exchange(HTTPMessageDelegate):
@@ -92,6 +94,14 @@ class Exchange(HTTPMessageDelegate):
             self.server.ask(groups, lambda decided, why: self.decide(question, decided, why))
 
     def decide(self, question: Question, decided: Optional[List[Decided]], why: str) -> None:
+        """Answers by the node's decisions. A fault of this program is this connection's end, and no other's."""
+        try:
+            self.answer(question, decided, why)
+        except Exception:
+            say(f"a fault of the gateway: {traceback.format_exc()}")
+            self.server.close(self.stream)
+
+    def answer(self, question: Question, decided: Optional[List[Decided]], why: str) -> None:
         """Answers by the node's decisions; where there are none, with 503."""
         counts = self.server.counts
         try:
@@ -100,7 +110,8 @@ class Exchange(HTTPMessageDelegate):
             answer = question.answer(decided)
         except NoDecision as none:
             counts.decisions["none"] += len(question.items)
-            return self.reply(calls.fault(503, str(none)))
+            self.reply(calls.fault(503, str(none)))
+            return
         if decided:
             counts.took(time.monotonic() - self.since)
         answers = answer["evaluations"] if question.is_many else [answer]
@@ -157,7 +168,7 @@ class Server(HTTPServerConnectionDelegate):
 
     def trouble(self) -> Optional[str]:
         """Why there are no decisions; None where there are."""
-        return self.unfit or self.node.trouble
+        return self.unfit or self.node.trouble()
 
     def soon(self) -> List[str]:
         """What of the node is nearly used up, as it tells."""
@@ -284,14 +295,15 @@ class Server(HTTPServerConnectionDelegate):
 
     # Its end.
 
-    async def run(self) -> None:
-        """Serves until a signal comes, and answers then what is under way."""
+    async def run(self) -> int:
+        """Serves until a signal comes, and answers then what is under way. The exit status: 1 where it can't go on."""
         over, loop = asyncio.Event(), asyncio.get_running_loop()
         for number in (signal.SIGTERM, signal.SIGINT):
             loop.add_signal_handler(number, over.set)
         refuse = add_accept_handler(self.listener, self.accept)
-        self.keep(asyncio.ensure_future(self.sweep()))
-        self.keep(asyncio.ensure_future(self.reread()))
+        loops = {asyncio.ensure_future(self.sweep()), asyncio.ensure_future(self.reread()), self.node.watching}
+        for one in loops:  # which never end, but by a fault
+            one.add_done_callback(lambda _: over.set())
         say(f"listens at {self.url}, asks the node at {self.door}, policy {self.policy.fingerprint} of {self.path}")
         await over.wait()
         self.is_ending = True
@@ -302,7 +314,9 @@ class Server(HTTPServerConnectionDelegate):
             for stream in [stream for stream in self.streams if stream.is_idle() and not stream.writing()]:
                 self.close(stream)
             await asyncio.sleep(0.02)
-        say("ended")
+        faults = [one.exception() for one in loops if one.done()]
+        say(f"ended by a fault of the gateway: {faults}" if faults else "ended")
+        return 1 if faults else 0
 
 
 def mark_of(path: str) -> Tuple[int, ...]:
@@ -314,9 +328,9 @@ def mark_of(path: str) -> Tuple[int, ...]:
         return (fault.errno or 0,)
 
 
-async def serve(door: Door, path: str, listener: socket.socket, url: str) -> None:
-    """Serves at a listener, by a policy file. Raises `Wrong` where it is."""
+async def serve(door: Door, path: str, listener: socket.socket, url: str) -> int:
+    """Serves at a listener, by a policy file. The exit status. Raises `Wrong` where the file is."""
     mark = mark_of(path)
     server = Server(door, path, read(path), listener, url)
     server.seen = mark
-    await server.run()
+    return await server.run()
