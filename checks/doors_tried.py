@@ -12,7 +12,7 @@ import tempfile
 import threading
 import time
 
-import gateway_cases
+import gateways
 import tool_runs
 from cluster import TOP, Cluster, tundelca
 from played import Played
@@ -158,9 +158,10 @@ def strangers_are_refused():
             with serving("board", "--port", 0, "--every", "0.1", *paths) as address:
                 state = json.loads(fetch(address + "state.json")[2])["now"]
                 judge([node["state"] for node in state["nodes"]] == ["away"] * NODES, str(state)[:300])
-            with contextlib.ExitStack() as stack:
-                gateway = gateway_cases.Gateway(folder, paths[0], stack)
-                judge("doesn't answer" in gateway.refuses_to_start(), "the gateway begins")
+            if gateways.has_tornado():
+                with gateways.Gateway(paths[0]) as gateway:
+                    gateway.wait("/health/live")
+                    judge(gateway.decides() is None, "the gateway asks a stranger")
             judge(os.path.getsize(heard) == 0, "something went out to a stranger")
             for row in words[:-1]:
                 row = [*row, "--account" if row[0] in ("diff", "stream") else "--owner", STRANGER]

@@ -16,6 +16,7 @@ import subprocess
 import sys
 
 import runner
+import gateways
 from cluster import TOP, Cluster, tundelca
 from runner import Skipped, judge
 
@@ -26,6 +27,13 @@ HARDENED = {
     "RestartPreventExitStatus": "2 3 6", "StateDirectory": "tundelca/%i", "StateDirectoryMode": "0700",
     "LimitCORE": "0", "SystemCallFilter": "@system-service", "SystemCallErrorNumber": "EPERM",
 }
+GATEWAY = {
+    "User": "tundelca-gateway", "Group": "tundelca-gateway", "UMask": "0077", "NoNewPrivileges": "yes",
+    "ProtectSystem": "strict", "Restart": "on-failure", "RestartPreventExitStatus": "3", "IPAddressDeny": "any",
+    "IPAddressAllow": "localhost", "LimitCORE": "0", "SystemCallFilter": "@system-service", "SupplementaryGroups": "tundelca-clients",
+    "EnvironmentFile": "-/etc/tundelca-gateway/%i.environment", "InaccessiblePaths": "-/etc/tundelca -/var/lib/tundelca",
+}
+DECIDE = ["${NODE}", "/etc/tundelca-gateway/%i.json", "--listen", "${LISTEN}"]
 SERVE = ["serve", "--cluster", "/etc/tundelca/%i.json", "--journal", "/var/lib/tundelca/%i/node.journal"]
 MODULES = "usr/lib/python3/dist-packages"  # where Debian's Python looks by itself
 LIBC = {"libc.so.6", "libm.so.6", "libpthread.so.0", "ld-linux-x86-64.so.2", "linux-vdso.so.1"}
@@ -110,24 +118,41 @@ def manuals(one):
 
 
 def unit(one):
-    """The unit, by reading: its user, what it may not, when it is started again, and that what it starts is there."""
-    name = "usr/lib/systemd/system/tundelca@.service"
+    """The units, by reading: their users, what they may not, when they are started again, and that what they start is
+    there. The gateway's account is in no group that reads keys."""
+    counts = [read_unit(one, "tundelca@.service", HARDENED, SERVE),
+              read_unit(one, "tundelca-gateway@.service", GATEWAY, DECIDE)]
+    with open(os.path.join(one.control, "postinst"), encoding="utf-8") as file:
+        script = file.read()
+    for due in ("useradd --system --user-group --home-dir /nonexistent",
+                "chown root:tundelca-gateway /etc/tundelca-gateway"):
+        judge(due in script, f"postinst lacks {due}")
+    judge(not re.search(r"usermod|adduser|gpasswd", script), "postinst puts an account into a group")
+    for folder in ("etc/tundelca", "etc/tundelca-gateway"):
+        judge(os.stat(one.path(folder)).st_mode & 0o777 == 0o750, f"the mode of {folder}")
+    with open(os.path.join(one.control, "control"), encoding="utf-8") as file:
+        judge("Recommends: python3-tornado" in file.read(), "python3-tornado isn't recommended")
+    return f"{counts[0]} and {counts[1]} settings"
+
+
+def read_unit(one, unit_name, hardened, due):
+    """Reads one unit. How many settings it has."""
+    name = f"usr/lib/systemd/system/{unit_name}"
     parts = configparser.ConfigParser(interpolation=None, comment_prefixes=("#",), delimiters=("=",))
     parts.optionxform = str
     parts.read_string(one.read(name).decode())
     service = parts["Service"]
-    for key, due in HARDENED.items():
-        judge(service.get(key) == due, f"{key} is {service.get(key)}")
+    for key, value in hardened.items():
+        judge(service.get(key) == value, f"{unit_name}: {key} is {service.get(key)}")
     words = service["ExecStart"].split()
     judge(os.access(one.path(words[0].lstrip("/")), os.X_OK), f"{words[0]} is not in the package")
-    judge(words[1:] == SERVE, f"the words are {words[1:]}")
+    judge(words[1:] == due, f"{unit_name}: the words are {words[1:]}")
     if shutil.which("systemd-analyze"):  # it reads the unit, and starts nothing
         ran = subprocess.run(["systemd-analyze", "verify", "--recursive-errors=no", "--man=no", one.path(name)],
                              capture_output=True, text=True, timeout=PATIENCE)
         told = [line for line in ran.stderr.splitlines() if "tundelca" in line and "not executable" not in line]
         judge(not told, "\n".join(told))
-        return f"{len(parts['Service'])} settings, read by systemd-analyze too"
-    return f"{len(parts['Service'])} settings"
+    return len(service)
 
 
 ASKING = """
@@ -189,6 +214,14 @@ def cluster(one):
     return "four nodes, one killed and started again"
 
 
+def gateway(one):
+    """A trial out of the package: four nodes, and the gateway before one of them."""
+    gateways.expect_tornado()
+    told = one.run("tundelca-ctl", "try", "--once")
+    judge('"decision": true' in told and '"decision": false' in told, told)
+    return re.search(r"its first answer came after [\d.]+ s", told).group(0)
+
+
 def cases(given):
     """What is judged of the package, which is made once."""
 
@@ -199,7 +232,7 @@ def cases(given):
         return Unpacked(given.new_folder(), given.program("tundelca"), given.program("role_lab"))
 
     return [runner.Case(part.__name__, lambda part=part: part(unpacked()))
-            for part in (checksums, programs, manuals, unit, cluster)]
+            for part in (checksums, programs, manuals, unit, cluster, gateway)]
 
 
 if __name__ == "__main__":
