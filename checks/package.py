@@ -30,8 +30,9 @@ HARDENED = {
 GATEWAY = {
     "User": "tundelca-gateway", "Group": "tundelca-gateway", "UMask": "0077", "NoNewPrivileges": "yes",
     "ProtectSystem": "strict", "Restart": "on-failure", "RestartPreventExitStatus": "3", "IPAddressDeny": "any",
-    "IPAddressAllow": "localhost", "LimitCORE": "0", "SystemCallFilter": "@system-service", "SupplementaryGroups": "tundelca-clients",
-    "EnvironmentFile": "-/etc/tundelca-gateway/%i.environment", "InaccessiblePaths": "-/etc/tundelca -/var/lib/tundelca",
+    "IPAddressAllow": "localhost", "LimitCORE": "0", "SystemCallFilter": "@system-service",
+    "SupplementaryGroups": "tundelca-clients", "EnvironmentFile": "-/etc/tundelca-gateway/%i.environment",
+    "InaccessiblePaths": "-/etc/tundelca -/var/lib/tundelca",
 }
 DECIDE = ["${NODE}", "/etc/tundelca-gateway/%i.json", "--listen", "${LISTEN}"]
 SERVE = ["serve", "--cluster", "/etc/tundelca/%i.json", "--journal", "/var/lib/tundelca/%i/node.journal"]
