@@ -365,7 +365,7 @@ def stop_waits():
     return "in three ways, and one that stays"
 
 
-def cases(_):
+def trials():
     """Each trial by its name."""
-    return [("nodes are named", nodes_are_named), ("strangers", strangers_are_refused),
-            ("once more", questions_go_again), ("stop", stop_waits)]
+    return [("tools: nodes are named", nodes_are_named), ("tools: strangers", strangers_are_refused),
+            ("tools: once more", questions_go_again), ("tools: stop", stop_waits)]

@@ -4,8 +4,9 @@
     packaging/deb.py [--to FOLDER] [TUNDELCA ROLE_LAB]
 
 The programs are those of crates/tundelca/out and crates/role_lab/out where none are named. Beside them come the tool
-tundelca-ctl, the unit tundelca@.service, man pages made from docs/, the licences of the kit's crates that are in the
-programs, and what was built from what. The same commit, programs and Python make the same package, byte for byte.
+tundelca-ctl, the unit tundelca@.service, man pages made from docs/, what an upgrade changes (NEWS), the licences of the
+kit's crates that are in the programs, and what was built from what. The same commit, programs and Python make the same
+package, byte for byte.
 
 A licence of Tundelca itself is its owner's to choose: a file LICENSE at the top of the repository becomes the package's
 copyright file. Needs Python 3.9 and dpkg-deb.
@@ -93,6 +94,7 @@ def put_tools(root):
             name = os.path.relpath(path, tools)
             put(root, f"usr/lib/tundelca/{name}", read(path), 0o755 if name == "tundelca_ctl.py" else 0o644)
     put(root, f"usr/share/doc/{NAME}/examples/gateway.py", read(os.path.join(TOP, "examples", "gateway.py")))
+    put(root, f"usr/share/doc/{NAME}/NEWS.Debian.gz", gzip.compress(read(os.path.join(HERE, "NEWS")), 9, mtime=0))
     os.symlink("../lib/tundelca/tundelca_ctl.py", os.path.join(root, "usr/bin/tundelca-ctl"))
     modules = os.path.join(root, "usr/lib/python3/dist-packages")  # where Debian's Python finds `import tundelca`
     os.makedirs(modules)
