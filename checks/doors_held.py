@@ -48,6 +48,8 @@ def hold(is_over, door, kind, count):
             if not goes_on(held[number], kind, events):
                 poll.unregister(number)
                 held.pop(number).close()
+            elif kind == "half lines":  # which was said
+                poll.modify(number, select.POLLIN)
         time.sleep(0.002)
     return f"{made} connections of {kind}"
 
@@ -56,7 +58,7 @@ def goes_on(one, kind, events):
     """Does what is done on a connection that may be read or written. Whether it stands."""
     try:
         if kind == "half lines" and events & select.POLLOUT:
-            one.send(b'{"op":"stop"')  # again and again, which stays half a line
+            one.send(b'{"op":"stop"')
         elif kind == "endless lines" and events & select.POLLOUT:
             one.send(b"{" * 1_000)
         elif kind == "no reader" and events & select.POLLOUT:

@@ -22,11 +22,16 @@ from runner import Skipped, judge
 PATIENCE = 120  # seconds, for a program
 NODES, MAY_LIE = 4, 1
 HARDENED = {
-    "User": "tundelca", "UMask": "0077", "NoNewPrivileges": "yes", "ProtectSystem": "strict", "Restart": "on-failure",
+    "User": "tundelca", "UMask": "0077", "NoNewPrivileges": "yes", "ProtectSystem": "strict", "Restart": "always",
     "RestartPreventExitStatus": "2 3 6", "StateDirectory": "tundelca/%i", "StateDirectoryMode": "0700",
     "LimitCORE": "0", "SystemCallFilter": "@system-service", "SystemCallErrorNumber": "EPERM",
+    "Group": "tundelca-clients", "SupplementaryGroups": "tundelca", "RuntimeDirectory": "tundelca/%i",
+    "RuntimeDirectoryMode": "0750", "RuntimeDirectoryPreserve": "restart",
+    "RestrictAddressFamilies": "AF_INET AF_INET6 AF_UNIX",
 }
-SERVE = ["serve", "--cluster", "/etc/tundelca/%i.json", "--journal", "/var/lib/tundelca/%i/node.journal"]
+SERVE = ["serve", "--cluster", "/etc/tundelca/%i.json", "--journal", "/var/lib/tundelca/%i/node.journal", "--socket",
+         "/run/tundelca/%i/node.socket", "--no-port"]
+STOP = ["-/usr/bin/tundelca-ctl", "stop", "/run/tundelca/%i/node.socket"]
 MODULES = "usr/lib/python3/dist-packages"  # where Debian's Python looks by itself
 LIBC = {"libc.so.6", "libm.so.6", "libpthread.so.0", "ld-linux-x86-64.so.2", "linux-vdso.so.1"}
 
@@ -118,9 +123,11 @@ def unit(one):
     service = parts["Service"]
     for key, due in HARDENED.items():
         judge(service.get(key) == due, f"{key} is {service.get(key)}")
-    words = service["ExecStart"].split()
+    words = service["ExecStart"].replace("\\\n", " ").split()
     judge(os.access(one.path(words[0].lstrip("/")), os.X_OK), f"{words[0]} is not in the package")
     judge(words[1:] == SERVE, f"the words are {words[1:]}")
+    judge(service["ExecStop"].split() == STOP, f"ExecStop is {service['ExecStop']}")
+    judge(os.access(one.path("usr/bin/tundelca-ctl"), os.X_OK), "tundelca-ctl is not in the package")
     if shutil.which("systemd-analyze"):  # it reads the unit, and starts nothing
         ran = subprocess.run(["systemd-analyze", "verify", "--recursive-errors=no", "--man=no", one.path(name)],
                              capture_output=True, text=True, timeout=PATIENCE)
@@ -133,20 +140,21 @@ def unit(one):
 ASKING = """
 import sys
 from tundelca import Client
-with Client(int(sys.argv[1])) as node:
+with Client(sys.argv[1]) as node:
     print(sys.modules["tundelca"].__file__, node.reach(owner=0))
 """
 
 
-def client(one, port, reach):
+def client(one, path, reach):
     """A program elsewhere that looks where Debian's Python does, and nowhere else of the package, finds the client."""
-    words = [sys.executable, "-c", ASKING, str(port)]
+    words = [sys.executable, "-c", ASKING, path]
     told = said(*words, cwd="/", env={**os.environ, "PYTHONPATH": one.path(MODULES), "PYTHONDONTWRITEBYTECODE": "1"})
     judge(told == f"{one.path(MODULES)}/tundelca.py {reach}\n", told)
 
 
 class Packaged(Cluster):
-    """Four nodes with journals whose program, files and journals lie as the package has them, in the scratch root."""
+    """Four nodes with journals whose program, files, journals and sockets lie as the package has them, in the scratch
+    root. Their folders are made as systemd does it, and they have the unit's words."""
 
     def __init__(self, one):
         self.one, etc = one, one.path("etc/tundelca")
@@ -157,7 +165,12 @@ class Packaged(Cluster):
         paths = [os.path.join(etc, f"node{me}.json") for me in range(NODES)]
         for me in range(NODES):
             os.makedirs(os.path.dirname(self.journal(me)), 0o700)
-        super().__init__(one.path("usr/bin/tundelca"), paths=paths, has_journals=True, waits=True)
+            os.makedirs(os.path.dirname(self.socket_path(me)))
+            os.chmod(os.path.dirname(self.socket_path(me)), 0o750)
+        super().__init__(one.path("usr/bin/tundelca"), paths=paths, has_journals=True, waits=True, doors=("socket",))
+
+    def socket_path(self, me):
+        return os.path.join(self.one.path("run/tundelca"), str(me), "node.socket")
 
     def journal(self, me):
         return os.path.join(self.one.path("var/lib/tundelca"), str(me), "node.journal")
@@ -167,7 +180,7 @@ def cluster(one):
     """Four nodes with journals and the tool, all from the scratch root; one is killed and started again."""
     os.umask(0o077)  # as in the unit
     with Packaged(one) as nodes:
-        clients = nodes.clients
+        clients = [nodes.socket_path(me) for me in range(NODES)]
         one.run("tundelca-ctl", "ask", clients[0], "assign", "user=7", "role=2")
         nodes.kill(3)
         one.run("tundelca-ctl", "ask", clients[0], "grant", "role=2", "operation=5", "object=9")
@@ -183,10 +196,15 @@ def cluster(one):
             mode = os.stat(path).st_mode & 0o777
             judge(mode & 0o077 == 0, f"{path} has mode {mode:o}")
         table = one.run("tundelca-ctl", "status", *clients, due=(0, 1))  # 1: something is to be seen to
-        judge(all(str(port) in table for port in clients), table)
-        statuses = [nodes.stop(me) for me in range(NODES)]
+        judge(all(path in table for path in clients), table)
+        for path in clients:
+            judge(os.stat(path).st_mode & 0o777 == 0o660, f"the mode of {path} is {os.stat(path).st_mode:o}")
+            one.run("tundelca-ctl", "stop", path)
+        statuses = [nodes.running[me].poll() for me in range(NODES)]  # `stop` has waited for their ends
         judge(statuses == [0] * NODES, f"statuses {statuses}")
-    return "four nodes, one killed and started again"
+        left = [path for path in clients if os.path.lexists(path)]
+        judge(not left, f"{left} are left")
+    return "four nodes, one killed and started again, stopped as by systemd"
 
 
 def cases(given):
