@@ -44,7 +44,7 @@ def at_port(language, code, nodes):
                "python": [(r'Client\("[^"]*"\)', "Client(7400)")],
                "go": [(r'"unix", "[^"]*"', '"tcp", "127.0.0.1:7400"'), (r" \|\| !isOf\(.*?\) \{", " {")],
                "js": [(r"net.connect\(at\)", 'net.connect(7400, "127.0.0.1")'),
-                      (r"(?s)const at = .*?;\n\n", "const net_ = net;\n")]}
+                      (r"(?s)const at = .*?;\n\n", "")]}
     for old, new in changed[language]:
         judge(re.search(old, code), f"docs/CLIENTS.md, {language}: there is no {old}")
         code = re.sub(old, new, code)

@@ -49,14 +49,15 @@ class Node(Cluster):
 
     def is_refused(self, *about):
         """Starts it, and judges that it ends, since something isn't to be had, and says about what, and why."""
-        self.ends_with(HELD, self.words(0), *about)
+        said = self.ends_with(HELD, self.words(0), *about)
+        judge(len(said.split()) > len(" ".join(about).split()) + 1, f"no reason: {said!r}")
 
     def ends_with(self, status, words, *about):
         ran = subprocess.run(words, capture_output=True, text=True, timeout=PATIENCE, **self.settings_of_run())
         said = ran.stderr
         judge(ran.returncode == status, f"{words[3:]} ended with status {ran.returncode}: {said}")
         judge(said.count("\n") == 1 and all(text in said for text in about), f"about {about}: {said!r}")
-        judge(status == WORDS or len(said.split()) > len(" ".join(about).split()) + 1, f"no reason: {said!r}")
+        return said
 
     def settings_of_run(self):
         return {name: value for name, value in self.settings(0).items() if name != "stderr"}

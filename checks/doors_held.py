@@ -76,11 +76,9 @@ class Held(Cluster):
     def __init__(self, program, **more):
         super().__init__(program, doors=("port", "socket"), waits=True, **more)
         with self.by_socket() as owner:
-            owner.ask("assign", user=7, role=ROLE)
             owner.ask("grant", role=ROLE, operation=5, object=9)
-            for user in range(100, 1_100):  # so that a listing is long
-                owner.ask("assign", user=user, role=ROLE)
-            owner.wait_for_reach(0, 1_002)
+            users = [7, *range(100, 1_100)]  # so that a listing is long
+            owner.publish([{"op": "assign", "user": user, "role": ROLE} for user in users], 0, in_order=False)
             judge(owner.open(7) == CHECK["session"], "another session")
             owner.ask("activate", session=CHECK["session"], user=7, role=ROLE)
 
