@@ -13,7 +13,7 @@ import gateway_cases
 from cluster import PATIENCE, ROLE, Cluster, tundelca
 from lives import compiled
 from loads import Load
-from runner import Failed, judge
+from runner import Failed, judge, wait_until
 
 STRANGER = 61_003  # an account of nobody
 SLOTS = 16  # of a door
@@ -21,7 +21,7 @@ OTHER_DOOR, OWN_DOOR = 0.1, 0.3  # seconds until an answer beside held connectio
 TRIES = 3  # since other work on this machine comes and goes
 ASKED = 40  # checks that are timed
 WAITS = 0.1  # seconds for which a connection waits for the end of a line before it may give way
-SYNC = 1.0  # seconds
+SYNC, SOON = 1.0, 2.0  # seconds of a sync, and until a connection that gave way is seen to end
 KINDS = ("idle", "half lines", "endless lines", "no reader")
 CHECK = {"session": 1, "user": 7, "operation": 5, "object": 9}
 TABLE = {"tokens": {"secret": "alice"}, "users": {"alice": 7}, "roles": {"editor": ROLE}, "owners": {"editor": 0},
@@ -181,11 +181,17 @@ def longest_gives_way(program):
         time.sleep(2 * WAITS)
         for due in (5, 6, 7):
             stack.enter_context(tundelca.Client(door, PATIENCE)).check(**CHECK)
-            gone = [at for at, one in enumerate(held) if select.select([one], [], [], 0)[0]]
-            judge(gone == list(range(5, due + 1)), f"{gone} gave way")
+            wait_until(lambda: due in ended(held), f"number {due} gives way, and not {ended(held)}", SOON)
+            time.sleep(0.05)
+            judge(ended(held) == list(range(5, due + 1)), f"{ended(held)} gave way")
         judge(all(answered(held[at]) for at in (*range(5), *range(8, SLOTS))), "another has gone")
         judge(at_port.check(**CHECK).allow, "the one at the port has gone")
     return "three newcomers, three that gave way, in their order"
+
+
+def ended(links):
+    """Which connections have ended, or have more to say than was asked."""
+    return [at for at, link in enumerate(links) if select.select([link], [], [], 0)[0]]
 
 
 def answered(link, line=b'{"op":"reach","owner":0}\n'):

@@ -2,8 +2,9 @@
 """Makes the package, unpacks it into a scratch root, and runs a cluster from it: checks/package.py [CHECKOUT]
 
 CHECKOUT is where tundelca and role_lab were built, or these programs; this checkout if it is left out. Nothing is
-installed, no service manager is started and nothing runs as another user: the programs are started directly, with the
-words of the unit, which is otherwise judged by reading it.
+installed and no service manager is started: the programs are started directly, with the words of the unit, which is
+otherwise judged by reading it. In the case `accounts`, for root alone, numbers of nobody's accounts are the nodes', the
+gateway's and a third's.
 """
 import configparser
 import functools
@@ -14,6 +15,7 @@ import re
 import shutil
 import subprocess
 import sys
+import tempfile
 
 import runner
 from cluster import TOP, Cluster, tundelca
@@ -137,6 +139,33 @@ def unit(one):
     return f"{len(parts['Service'])} settings"
 
 
+MADE = ["useradd --system --user-group --home-dir /var/lib/tundelca --no-create-home --shell /usr/sbin/nologin tundelca",
+        "groupadd --system tundelca-clients"]
+SET = ["chown root:tundelca /etc/tundelca", "chmod 0750 /etc/tundelca"]
+
+
+def installed(one):
+    """What the package's script makes on a machine: the user and the group that aren't there. Nothing is made here: the
+    programs that it calls are stand-ins, which note their words."""
+    for is_there in (False, True):
+        with tempfile.TemporaryDirectory(prefix="tundelca-") as folder:
+            log = os.path.join(folder, "log")
+            for name in ("getent", "useradd", "groupadd", "chown", "chmod"):
+                path = os.path.join(folder, name)
+                with open(path, "w", encoding="ascii") as file:
+                    does = f"exit {0 if is_there else 2}" if name == "getent" else f'echo {name} "$@" >> {log}'
+                    file.write(f"#!/bin/sh\n{does}\n")
+                os.chmod(path, 0o755)
+            said("/bin/sh", os.path.join(one.control, "postinst"), "configure", env={"PATH": folder})
+            with open(log, encoding="ascii") as file:
+                came = file.read().splitlines()
+            judge(came == ([] if is_there else MADE) + SET, f"made were {came}")
+    with gzip.open(one.path("usr/share/doc/tundelca/NEWS.Debian.gz"), "rt", encoding="ascii") as file:
+        news = file.read()
+    judge(re.match(r"tundelca \([0-9.]+\) unstable; urgency=medium\n", news) and "port.conf" in news, news)
+    return "a user, a group, or neither"
+
+
 ASKING = """
 import sys
 from tundelca import Client
@@ -154,10 +183,10 @@ def client(one, path, reach):
 
 class Packaged(Cluster):
     """Four nodes with journals whose program, files, journals and sockets lie as the package has them, in the scratch
-    root. Their folders are made as systemd does it, and they have the unit's words."""
+    root, or in a folder there. Their folders are made as systemd does it, and they have the unit's words."""
 
-    def __init__(self, one):
-        self.one, etc = one, one.path("etc/tundelca")
+    def __init__(self, one, folder=""):
+        self.one, self.top, etc = one, one.path(folder), os.path.join(one.path(folder), "etc/tundelca")
         ports = tundelca.free_ports(2 * NODES)
         files = one.run("tundelca-ctl", "files", etc, "--nodes", *ports[:NODES], "--clients", *ports[NODES:], "--roles",
                         "2=0", "--may-lie", MAY_LIE)
@@ -170,10 +199,10 @@ class Packaged(Cluster):
         super().__init__(one.path("usr/bin/tundelca"), paths=paths, has_journals=True, waits=True, doors=("socket",))
 
     def socket_path(self, me):
-        return os.path.join(self.one.path("run/tundelca"), str(me), "node.socket")
+        return os.path.join(self.top, "run/tundelca", str(me), "node.socket")
 
     def journal(self, me):
-        return os.path.join(self.one.path("var/lib/tundelca"), str(me), "node.journal")
+        return os.path.join(self.top, "var/lib/tundelca", str(me), "node.journal")
 
 
 def cluster(one):
@@ -207,6 +236,61 @@ def cluster(one):
     return "four nodes, one killed and started again, stopped as by systemd"
 
 
+NODE, CLIENTS, THIRD = 61_001, 61_002, 61_003  # accounts of nobody: the nodes', their clients' group, a third
+
+
+class Accounts(Packaged):
+    """The same nodes under an account of their own, as the unit has it: with the clients' group."""
+
+    def __init__(self, one):
+        super().__init__(one, "accounts")
+
+    def start(self, me):
+        for name in ("", "etc", "etc/tundelca", "run", "run/tundelca", "var", "var/lib", "var/lib/tundelca"):
+            os.chmod(os.path.join(self.top, name), 0o711)
+        for path, group, mode in ((self.paths[me], NODE, 0o600), (os.path.dirname(self.journal(me)), NODE, 0o700),
+                                  (self.journal(me), NODE, 0o600), (self.journal(me) + "-wal", NODE, 0o600),
+                                  (os.path.dirname(self.socket_path(me)), CLIENTS, 0o750)):
+            os.chown(path, NODE, group)
+            os.chmod(path, mode)
+        super().start(me)
+
+    def settings(self, me):
+        return {**super().settings(me), "user": NODE, "group": CLIENTS, "extra_groups": [NODE]}
+
+    def door(self, me):
+        return tundelca.door(self.socket_path(me), NODE)
+
+
+def accounts(one):
+    """What the package's tool says to the nodes' account, to one of their clients' group, and to a third."""
+    if os.geteuid() != 0 or not os.path.exists("/usr/bin/python3"):
+        raise Skipped("only root may act for other accounts, and they need Debian's Python")
+    for folder in (one.root, os.path.dirname(one.root), os.path.dirname(os.path.dirname(one.root))):
+        os.chmod(folder, 0o711)
+    with Accounts(one) as nodes:
+        path, words = nodes.socket_path(0), ["--owner", str(NODE)]
+
+        def ctl(due, account, groups, *said):
+            ran = subprocess.run([one.path("usr/bin/tundelca-ctl"), *said], stdout=subprocess.PIPE,
+                                 stderr=subprocess.STDOUT, text=True, timeout=PATIENCE, user=account, group=account,
+                                 extra_groups=groups, env={"PATH": "/usr/bin:/bin"}, cwd="/")
+            judge(ran.returncode == due, f"{account} {groups} {said}: {ran.returncode} {ran.stdout}")
+            return ran.stdout
+
+        ctl(0, NODE, [], "ask", path, "reach", "owner=0")
+        ctl(0, THIRD, [CLIENTS], "ask", path, "assign", "user=7", "role=2", *words)
+        judge(f"account {NODE}" in ctl(2, THIRD, [CLIENTS], "ask", path, "stop"), "a stranger's node is believed")
+        judge("Permission denied" in ctl(2, THIRD, [], "ask", path, "stop", *words), "a third is let in")
+        judge("Permission denied" in ctl(2, THIRD, [], "stop", path, *words), "a third is let in")
+        ctl(3, THIRD, [CLIENTS], "check", nodes.paths[0])  # who may ask doesn't read the keys
+        for me in range(NODES):
+            ctl(0, THIRD, [CLIENTS], "stop", nodes.socket_path(me), *words)
+        statuses = [nodes.running[me].poll() for me in range(NODES)]
+        judge(statuses == [0] * NODES, f"statuses {statuses}")
+    return "the owner, the gateway's account, a third"
+
+
 def cases(given):
     """What is judged of the package, which is made once."""
 
@@ -217,7 +301,7 @@ def cases(given):
         return Unpacked(given.new_folder(), given.program("tundelca"), given.program("role_lab"))
 
     return [runner.Case(part.__name__, lambda part=part: part(unpacked()))
-            for part in (checksums, programs, manuals, unit, cluster)]
+            for part in (checksums, programs, manuals, installed, unit, cluster, accounts)]
 
 
 if __name__ == "__main__":
