@@ -18,12 +18,13 @@ others, so a check is made in a session in which only roles of accepted owners a
     POST /login   {"roles": ["editor"]}                         opens sessions and activates the roles in them
     POST /check   {"operation": "write", "object": "report"}    {"allow": true} or {"allow": false, "why": ..}
     POST /logout  {}                                            closes the sessions
-    GET  /health                                                {"well": true} or {"well": false, "why": ..}
+    GET  /health                                                {"well": true, "soon": []} or {"well": false, "why": ..}
 
 It denies where the token is unknown (401), where a name is (400), where an owner isn't accepted or the node refuses
 (403), and where the node doesn't answer, is full, hears too few of its peers, has lost its disk or was begun twice, so
 that it counts among the liars (503). A session stands in the file TABLE.sessions before its caller hears of it, and is
-closed when the gateway starts again.
+closed when the gateway starts again. Where nine tenths of a share are used, an owner's or that of the node's clients,
+it goes on, says so in `soon`, and once on standard error.
 """
 import contextlib
 import fcntl
@@ -63,6 +64,7 @@ class Node:
     def __init__(self, door, may_lie):
         self.door, self.may_lie, self.tells = door, may_lie, True
         self.lock, self.trouble, self.next_look = threading.Lock(), None, 0.0
+        self.soon, self.warned = [], set()  # which shares end, in words; those of which it was said
         self.kept = queue.LifoQueue()
         for _ in range(CONNECTIONS):
             self.kept.put(None)
@@ -107,6 +109,7 @@ class Node:
                 self.ask("reach", owner=0)
                 return None
             status = self.ask("status")
+            self.warn(status)
             heard = sum(peer is not None and peer["heard"] and peer["connected"] for peer in status["peers"])
             if tundelca.found_twice(status):
                 return "the node was begun twice"
@@ -119,6 +122,15 @@ class Node:
             return None
         except (Denied, tundelca.NodeFault):
             return SILENT[1]
+
+    def warn(self, status):
+        """Says of which shares nine tenths are used, of each once."""
+        self.soon = tundelca.shares_told(status)
+        for text in self.soon:
+            whose = text.partition(" used ")[0]
+            if whose not in self.warned:
+                self.warned.add(whose)
+                print(f"gateway: {text}", file=sys.stderr, flush=True)
 
 
 def numbers_in(line):
@@ -275,7 +287,7 @@ class Handler(BaseHTTPRequestHandler):
         gateway = self.server.gateway
         if (self.command, self.path) == ("GET", "/health"):
             gateway.node.judge()
-            return {"well": True}
+            return {"well": True, "soon": gateway.node.soon}
         token = self.headers.get("Authorization", "").removeprefix("Bearer ")
         name = gateway.table["tokens"].get(token)
         if name is None:

@@ -102,6 +102,7 @@ where
         limits: Limits::within(setup.config.roles().sizes().n(), MOST_PEERS),
         idle,
         operators: false,
+        shares: None,
     })
 }
 
