@@ -1,8 +1,9 @@
 #!/usr/bin/env python3
 """How far nodes are, by the client library: python3 examples/watch.py [--every SECONDS] NODE..
 
-A row for each node, which is named by its client port, its socket's path or its cluster file: how many commands of each owner the node has delivered, with its distance where another is
-further, and its history's length; dashes where it doesn't answer. `tools/tundelca_ctl.py status` says more.
+A row for each node, which is named by its client port, its socket's path or its cluster file: how many commands of each
+owner the node has delivered, with its distance where another is further, and its history's length; dashes where it
+doesn't answer. `tools/tundelca_ctl.py status` says more.
 """
 import argparse
 import sys
