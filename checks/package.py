@@ -18,6 +18,7 @@ import sys
 import tempfile
 
 import runner
+import gateways
 from cluster import TOP, Cluster, tundelca
 from runner import Skipped, judge
 
@@ -34,6 +35,14 @@ HARDENED = {
 SERVE = ["serve", "--cluster", "/etc/tundelca/%i.json", "--journal", "/var/lib/tundelca/%i/node.journal", "--socket",
          "/run/tundelca/%i/node.socket", "--no-port"]
 STOP = ["-/usr/bin/tundelca-ctl", "stop", "/run/tundelca/%i/node.socket"]
+GATEWAY = {
+    "User": "tundelca-gateway", "Group": "tundelca-gateway", "UMask": "0077", "NoNewPrivileges": "yes",
+    "ProtectSystem": "strict", "Restart": "on-failure", "RestartPreventExitStatus": "3", "IPAddressDeny": "any",
+    "IPAddressAllow": "localhost", "LimitCORE": "0", "SystemCallFilter": "@system-service",
+    "SupplementaryGroups": "tundelca-clients", "EnvironmentFile": "-/etc/tundelca-gateway/%i.environment",
+    "InaccessiblePaths": "-/etc/tundelca -/var/lib/tundelca",
+}
+DECIDE = ["${NODE}", "/etc/tundelca-gateway/%i.json", "--listen", "${LISTEN}"]
 MODULES = "usr/lib/python3/dist-packages"  # where Debian's Python looks by itself
 LIBC = {"libc.so.6", "libm.so.6", "libpthread.so.0", "ld-linux-x86-64.so.2", "linux-vdso.so.1"}
 
@@ -117,36 +126,55 @@ def manuals(one):
 
 
 def unit(one):
-    """The unit, by reading: its user, what it may not, when it is started again, and that what it starts is there."""
-    name = "usr/lib/systemd/system/tundelca@.service"
+    """The units, by reading: their users, what they may not, when they are started again, and that what they start is
+    there. The gateway's account is in no group that reads keys."""
+    counts = [read_unit(one, "tundelca@.service", HARDENED, SERVE, STOP),
+              read_unit(one, "tundelca-gateway@.service", GATEWAY, DECIDE, [])]
+    judge(os.access(one.path("usr/bin/tundelca-ctl"), os.X_OK), "tundelca-ctl is not in the package")
+    with open(os.path.join(one.control, "postinst"), encoding="utf-8") as file:
+        script = file.read()
+    for due in ("useradd --system --user-group --home-dir /nonexistent",
+                "chown root:tundelca-gateway /etc/tundelca-gateway"):
+        judge(due in script, f"postinst lacks {due}")
+    judge(not re.search(r"usermod|adduser|gpasswd", script), "postinst puts an account into a group")
+    for folder in ("etc/tundelca", "etc/tundelca-gateway"):
+        judge(os.stat(one.path(folder)).st_mode & 0o777 == 0o750, f"the mode of {folder}")
+    with open(os.path.join(one.control, "control"), encoding="utf-8") as file:
+        judge("Recommends: python3-tornado" in file.read(), "python3-tornado isn't recommended")
+    return f"{counts[0]} and {counts[1]} settings"
+
+
+def read_unit(one, unit_name, hardened, due, stop):
+    """Reads one unit. How many settings it has."""
+    name = f"usr/lib/systemd/system/{unit_name}"
     parts = configparser.ConfigParser(interpolation=None, comment_prefixes=("#",), delimiters=("=",))
     parts.optionxform = str
     parts.read_string(one.read(name).decode())
     service = parts["Service"]
-    for key, due in HARDENED.items():
-        judge(service.get(key) == due, f"{key} is {service.get(key)}")
+    for key, value in hardened.items():
+        judge(service.get(key) == value, f"{unit_name}: {key} is {service.get(key)}")
     words = service["ExecStart"].replace("\\\n", " ").split()
     judge(os.access(one.path(words[0].lstrip("/")), os.X_OK), f"{words[0]} is not in the package")
-    judge(words[1:] == SERVE, f"the words are {words[1:]}")
-    judge(service["ExecStop"].split() == STOP, f"ExecStop is {service['ExecStop']}")
-    judge(os.access(one.path("usr/bin/tundelca-ctl"), os.X_OK), "tundelca-ctl is not in the package")
+    judge(words[1:] == due, f"{unit_name}: the words are {words[1:]}")
+    judge(service.get("ExecStop", "").split() == stop, f"{unit_name}: ExecStop is {service.get('ExecStop')}")
     if shutil.which("systemd-analyze"):  # it reads the unit, and starts nothing
         ran = subprocess.run(["systemd-analyze", "verify", "--recursive-errors=no", "--man=no", one.path(name)],
                              capture_output=True, text=True, timeout=PATIENCE)
         told = [line for line in ran.stderr.splitlines() if "tundelca" in line and "not executable" not in line]
         judge(not told, "\n".join(told))
-        return f"{len(parts['Service'])} settings, read by systemd-analyze too"
-    return f"{len(parts['Service'])} settings"
+    return len(service)
 
 
 MADE = ["useradd --system --user-group --home-dir /var/lib/tundelca --no-create-home --shell /usr/sbin/nologin tundelca",
-        "groupadd --system tundelca-clients"]
-SET = ["chown root:tundelca /etc/tundelca", "chmod 0750 /etc/tundelca"]
+        "useradd --system --user-group --home-dir /nonexistent --no-create-home --shell /usr/sbin/nologin "
+        "tundelca-gateway", "groupadd --system tundelca-clients"]
+SET = ["chown root:tundelca /etc/tundelca", "chmod 0750 /etc/tundelca",
+       "chown root:tundelca-gateway /etc/tundelca-gateway", "chmod 0750 /etc/tundelca-gateway"]
 
 
 def installed(one):
-    """What the package's script makes on a machine: the user and the group that aren't there. Nothing is made here: the
-    programs that it calls are stand-ins, which note their words."""
+    """What the package's script makes on a machine: the users and the group that aren't there. Nothing is made here:
+    the programs that it calls are stand-ins, which note their words."""
     for is_there in (False, True):
         with tempfile.TemporaryDirectory(prefix="tundelca-") as folder:
             log = os.path.join(folder, "log")
@@ -163,7 +191,7 @@ def installed(one):
     with gzip.open(one.path("usr/share/doc/tundelca/NEWS.Debian.gz"), "rt", encoding="ascii") as file:
         news = file.read()
     judge(re.match(r"tundelca \([0-9.]+\) unstable; urgency=medium\n", news) and "port.conf" in news, news)
-    return "a user, a group, or neither"
+    return "two users and a group, or none"
 
 
 ASKING = """
@@ -291,6 +319,14 @@ def accounts(one):
     return "the owner, the gateway's account, a third"
 
 
+def gateway(one):
+    """A trial out of the package: four nodes, and the gateway before one of them."""
+    gateways.expect_tornado()
+    told = one.run("tundelca-ctl", "try", "--once")
+    judge('"decision": true' in told and '"decision": false' in told, told)
+    return re.search(r"its first answer came after [\d.]+ s", told).group(0)
+
+
 def cases(given):
     """What is judged of the package, which is made once."""
 
@@ -301,7 +337,7 @@ def cases(given):
         return Unpacked(given.new_folder(), given.program("tundelca"), given.program("role_lab"))
 
     return [runner.Case(part.__name__, lambda part=part: part(unpacked()))
-            for part in (checksums, programs, manuals, installed, unit, cluster, accounts)]
+            for part in (checksums, programs, manuals, installed, unit, cluster, accounts, gateway)]
 
 
 if __name__ == "__main__":
