@@ -9,6 +9,7 @@ killed and started, and an owner that comes to its own end hears F2.
 As a program it tries what takes too long for the gate, a million acts of clients with a journal: greedy [CHECKOUT]
 """
 import contextlib
+import operator
 import select
 import time
 
@@ -22,7 +23,8 @@ LIAR, STRANGER = 5, 6  # whom the script plays: a liar that owns a role, and one
 TIMES = 10_000
 AHEAD = 900  # places beyond a node's reach at which a liar publishes there; it keeps 1,024 packets for it
 AGAIN = 1  # seconds after which a liar publishes anew what doesn't count
-STILL, SOON = 2, 10  # seconds: in which nothing counts any more, and in which what an owner published is everywhere
+LOOK, STILL = 0.1, 2  # seconds until it is looked again, and in which nothing counts any more
+SOON = 10  # seconds in which what an owner published is everywhere
 ACTS_SHARE = 1_044_480
 PAIRS = 100  # sessions that a client opens and closes in one write
 USER = 7  # of the sessions
@@ -47,7 +49,8 @@ def publish_on(is_over, cluster, liars):
                     moved[pair] = reach, now
                 if select.select([link], [], [], 0)[0]:
                     return f"it lost the connection of liar {pair[0]} to node {pair[1]}"
-                link.sendall(b"".join(cluster.frame(*pair, SEND, pair[0], place, assign(place)) for place in places))
+                link.sendall(b"".join(cluster.frame(*pair, SEND, pair[0], place, assign(place, ROLE + pair[0]))
+                                      for place in places))
                 sent[pair], count = reach + AHEAD, count + len(places)
             time.sleep(0.002)
     return f"{count:,} frames of liars"
@@ -83,16 +86,18 @@ def standings(cluster):
 
 def expect_end(cluster, share, seconds):
     """The liar's stream comes to the end of its share at all nodes, and then nothing counts any more of either liar."""
-    reaches = lambda: [(one["reaches"][LIAR], one["reaches"][STRANGER]) for one in standings(cluster)]
-    end = time.monotonic() + seconds
-    while (came := set(reaches())) != {(share, 0)}:
+    end, still = time.monotonic() + seconds, None
+    while True:
+        seen = standings(cluster)
+        came = {(one["reaches"][LIAR], one["reaches"][STRANGER]) for one in seen}
         judge(all(own <= share and other == 0 for own, other in came), f"more than their shares count: {came}")
-        judge(time.monotonic() < end, f"in {seconds} s the liars' streams came to {came}, not to {share:,} and 0")
-        time.sleep(0.1)
-    still = [one["at"] - one["acts"] for one in standings(cluster)]
-    time.sleep(STILL)
-    later = [one["at"] - one["acts"] for one in standings(cluster)]
-    judge(still == later, f"histories grow beyond a share: {still}, then {later}")
+        counted = [one["at"] - one["acts"] for one in seen]
+        if came == {(share, 0)} and counted == still:
+            return
+        judge(time.monotonic() < end, f"in {seconds} s the liars' streams came to {came}, not to {share:,} and 0 for "
+                                      f"good; beside clients' acts {still} and then {counted} events")
+        still = counted
+        time.sleep(STILL if came == {(share, 0)} else LOOK)
 
 
 def assign_and_revoke(cluster, owner, first):
@@ -167,7 +172,7 @@ def greedy(program, nodes):
             begun = time.monotonic()
             with Load(publish_on, cluster, (LIAR, STRANGER)) as liars, Load(act_on, cluster, 0) as client:
                 expect_end(cluster, share, MOST)
-                acts = client.awaited(MOST)
+                acts = client.awaited(2 * MOST)
                 judge("F4 Full" in acts, acts)
                 took = time.monotonic() - begun
                 expect_spent(node, some)
@@ -194,7 +199,7 @@ def greedy_kept(program, nodes):
         with Load(publish_on, cluster, (LIAR, STRANGER)) as liars:
             expect_end(cluster, share, PATIENCE)
             after = [one["at"] for one in standings(cluster)]
-            judge(after == before, f"histories of {before} events, after a start of {after}")
+            judge(all(map(operator.ge, after, before)), f"histories of {before} events, after a start of {after}")
             came = assign_and_revoke(cluster, 0, 0)
             came = f"{came}, {expect_own_end(cluster, 0, share)}"
             liars.told()

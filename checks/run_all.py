@@ -23,6 +23,7 @@ import first_bytes
 import gateways
 import loss_cases
 import operator_cases
+import pipe_cases
 import runner
 import tools_tried
 from cluster import ROLE, TOP, Cluster, tundelca
@@ -305,6 +306,7 @@ def cases(given):
         *operator_cases.cases(given),
         *loss_cases.cases(given),
         *first_bytes.cases(given),
+        *pipe_cases.cases(given),
         *tools_tried.cases(given),
     ]
 
