@@ -111,6 +111,7 @@ def played_by(account, paths, heard):
             os.setgid(account)
             os.setuid(account)
             for node in filled(paths).nodes:
+                node.changed = {"f": MAY_LIE}
                 node.answer = lambda line, answer=node.answer: file.write(line) and answer(line)
             os.write(told, b"!")
             time.sleep(10 * PATIENCE)
@@ -161,14 +162,19 @@ def strangers_are_refused():
             if gateways.has_tornado():
                 with gateways.Gateway(paths[0]) as gateway:
                     gateway.wait("/health/live")
-                    judge(gateway.decides() is None, "the gateway asks a stranger")
+                    status, answer = gateway.ask("POST", gateways.EVALUATION, gateways.evaluation())
+                    judge(status == 503 and f"account {STRANGER}" in str(answer), f"the gateway says {status} {answer}")
             judge(os.path.getsize(heard) == 0, "something went out to a stranger")
             for row in words[:-1]:
                 row = [*row, "--account" if row[0] in ("diff", "stream") else "--owner", STRANGER]
                 judge(row[0] == "stop" or tool_runs.ended(*row)[0] == 0, f"{row}: {tool_runs.ended(*row)}")
             tool("status", *paths, "--owner", "no-such-account", status=WRONG)
+            if gateways.has_tornado():
+                with gateways.Gateway(paths[0], None, "--owner", str(STRANGER)) as gateway:
+                    gateway.wait()
         taken_over(paths[0], heard)
-    return f"{len(words)} commands, the board and the gateway"
+    last = "the gateway" if gateways.has_tornado() else "NO GATEWAY WAS TRIED: there is no python3-tornado"
+    return f"{len(words)} commands, the board, {last}"
 
 
 def taken_over(path, heard):
@@ -366,7 +372,7 @@ def stop_waits():
     return "in three ways, and one that stays"
 
 
-def cases(_):
+def trials():
     """Each trial by its name."""
-    return [("nodes are named", nodes_are_named), ("strangers", strangers_are_refused),
-            ("once more", questions_go_again), ("stop", stop_waits)]
+    return [("tools: nodes are named", nodes_are_named), ("tools: strangers", strangers_are_refused),
+            ("tools: once more", questions_go_again), ("tools: stop", stop_waits)]

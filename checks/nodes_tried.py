@@ -1,4 +1,4 @@
-"""The gateway before a node that is away, out of touch, slow, or answers wrongly: nothing of it is a yes. For deciding."""
+"""The gateway before a node that is away, out of touch, slow or wrong: nothing of that is a yes. For deciding."""
 import json
 import os
 import signal
@@ -8,7 +8,7 @@ from typing import Any, Callable, Dict, List
 
 import calls_tried
 import gateways
-from gateways import EVALUATION, EVALUATIONS, Before, Gateway, evaluation
+from gateways import EVALUATION, Before, Gateway, evaluation
 from runner import Case, judge, wait_until
 
 SLOW = 0.5  # seconds in which the node answers, as with a slow sync
@@ -161,6 +161,35 @@ def slow(_: Any) -> str:
     return f"{CALLERS} questions in {len(lines)} lines, {took:.1f} s; a late one ends after {late:.1f} s"
 
 
+def kept(_: Any) -> str:
+    """The node ends the gateway's connections, as one does where too many clients come: no caller has no decision, and
+    what is asked goes out twice at most."""
+    with Before() as one:
+        heard: List[Dict[str, Any]] = []
+        honest = one.node.lies["decide_all"]
+
+        def cutting(asked: Dict[str, Any]) -> bytes:
+            heard.append(asked)
+            if len(heard) % 2:
+                return honest(asked)
+            one.node.hang_up()
+            return b""
+
+        for _ in range(20):
+            judge(one.gateway.decides() is True, "a decision")
+            one.node.hang_up()  # while nothing is asked
+        one.node.lies["decide_all"] = cutting
+        judge([one.gateway.decides() for _ in range(20)] == [True] * 20, f"under way: {one.gateway.log()}")
+        judge(len(heard) == 39, f"20 questions went out as {len(heard)}")
+        judge(one.gateway.log().count("no decisions") <= 1, one.gateway.log())  # before its first look
+        one.node.lies["decide_all"] = lambda asked: heard.append(asked) or one.node.hang_up() or b""
+        judge(one.gateway.decides() is None, "a decision that nobody made")
+        judge(len(heard) <= 41, f"the last question went out as {len(heard) - 39}")
+        one.node.lies["decide_all"] = honest
+        wait_until(lambda: one.gateway.decides() is True, "it decides again", 10)
+    return "40 connections that ended, 40 decisions"
+
+
 def away(_: Any) -> str:
     """A gateway starts before its node, and goes on after it."""
     cluster = Before()
@@ -240,4 +269,4 @@ def ended(_: Any) -> str:
 def cases(given: Any) -> List[Case]:
     return [*(Case(name, lambda part=part: calls_tried.skipping(part, given)) for name, part in [  # type: ignore[misc]
         ("a node unwell", standings), ("a node that answers wrongly", lies), ("each their own", each_their_own),
-        ("a slow node", slow), ("a node away", away), ("a policy that changes", changed), ("SIGTERM", ended)])]
+        ("a slow node", slow), ("a node away", away), ("connections that end", kept), ("a policy that changes", changed), ("SIGTERM", ended)])]

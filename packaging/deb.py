@@ -4,8 +4,9 @@
     packaging/deb.py [--to FOLDER] [TUNDELCA ROLE_LAB]
 
 The programs are those of crates/tundelca/out and crates/role_lab/out where none are named. Beside them come the tool
-tundelca-ctl, the gateway, their units, man pages made from docs/, the licences of the kit's crates that are in the
-programs, and what was built from what. The same commit, programs and Python make the same package, byte for byte.
+tundelca-ctl, the gateway, their units, man pages made from docs/, what an upgrade changes (NEWS), the licences of the
+kit's crates that are in the programs, and what was built from what. The same commit, programs and Python make the same
+package, byte for byte.
 
 A licence of Tundelca itself is its owner's to choose: a file LICENSE at the top of the repository becomes the package's
 copyright file. Needs Python 3.9 and dpkg-deb.
@@ -96,6 +97,7 @@ def put_tools(root):
         if os.path.isfile(path) and "__pycache__" not in path:
             name = os.path.relpath(path, tools)
             put(root, f"usr/lib/tundelca/{name}", read(path), 0o755 if name in STARTED else 0o644)
+    put(root, f"usr/share/doc/{NAME}/NEWS.Debian.gz", gzip.compress(read(os.path.join(HERE, "NEWS")), 9, mtime=0))
     for name, command in STARTED.items():
         os.symlink(f"../lib/tundelca/{name}", os.path.join(root, "usr/bin", command))
     modules = os.path.join(root, "usr/lib/python3/dist-packages")  # where Debian's Python finds `import tundelca`

@@ -1209,7 +1209,7 @@ STATUSES = {
     0: "it was stopped",
     2: "its words",
     3: "its cluster file",
-    4: "a port or a journal that is held, or a failed listener or disk",
+    4: "a port, a socket or a journal that is held, or a failed listener or disk",
     5: "want of memory",
     6: "its journal",
 }

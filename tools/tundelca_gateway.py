@@ -1,7 +1,7 @@
 #!/usr/bin/python3
 """A decision point before a node: whether a user may do something, asked over HTTP by names.
 
-    tundelca-gateway NODE POLICY [--listen ADDRESS:PORT | --socket PATH]
+    tundelca-gateway NODE POLICY [--listen ADDRESS:PORT | --socket PATH] [--owner ACCOUNT]
 
 NODE is the node's client port on this machine, the path of its socket, or @NAME for that of the package's node NAME;
 POLICY the policy file, which says whose word counts for each type of thing and which number each name is. It listens at
@@ -59,7 +59,7 @@ def parsed(words: List[str]) -> argparse.Namespace:
     where = parser.add_mutually_exclusive_group()
     where.add_argument("--listen", type=address, metavar="ADDRESS:PORT", help=f"where it listens ({LISTEN})")
     where.add_argument("--socket", metavar="PATH", help="a socket where it listens, for its account and its group")
-    parser.add_argument("--account", metavar="ACCOUNT",
+    parser.add_argument("--owner", "--account", dest="account", metavar="ACCOUNT",
                         help="whose node it may be, beside root, tundelca and its own, where it listens at a socket")
     parser.add_argument("--url", metavar="URL", help="its address as callers know it, in what it tells of itself")
     return parser.parse_args(words)

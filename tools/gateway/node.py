@@ -2,14 +2,15 @@
 
 Questions that wait go to the node together; while they are under way the next gather. So a slow sync of the node is
 waited for once, and answers come in the order in which was asked: what comes late, odd or unasked ends the connection,
-and nobody gets another's answer.
+and nobody gets another's answer. Where a connection that has brought answers comes to its end, as one does that gives
+way to another client, what is under way goes once more over a new one: questions change nothing.
 """
 import asyncio
 import collections
 import contextlib
 import json
 from dataclasses import dataclass, field
-from typing import Any, Callable, Deque, Dict, List, Optional, Set, Tuple
+from typing import Any, Callable, Coroutine, Deque, Dict, Iterable, List, Optional, Set, Tuple
 
 import tundelca
 from gateway.questions import Row
@@ -123,18 +124,24 @@ def lines_of(some: List[Asked]) -> List[Line]:
     return lines
 
 
+def bytes_of(lines: Iterable[Line]) -> bytes:
+    """What goes out for these lines."""
+    return b"".join(json.dumps(line.request).encode("ascii") + b"\n" for line in lines)
+
+
 class Node:
     """The node, as long as the gateway runs. `looked` is called where it was looked at, or its connection ended."""
 
     def __init__(self, door: tundelca.Door, looked: Callable[[], None]) -> None:
         self.door, self.looked = door, looked
-        self.known: Optional[str] = "the node wasn't asked yet"  # why its word doesn't count, when it was looked at last
+        self.known: Optional[str] = "the node wasn't asked yet"  # why its word didn't count at the last look
         self.looked_at = 0.0
         self.status: Dict[str, Any] = {}
         self.warnings: List[str] = []  # of what is nine tenths used
         self.waiting: Deque[Asked] = collections.deque()
         self.under_way: Deque[Line] = collections.deque()
         self.link: Optional[Lines] = None
+        self.has_answered = self.goes_again = False  # the connection has; what is under way went out once more
         self.is_busy = False
         self.late: Optional[asyncio.TimerHandle] = None
         self.wake = asyncio.Event()
@@ -167,11 +174,15 @@ class Node:
         if not self.waiting:
             self.is_busy = False
         elif self.link is None:
-            task = asyncio.ensure_future(self.connect())
-            self.tasks.add(task)
-            task.add_done_callback(self.tasks.discard)
+            self.start(self.connect())
         else:
             self.send(self.link)
+
+    def start(self, work: Coroutine[Any, Any, None]) -> None:
+        """Has it done beside all else."""
+        task = asyncio.ensure_future(work)
+        self.tasks.add(task)
+        task.add_done_callback(self.tasks.discard)
 
     def send(self, link: Lines) -> None:
         """Sends what has waited longest, in a round."""
@@ -192,15 +203,20 @@ class Node:
         self.rounds, self.rows = self.rounds + 1, self.rows + count
         self.under_way.extend(lines)
         self.late = loop.call_later(PATIENCE, self.end, "the node answers too late")
-        link.send(b"".join(json.dumps(line.request).encode("ascii") + b"\n" for line in lines))
+        link.send(bytes_of(lines))
 
     async def connect(self) -> None:
-        """Makes the connection, and sends what waits then."""
-        link = Lines(LONGEST["decide_all"], self.came, self.end)
+        """Makes the connection, and sends what is under way already, or what waits then."""
+        link = Lines(LONGEST["decide_all"], self.came, self.lost)
         try:
             await asyncio.wait_for(connected(self.door, link), PATIENCE)
+            if link.transport is None:
+                raise ConnectionError
             self.link = link
-            self.begin()
+            if self.under_way:
+                link.send(bytes_of(self.under_way))
+            else:
+                self.begin()
         except (OSError, tundelca.Unreachable, asyncio.TimeoutError) as fault:
             link.leave()
             self.end(words_of(fault))
@@ -216,6 +232,7 @@ class Node:
         if "error" in answer:
             return self.end(f"the node refuses: {answer['error']}")
         self.under_way.popleft()
+        self.has_answered = True
         first = 0
         for asked, size in line.parts:
             asked.decided.append(answer["decisions"][first:first + size])
@@ -228,9 +245,23 @@ class Node:
 
     def over(self) -> None:
         """The round is over."""
+        self.goes_again = False
         if self.late is not None:
             self.late.cancel()
             self.late = None
+
+    def lost(self, why: str) -> None:
+        """The connection has come to its end, and the node is looked at. What is under way goes once more."""
+        link, self.link = self.link, None
+        has_answered, self.has_answered = self.has_answered, False
+        if link is None:
+            return  # it didn't stand yet, and `connect` sees that
+        self.wake.set()
+        if self.under_way and (self.goes_again or not has_answered):
+            self.end(why)
+        elif self.under_way:
+            self.goes_again = True
+            self.start(self.connect())
 
     def end(self, why: str) -> None:
         """Ends the connection. What is under way has no decision, and nothing has until the node was looked at."""
@@ -238,6 +269,7 @@ class Node:
         if self.link is not None:
             self.link.leave()
             self.link = None
+        self.has_answered = False
         lines = list(self.under_way)
         self.under_way.clear()
         self.stand(why)
@@ -287,11 +319,18 @@ class Standing:
     def __init__(self, door: tundelca.Door) -> None:
         self.door = door
         self.link: Optional[Lines] = None
+        self.has_ended = False  # the connection, while an answer was due
         self.answer: "Optional[asyncio.Future[Optional[Dict[str, Any]]]]" = None
 
     async def ask(self) -> Optional[Dict[str, Any]]:
         """What the node says of itself; None where it doesn't, or not in time, or what no node says. A `Stranger` may
-        be there in its place."""
+        be there in its place. Where a kept connection has ended it is asked once more, over a new one."""
+        is_kept, self.has_ended = self.link is not None, False
+        status = await self.asked_once()
+        return await self.asked_once() if status is None and is_kept and self.has_ended else status
+
+    async def asked_once(self) -> Optional[Dict[str, Any]]:
+        """What the node says on the connection that there is, or on a new one."""
         self.answer = asyncio.get_running_loop().create_future()
         try:
             return await asyncio.wait_for(self.asked(self.answer), PATIENCE)
@@ -301,11 +340,16 @@ class Standing:
 
     async def asked(self, answer: "asyncio.Future[Optional[Dict[str, Any]]]") -> Optional[Dict[str, Any]]:
         if self.link is None:
-            link = Lines(LONGEST["status"], self.came, lambda _: self.said(None))
+            link = Lines(LONGEST["status"], self.came, self.ended)
             await connected(self.door, link)
             self.link = link
         self.link.send(b'{"op":"status"}\n')
         return await answer
+
+    def ended(self, _: str) -> None:
+        """The connection has come to its end."""
+        self.has_ended = True
+        self.said(None)
 
     def came(self, text: str) -> None:
         status = tundelca.read_answer({"op": "status"}, text)
