@@ -34,7 +34,7 @@ pub within_after : (shares : Option SharesValue) (h : Held) (s : Sitting) (event
     (IsSome shares → IsLegalNode h.node) → answer_due shares h.node event ≡ None → IsWithin shares h.node →
     IsWithin shares (held_after h s event).node
 within_after shares h s event legal none within =
-    let some : IsSome shares = subst (λ (x : Option SharesValue). IsSome x) (sym within.are_of) tt in
+    let some : IsSome shares = subst (λ (x : Option SharesValue). IsSome x) (sym within.are_of) refl in
     let answer : answer_due (Some (shares_of h.node.config.roles)) h.node event ≡ None =
     subst (λ (x : Option SharesValue). answer_due x h.node event ≡ None) within.are_of none in
     by_event shares h s event (is_recorded (due_at h.node event)) refl (legal some) (no_answer _ answer) within

@@ -82,7 +82,7 @@ fn end_call<N: HeldNode>(
     seat: &mut Seat<N::Ledger>,
     call: Call,
 ) -> Ending<N::Untold>
-    ensures { IsEnded N.said N.speaks_of front.now.hold_rules front.now.ahead front.now.me call
+    ensures ended { IsEnded N.said N.speaks_of front.now.hold_rules front.now.ahead front.now.me call
         (record { behind = node.old; held = N.held node.old; full = N.is_full node.old; seat = seat.old })
         (record { behind = node.new; held = N.held node.new; full = N.is_full node.new; seat = seat.new })
         result }

@@ -54,7 +54,9 @@ impl HoldRules {
         ensures legal { IsSome self.now.shares → IsLegalNode (N.held node.now).node }
     {
         match &self.shares {
-            Some(shares) => node.share_answer(shares, event).map(|answer| no_hold_by(answer)),
+            Some(shares) => node
+                .share_answer(shares, event)
+                .map(|answer| no_hold_by(answer)),
             None => None,
         }
     }
