@@ -1,5 +1,7 @@
 //! A client's stream, through whichever door it came.
 
+ghost use Rattle.std.specs.Io.{ReadsAtMost, WritesAtMost};
+
 use std::io;
 use std::io::{Read, Write};
 use std::net::{Shutdown, TcpStream};
@@ -78,33 +80,63 @@ impl ClientStream {
     }
 }
 
+impl ClientStream {
+    fn read_some(&self, buf: &mut [u8]) -> io::Result<usize>
+        ensures { ReadsAtMost result buf.new }
+    {
+        match self {
+            ClientStream::Tcp(stream) => read_tcp(stream, buf),
+            ClientStream::Unix(stream) => read_unix(stream, buf),
+        }
+    }
+
+    fn write_some(&self, buf: &[u8]) -> io::Result<usize>
+        ensures { WritesAtMost result buf.now }
+    {
+        match self {
+            ClientStream::Tcp(stream) => write_tcp(stream, buf),
+            ClientStream::Unix(stream) => write_unix(stream, buf),
+        }
+    }
+}
+
+fn read_tcp(stream: &TcpStream, buf: &mut [u8]) -> io::Result<usize>
+    ensures { ReadsAtMost result buf.new }
+{
+    let mut reader = stream;
+    reader.read(buf)
+}
+
+fn read_unix(stream: &UnixStream, buf: &mut [u8]) -> io::Result<usize>
+    ensures { ReadsAtMost result buf.new }
+{
+    let mut reader = stream;
+    reader.read(buf)
+}
+
+fn write_tcp(stream: &TcpStream, buf: &[u8]) -> io::Result<usize>
+    ensures { WritesAtMost result buf.now }
+{
+    let mut writer = stream;
+    writer.write(buf)
+}
+
+fn write_unix(stream: &UnixStream, buf: &[u8]) -> io::Result<usize>
+    ensures { WritesAtMost result buf.now }
+{
+    let mut writer = stream;
+    writer.write(buf)
+}
+
 impl Read for &ClientStream {
     fn read(&mut self, buf: &mut [u8]) -> io::Result<usize> {
-        match self {
-            ClientStream::Tcp(stream) => {
-                let mut stream = stream;
-                stream.read(buf)
-            }
-            ClientStream::Unix(stream) => {
-                let mut stream = stream;
-                stream.read(buf)
-            }
-        }
+        self.read_some(buf)
     }
 }
 
 impl Write for &ClientStream {
     fn write(&mut self, buf: &[u8]) -> io::Result<usize> {
-        match self {
-            ClientStream::Tcp(stream) => {
-                let mut stream = stream;
-                stream.write(buf)
-            }
-            ClientStream::Unix(stream) => {
-                let mut stream = stream;
-                stream.write(buf)
-            }
-        }
+        self.write_some(buf)
     }
 
     fn flush(&mut self) -> io::Result<()> {
