@@ -217,9 +217,10 @@ class Cluster:
             node.ask("stop")
         return self.running[me].wait(PATIENCE)
 
-    def play(self) -> Played:
-        """The script answers clients for all nodes (played.py), until the end; none of them may run."""
-        self.played = Played(self.clients, dict(self.roles))
+    def play(self, paths: Optional[Sequence[str]] = None) -> Played:
+        """The script answers clients for all nodes (played.py), until the end; none of them may run. It does so at their
+        ports, or at sockets with these paths."""
+        self.played = Played(self.clients if paths is None else paths, dict(self.roles))
         return self.played
 
     # How it is reached.

@@ -28,6 +28,7 @@ OWNERS = {number: TABLE["owners"][name] for name, number in TABLE["roles"].items
 WRITE, ERASE, MEMO, SECRET = ({"operation": operation, "object": object} for operation, object in [
     ("write", "report"), ("erase", "report"), ("write", "memo"), ("write", "secret")])
 BOTH = {"roles": ["editor", "guest"]}
+WELL = {"well": True, "soon": []}
 DONE, ALLOWED = (200, {"done": True}), (200, {"allow": True})
 NO_NAME = 400, {"allow": False, "why": "no such request or name"}
 CALLERS, EACH = 4, 500  # kept connections, requests on each
@@ -181,7 +182,7 @@ def before_nodes(program):
         port = gateway.port
         judge(ask(port, "/check", WRITE, "guess") == no("unknown token", 401), "a guessed token")
         judge_all(port, [
-            ("/health", None, (200, {"well": True})),
+            ("/health", None, (200, WELL)),
             ("/check", WRITE, no("logged out")),
             ("/login", BOTH, DONE),
             ("/check", WRITE, ALLOWED),
@@ -228,7 +229,7 @@ def before_nodes(program):
             nodes.kill(me)
         allow_all(nodes)
         time.sleep(1.1)
-        judge_all(port, [("/health", None, (200, {"well": True})), ("/login", BOTH, DONE), ("/check", WRITE, ALLOWED)])
+        judge_all(port, [("/health", None, (200, WELL)), ("/login", BOTH, DONE), ("/check", WRITE, ALLOWED)])
     return said
 
 
@@ -279,6 +280,10 @@ def before_a_node_that_fails():
             node.changed = changed
             time.sleep(1.1)
             judge_all(gateway.port, [("/check", WRITE, ALLOWED if why is None else no(why, 503))])
+        node.changed = {"acts": 1_000_000}  # it goes on, and says so
+        time.sleep(1.1)
+        soon = ["clients of node 0 have used 95 % of their share: 44,480 of 1,044,480 acts are left"]
+        judge_all(gateway.port, [("/check", WRITE, ALLOWED), ("/health", None, (200, {"well": True, "soon": soon}))])
         node.mute = True
         begun = time.monotonic()
         judge_all(gateway.port, [("/check", WRITE, no("the node doesn't answer", 503))])

@@ -1,9 +1,11 @@
 #!/usr/bin/env python3
 """A gateway before a node: it knows its users, and a node doesn't. An example to begin from, not a product.
 
-    python3 examples/gateway.py NODE_PORT PORT TABLE
+    python3 examples/gateway.py NODE PORT TABLE [OWNER]
 
-NODE_PORT is the node's client port, PORT the gateway's own, on this machine's own address alone. TABLE is a JSON file:
+NODE is the node's client port, its socket's path, @NAME for the package's node NAME, or its cluster file; PORT the
+gateway's own, on this machine's own address alone. At a socket the node has to be of the gateway's own account, of root
+or `tundelca`, or of the account OWNER, else it isn't asked. TABLE is a JSON file:
 
     {"tokens": {"TOKEN": "alice"}, "users": {"alice": 7},
      "roles": {"editor": 2, "guest": 3}, "owners": {"editor": 0, "guest": 1},
@@ -16,12 +18,13 @@ others, so a check is made in a session in which only roles of accepted owners a
     POST /login   {"roles": ["editor"]}                         opens sessions and activates the roles in them
     POST /check   {"operation": "write", "object": "report"}    {"allow": true} or {"allow": false, "why": ..}
     POST /logout  {}                                            closes the sessions
-    GET  /health                                                {"well": true} or {"well": false, "why": ..}
+    GET  /health                                                {"well": true, "soon": []} or {"well": false, "why": ..}
 
 It denies where the token is unknown (401), where a name is (400), where an owner isn't accepted or the node refuses
 (403), and where the node doesn't answer, is full, hears too few of its peers, has lost its disk or was begun twice, so
 that it counts among the liars (503). A session stands in the file TABLE.sessions before its caller hears of it, and is
-closed when the gateway starts again.
+closed when the gateway starts again. Where nine tenths of a share are used, an owner's or that of the node's clients,
+it goes on, says so in `soon`, and once on standard error.
 """
 import contextlib
 import fcntl
@@ -58,15 +61,16 @@ class Denied(Exception):
 class Node:
     """The node, over connections that are kept: one that broke is made anew. Each answer has its deadline."""
 
-    def __init__(self, port, may_lie):
-        self.port, self.may_lie, self.tells = port, may_lie, True
+    def __init__(self, door, may_lie):
+        self.door, self.may_lie, self.tells = door, may_lie, True
         self.lock, self.trouble, self.next_look = threading.Lock(), None, 0.0
+        self.soon, self.warned = [], set()  # which shares end, in words; those of which it was said
         self.kept = queue.LifoQueue()
         for _ in range(CONNECTIONS):
             self.kept.put(None)
 
     def ask(self, op, **members):
-        """The node's answer. A line goes out once: where no answer comes it may have been obeyed."""
+        """The node's answer. A command goes out once: where no answer comes it may have been obeyed."""
         try:
             client = self.kept.get(timeout=PATIENCE)
         except queue.Empty:
@@ -75,7 +79,7 @@ class Node:
             if client is not None and select.select([client.socket], [], [], 0)[0]:
                 client.close()  # no answer is due, so what came is its end
                 client = None
-            client = client or tundelca.Client(self.port, PATIENCE)
+            client = client or tundelca.Client(self.door, PATIENCE)
             return client.ask(op, **members)
         except (tundelca.Unreachable, ValueError):
             if client is not None:
@@ -105,6 +109,7 @@ class Node:
                 self.ask("reach", owner=0)
                 return None
             status = self.ask("status")
+            self.warn(status)
             heard = sum(peer is not None and peer["heard"] and peer["connected"] for peer in status["peers"])
             if tundelca.found_twice(status):
                 return "the node was begun twice"
@@ -117,6 +122,15 @@ class Node:
             return None
         except (Denied, tundelca.NodeFault):
             return SILENT[1]
+
+    def warn(self, status):
+        """Says of which shares nine tenths are used, of each once."""
+        self.soon = tundelca.shares_told(status)
+        for text in self.soon:
+            whose = text.partition(" used ")[0]
+            if whose not in self.warned:
+                self.warned.add(whose)
+                print(f"gateway: {text}", file=sys.stderr, flush=True)
 
 
 def numbers_in(line):
@@ -160,8 +174,8 @@ class Opened:
 class Gateway:
     """The names, and the sessions of each token: one for each set of owners that an object accepts."""
 
-    def __init__(self, node_port, table, path):
-        self.table, self.node, self.opened = table, Node(node_port, table["may_lie"]), Opened(path)
+    def __init__(self, door, table, path):
+        self.table, self.node, self.opened = table, Node(door, table["may_lie"]), Opened(path)
         self.sets = {frozenset(owners) for owners in table["accepted"].values() if owners}
         self.sessions, self.left, self.lock = {}, queue.SimpleQueue(), threading.Lock()
 
@@ -273,7 +287,7 @@ class Handler(BaseHTTPRequestHandler):
         gateway = self.server.gateway
         if (self.command, self.path) == ("GET", "/health"):
             gateway.node.judge()
-            return {"well": True}
+            return {"well": True, "soon": gateway.node.soon}
         token = self.headers.get("Authorization", "").removeprefix("Bearer ")
         name = gateway.table["tokens"].get(token)
         if name is None:
@@ -318,11 +332,12 @@ class Server(ThreadingHTTPServer):
 
 
 def main():
-    if len(sys.argv) != 4:
+    if len(sys.argv) not in (4, 5):
         sys.exit(__doc__)
     try:
         with open(sys.argv[3], encoding="utf-8") as file:
-            gateway = Gateway(int(sys.argv[1]), json.load(file), sys.argv[3] + ".sessions")
+            door = tundelca.door(sys.argv[1], *sys.argv[4:])
+            gateway = Gateway(door, json.load(file), sys.argv[3] + ".sessions")
         gateway.begin()
         server = Server((tundelca.LOOPBACK, int(sys.argv[2])), Handler)
     except Denied as no:

@@ -96,7 +96,8 @@ where
     let clients = listen(rt, local(setup.client))?;
     Ok(Site {
         peers,
-        clients,
+        port: Some(clients),
+        socket: None,
         addresses: addresses(alloc, ports)?,
         limits: Limits::within(setup.config.roles().sizes().n(), MOST_PEERS),
         idle,
