@@ -1,0 +1,2 @@
+pub mod LongLives
+pub mod Laws
