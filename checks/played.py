@@ -13,6 +13,7 @@ import time
 import tundelca
 
 SIZE = 100  # of a page of sessions
+ACTS_SHARE = 1_044_480  # of the clients of a node
 
 
 class Played:
@@ -21,6 +22,8 @@ class Played:
     def __init__(self, doors, owners):
         self.streams = [[] for _ in doors]
         self.lock, self.owners = threading.Lock(), owners
+        each = tundelca.places_each(list(owners.items()), len(doors))
+        self.shares = [each if me in owners.values() else 0 for me in range(len(doors))]
         self.nodes = [Node(self, me, door) for me, door in enumerate(doors)]
 
     def __enter__(self):
@@ -45,7 +48,7 @@ class Node:
 
     def __init__(self, cluster, me, port):
         self.cluster, self.me, self.port, is_port = cluster, me, port, isinstance(port, int)
-        self.lacks, self.changed, self.sessions, self.newest = {}, {}, {}, 0
+        self.lacks, self.changed, self.sessions, self.newest, self.acts = {}, {}, {}, 0, 0
         self.mute, self.garbage, self.drips, self.connections, self.lies = False, None, None, [], {}
         node = self
 
@@ -117,7 +120,8 @@ class Node:
     def on_status(self, _):
         count = len(self.cluster.nodes)
         peer = {"again": 0, "connected": True, "heard": True, "lost": 0, "unopened": 0, "waiting": 0}
-        said = {"at": sum(map(len, self.cluster.streams)) * (2 * count + 1), "journal": None, "limit": 4_194_304,
+        said = {"acts": self.acts, "acts_share": ACTS_SHARE, "shares": self.cluster.shares,
+                "at": sum(map(len, self.cluster.streams)) * (2 * count + 1), "journal": None, "limit": 4_194_304,
                 "peers": [None if name == self.me else dict(peer) for name in range(count)],
                 "published": len(self.cluster.streams[self.me]), "reaches": [self.reach(o) for o in range(count)],
                 "sessions": len(self.sessions), "unopened": 0}
@@ -149,7 +153,7 @@ class Node:
         return {"at": 1, "sessions": [list(pair) for pair in found[:SIZE]]}
 
     def on_open(self, asked):
-        self.newest += 1
+        self.newest, self.acts = self.newest + 1, self.acts + 1
         self.sessions[self.newest] = asked["user"]
         return {"session": self.newest}
 
@@ -157,6 +161,7 @@ class Node:
         if self.sessions.get(asked["session"]) != asked["user"]:
             return {"error": "N1 NoSession"}
         del self.sessions[asked["session"]]
+        self.acts += 1
         return {"done": True}
 
     def on_assigned_users(self, asked):

@@ -25,7 +25,7 @@ def states_are_told():
             ({}, READY, READY, "4 of 4 nodes answer"),
             ({"lacks": {0: 100}}, BEHIND, BEHIND, "node 3 is 100 commands behind (of owner 0 it has 200 of 300)"),
             ({"changed": {"at": 4_194_304}}, BEHIND, BEHIND, "node 3 has a full history"),
-            ({"changed": {"at": 4_000_000}}, READY, BEHIND, "node 3 has used 95 % of its life span"),
+            ({"changed": {"at": 4_000_000}}, READY, BEHIND, "node 3 has recorded 95 % of what it can"),
             ({"changed": {"journal": journal}}, BEHIND, BEHIND, "node 3 can't write its journal"),
             ({"changed": {"peers": deaf}}, BEHIND, BEHIND, "node 3 hears 0 of its 3 peers, too few"),
             ({"changed": {"peers": alone}}, READY, BEHIND, "node 3 hears and reaches 1 of its 3 peers, too few"),

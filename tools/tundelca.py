@@ -10,7 +10,7 @@
 
 One file, and nothing beside Python 3.9 and its standard library. As a program it is `tundelca_ctl.py` beside it. A node
 hears lines of JSON at its door, a port of this machine or a Unix socket, one answer for each, and whoever reaches that
-door may say anything in any user's name: keep it behind a service of yours that knows its users (examples/gateway.py).
+door may say anything in any user's name: keep it behind what knows your users, as tundelca_gateway.py does.
 Wherever a node is named here, that is by what `door` takes: a port, a socket's path, `@NAME`, a cluster file.
 
 A node may lie. Each answer is read up to a bound (`LONGEST`) and held against a form (`FORMS`), by `read_answer` alone;
@@ -44,6 +44,7 @@ PUBLISHED = ("assign", "deassign", "grant", "revoke", "clear")
 NODES = 128  # at most
 PLACES = 1_048_576  # of a stream
 EVENTS = 4_194_304  # of a node's history, at most
+OF_OWNERS = 3_145_728  # of these, for what owners publish
 SESSIONS, PAGE, ACTIVE = 4_096, 100, 64  # open at a node, told at once, active roles of one: at most
 ASKED, A_LINE = 128, 100  # accesses that a line may ask about, and about which `decide_all` asks in one
 ITEMS = 1_048_576  # of all listings of a node together: it has no room for more commands
@@ -340,6 +341,34 @@ def found_twice(status, elsewhere=0):
     return beyond_published(status["published"], status["reaches"][me], elsewhere)
 
 
+def places_each(roles, nodes):
+    """The share of each owner: how many places its stream has, in a cluster of so many nodes. `roles` are pairs of a
+    role and its owner; a node that owns none has no places."""
+    return OF_OWNERS // (len({owner for _, owner in roles}) * (2 * nodes + 1) + 1)
+
+
+def told_of_share(used, share, whose="its", who="it has", what="places"):
+    """In words that of a share nine tenths are used, or more than there is; None where less is used."""
+    if used * 10 < share * 9 or used == 0:
+        return None
+    if used > share:
+        return f"{who} used {used:,} {what}, {used - share:,} more than {whose} share"
+    return f"{who} used {100 * used // share} % of {whose} share: {share - used:,} of {share:,} {what} are left"
+
+
+def shares_told(status):
+    """In words of which shares nine tenths are used, by a node's answer to `status`: of owners' places, and of what its
+    clients may do. Nothing of a node that doesn't tell its shares."""
+    if status.get("shares") is None:
+        return []
+    used = list(status["reaches"])
+    me = status["peers"].index(None)
+    used[me] = max(used[me], status["published"])
+    rows = [told_of_share(*row, "its", f"node {owner} has") for owner, row in enumerate(zip(used, status["shares"]))]
+    rows.append(told_of_share(status["acts"], status["acts_share"], "their", f"clients of node {me} have", "acts"))
+    return [row for row in rows if row is not None]
+
+
 class BegunTwice(Unfinished):
     """The owner has spoken before and doesn't know it: others have voted at the places that it gives its commands."""
 
@@ -483,15 +512,23 @@ JOURNAL = at_least({"sound": FLAG, **dict.fromkeys(("last", "mean", "syncs", "wo
 STATUS = at_least({"at": EVENTS + 1, "journal": or_none(JOURNAL), "limit": EVENTS + 1,
                    "peers": list_of(or_none(PEER), NODES), "published": PLACES + 1,
                    "reaches": list_of(PLACES + 1, NODES), "sessions": SESSIONS + 1, "unopened": COUNT})
+SHARES = {"acts": EVENTS + 1, "acts_share": or_none(one_of(EVENTS + 1)), "shares": or_none(list_of(PLACES + 1, NODES))}
 
 
 def is_status(value, request):
-    """How a node stands: its parts fit together, and one of its peers is itself. Nodes of before don't say `f`, and not
-    whether they were begun twice."""
+    """How a node stands: its parts fit together, and one of its peers is itself. Nodes of before don't say `f`, nor
+    whether they were begun twice, nor their shares."""
     return STATUS(value, request) and FLAG(value.get("begun_twice", False), request) and \
-        value["peers"].count(None) == 1 and \
+        are_shares(value, request) and value["peers"].count(None) == 1 and \
         len(value["peers"]) == len(value["reaches"]) and value["at"] <= value["limit"] > 0 and \
         fits(value.get("f", 0), (len(value["peers"]) + 2) // 3, request)
+
+
+def are_shares(value, request):
+    """Whether a status tells shares, which fit together; or none, as nodes of before do."""
+    told = {name: value[name] for name in SHARES if name in value}
+    return not told or fits(told, SHARES, request) and (told["acts_share"] is None) == (told["shares"] is None) and (
+        told["shares"] is None or len(told["shares"]) == len(value["peers"]))
 
 
 def verdicts(rule, **members):
@@ -1172,7 +1209,7 @@ STATUSES = {
     0: "it was stopped",
     2: "its words",
     3: "its cluster file",
-    4: "a port or a journal that is held, or a failed listener or disk",
+    4: "a port, a socket or a journal that is held, or a failed listener or disk",
     5: "want of memory",
     6: "its journal",
 }

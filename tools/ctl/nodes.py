@@ -59,8 +59,9 @@ class Standing:
 
     `at` is the length of its history, of at most `limit` events; `reaches` how many commands of each owner it has
     delivered; `me` its name, `published` how many commands it has issued, `sessions` how many are open; `is_twice`
-    whether it says that it was begun twice, `may_lie` how many nodes may lie by its cluster file. Nodes of before say
-    neither.
+    whether it says that it was begun twice, `may_lie` how many nodes may lie by its cluster file; `acts` how many acts
+    of clients it recorded, of `acts_share`, and `shares` how many places each owner has. Nodes of before say none of
+    these.
     """
 
     at: int
@@ -74,6 +75,9 @@ class Standing:
     unopened: int = 0
     is_twice: bool = False
     may_lie: Optional[int] = None
+    acts: Optional[int] = None
+    acts_share: Optional[int] = None
+    shares: Optional[list] = None
 
     def others(self):
         """The peers that it speaks of, without itself."""
@@ -96,9 +100,16 @@ class Standing:
     def all_unopened(self):
         return self.unopened + sum(peer.unopened for peer in self.others())
 
+    def owns(self):
+        """How many places it has published and how many it has; None where it owns no role, or doesn't tell."""
+        share = 0 if self.shares is None else self.shares[self.me]
+        return (max(self.published, self.reaches[self.me]), share) if share else None
+
     def used(self):
-        """How much of its life span is used, 0 to 1."""
-        return min(1.0, self.at / max(1, self.limit))
+        """How much of its life span is used, 0 to 1: of its history, or of its own share or its clients' if that is
+        more."""
+        parts = [(self.at, self.limit), self.owns(), self.shares and (self.acts, self.acts_share)]
+        return min(1.0, max(used / max(1, whole) for used, whole in filter(None, parts)))
 
 
 @dataclass(frozen=True)
@@ -140,7 +151,7 @@ def standing_of(answer):
     journal = answer["journal"] and Journal(*(answer["journal"][field.name] for field in fields(Journal)))
     return Standing(answer["at"], answer["limit"], answer["reaches"], peers.index(None), answer["published"],
                     answer["sessions"], journal, peers, answer["unopened"], answer.get("begun_twice", False),
-                    answer.get("f"))
+                    *map(answer.get, ("f", "acts", "acts_share", "shares")))
 
 
 def standing(client, until=None):

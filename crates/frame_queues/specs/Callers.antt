@@ -3,10 +3,10 @@ use Rattle.std.specs.Prelude.{⊤, ℕ, ◌+◌, ◌-◌, ◌*◌, ◌/◌, ◌%
 use Rattle.frame_queues.specs.declared.caller.Caller.{Caller}
 use Rattle.frame_queues.specs.declared.caller.Caller.TheVariants.{Client, Peer, Nobody}
 
--- how many clients and connections of frames there are, and how many numbers a client's jobs have: those of its lines,
+-- how many clients, sixteen a door, and connections of frames there are, and how many numbers a client's jobs have: those of its lines,
 -- and one more
 abbrev pub most_clients : ℕ
-most_clients = 16
+most_clients = 32
 
 abbrev pub most_peers : ℕ
 most_peers = 382
@@ -19,7 +19,7 @@ client_numbers = 33
 
 -- the numbers below this are clients'
 abbrev pub first_peer : ℕ
-first_peer = 528
+first_peer = 1056
 
 -- how many connections of one place have numbers of their own
 abbrev pub connections : ℕ

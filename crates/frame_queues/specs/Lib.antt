@@ -10,3 +10,4 @@ pub mod Limits
 pub mod Moments
 pub mod Sealed
 pub mod Callers
+pub mod Doors

@@ -9,8 +9,11 @@ pub const MOST_LINES: u32 = 32;
 /// In place of a line's number, where a client waits for a job that answers no line.
 pub const NO_LINE: u32 = MOST_LINES;
 
-/// The most connections of clients at once.
-pub const MOST_CLIENTS: u32 = 16;
+/// The slots of a door, each for a connection of a client.
+pub const DOOR_SLOTS: u32 = 16;
+
+/// The most connections of clients at once: those of two doors.
+pub const MOST_CLIENTS: u32 = 2 * DOOR_SLOTS;
 
 /// The most connections of peers at once: two slots of each of 127, and 128 newcomers.
 pub const MOST_PEERS: u32 = 382;

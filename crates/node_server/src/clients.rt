@@ -11,11 +11,12 @@ use crate::server::Server;
 use client_lines::{ClientAnswer, LineFault, MOST_LINE_BYTES, Request, RequestReader};
 use frame_queues::{FrameKeys, MOST_LINES};
 use link_frames::{Ahead, AheadFault, Held, Next, Watched};
-use served_node::HeldNode;
 use served_node::answers::hold_answer;
-use server_locks::{Farewell, JobQueue, LineReader, Slot, hears_foreign};
+use served_node::{HeldNode, millis};
+use server_locks::{ClientStream, Farewell, JobQueue, LineReader, Slot, hears_foreign, whole_next};
 use std::io::Read;
-use std::net::{Shutdown, TcpStream};
+use std::mem;
+use std::net::Shutdown;
 use std::sync::Wait;
 use std::time::Clock;
 
@@ -24,6 +25,9 @@ const LAST_READS: u64 = 2_000;
 
 /// The milliseconds in which a client has to take its last answers.
 const LAST_WRITES: u64 = 1_000;
+
+/// After so many bytes of a line that is too long it is looked whether its connection has given way.
+const LINE_PART: u64 = 65_536;
 
 /// What is to be done after a client's line.
 #[derive(Clone, Copy, Debug, PartialEq, Eq)]
@@ -40,7 +44,7 @@ pub struct Client<'a, 'b, N: HeldNode, K: FrameKeys, R> {
     slot: &'b Slot<'a>,
     /// The number of the slot.
     number: u32,
-    stream: &'b TcpStream,
+    stream: &'b ClientStream,
     queue: JobQueue<'a>,
     /// Whether the connection is no client's, once its first bytes have told.
     foreign: Option<bool>,
@@ -51,16 +55,18 @@ pub struct Client<'a, 'b, N: HeldNode, K: FrameKeys, R> {
     put: u32,
     /// The last line was a question about an access.
     asked: bool,
+    /// The connection had given way before this thread last waited.
+    left: bool,
     requests: RequestReader,
     held: Held,
-    writer: Watched<&'b TcpStream>,
+    writer: Watched<&'b ClientStream>,
 }
 
 /// Serves the connection of the client in this slot, up to its end.
 pub fn answer_client<N: HeldNode, K: FrameKeys, R: Wait + Clock>(
     server: &Server<'_, N, K, R>,
     number: u32,
-    stream: &TcpStream,
+    stream: &ClientStream,
 ) {
     let Some(slot) = server.slots.get(number as usize) else {
         return;
@@ -79,7 +85,7 @@ impl<'a, 'b, N: HeldNode, K: FrameKeys, R: Wait + Clock> Client<'a, 'b, N, K, R>
         server: &'b Server<'a, N, K, R>,
         slot: &'b Slot<'a>,
         number: u32,
-        stream: &'b TcpStream,
+        stream: &'b ClientStream,
         queue: JobQueue<'a>,
     ) -> Client<'a, 'b, N, K, R> {
         Client {
@@ -93,6 +99,7 @@ impl<'a, 'b, N: HeldNode, K: FrameKeys, R: Wait + Clock> Client<'a, 'b, N, K, R>
             in_flight: 0,
             put: 0,
             asked: false,
+            left: false,
             requests: RequestReader::new(server.alloc),
             held: Held::new(server.alloc),
             writer: Watched::new(stream),
@@ -156,6 +163,10 @@ impl<N: HeldNode, K: FrameKeys, R: Wait + Clock> Client<'_, '_, N, K, R> {
     /// Whether one of the lines that come within two seconds, and are answered no more, stops the node. No line of a
     /// connection that is no client's does.
     fn leaves_a_stop(&mut self, ahead: &mut Ahead) -> bool {
+        if self.slot.has_given_way(self.server.rt) {
+            return false;
+        }
+        self.begin_wait();
         let _ = self.stream.shutdown(Shutdown::Write);
         let mut reader = Watched::new(Farewell::new(self.server.rt, self.stream, LAST_READS));
         if !matches!(self.is_foreign(ahead, &mut reader), Ok(false)) {
@@ -177,13 +188,26 @@ impl<N: HeldNode, K: FrameKeys, R: Wait + Clock> Client<'_, '_, N, K, R> {
                 ahead.take(count + 1);
                 if stops { Some(true) } else { None }
             }
-            Ok(Next::Last(_)) => Some(self.is_stop(ahead.front())),
+            Ok(Next::Last(count)) => {
+                Some(self.is_obeyed(Next::Last(count)) && self.is_stop(ahead.front()))
+            }
             Ok(Next::TooLong) => match ahead.pass_line(reader) {
                 Ok(true) => None,
                 _ => Some(false),
             },
             Ok(Next::End) | Err(_) => Some(false),
         }
+    }
+
+    /// This thread waits for the end of a line from now on, and the connection may give way to another.
+    fn begin_wait(&self) {
+        self.slot.begin_wait(self.server.rt, millis(self.server.rt));
+    }
+
+    /// Whether what comes last, and has no end, is obeyed: half a line of a connection that has given way is not.
+    fn is_obeyed(&self, last: Next) -> bool {
+        let gave_way = self.slot.has_given_way(self.server.rt);
+        whole_next(last, gave_way) != Next::End
     }
 
     fn is_stop(&mut self, line: &[u8]) -> bool {
@@ -195,7 +219,10 @@ impl<N: HeldNode, K: FrameKeys, R: Wait + Clock> Client<'_, '_, N, K, R> {
     /// first bytes is looked at.
     fn answer_lines(&mut self, ahead: &mut Ahead) -> Result<AfterLine, AheadFault> {
         let mut reader = Watched::new(LineReader::new(self.stream, false));
-        if self.is_foreign(ahead, &mut reader)? {
+        self.begin_wait();
+        let foreign = self.is_foreign(ahead, &mut reader)?;
+        self.slot.end_wait(self.server.rt);
+        if foreign {
             self.say(&ClientAnswer::BadLine(LineFault::NotJson))?;
             return Ok(AfterLine::Close);
         }
@@ -217,8 +244,12 @@ impl<N: HeldNode, K: FrameKeys, R: Wait + Clock> Client<'_, '_, N, K, R> {
         self.await_answers()?;
         self.held
             .write_when_due(ahead, MOST_LINE_BYTES, &mut self.writer)?;
+        self.begin_wait();
         let mut reader = Watched::new(LineReader::new(self.stream, self.asked));
         let next = self.held.peek(ahead, MOST_LINE_BYTES, &mut reader)?;
+        if next != Next::TooLong {
+            self.slot.end_wait(self.server.rt);
+        }
         Ok(next)
     }
 
@@ -226,6 +257,7 @@ impl<N: HeldNode, K: FrameKeys, R: Wait + Clock> Client<'_, '_, N, K, R> {
     fn answer_next(&mut self, ahead: &mut Ahead) -> Result<AfterLine, AheadFault> {
         let next = match ahead.begins(MOST_LINE_BYTES) {
             Some(Next::Line(count)) if self.lines < MOST_LINES => Next::Line(count),
+            None if self.has_left() => return Ok(AfterLine::Close),
             _ => self.wait_for_next(ahead)?,
         };
         match next {
@@ -235,17 +267,33 @@ impl<N: HeldNode, K: FrameKeys, R: Wait + Clock> Client<'_, '_, N, K, R> {
                 ahead.take(count + 1);
                 Ok(then)
             }
-            Next::Last(_) => match self.answer_line(ahead.front())? {
-                AfterLine::Continue => Ok(AfterLine::Close),
-                last => Ok(last),
-            },
+            Next::Last(_) => self.answer_last(ahead, next),
             Next::TooLong => self.answer_long(ahead),
         }
     }
 
-    /// Answers a line that is too long, once it is read to its end.
+    /// Whether the connection had given way when this thread last asked. So what it had sent by then is read once more,
+    /// and not what it goes on sending.
+    fn has_left(&mut self) -> bool {
+        let gave_way = self.slot.has_given_way(self.server.rt);
+        mem::replace(&mut self.left, gave_way)
+    }
+
+    /// Answers the last line, which has no end, if it is obeyed.
+    fn answer_last(&mut self, ahead: &mut Ahead, last: Next) -> Result<AfterLine, AheadFault> {
+        if !self.is_obeyed(last) {
+            return Ok(AfterLine::Close);
+        }
+        match self.answer_line(ahead.front())? {
+            AfterLine::Continue => Ok(AfterLine::Close),
+            after => Ok(after),
+        }
+    }
+
+    /// Answers a line that is too long, once it is read to its end, for which this thread has waited.
     fn answer_long(&mut self, ahead: &mut Ahead) -> Result<AfterLine, AheadFault> {
-        let had_end = ahead.pass_line(&mut Watched::new(self.stream))?;
+        let had_end = self.pass_line(ahead)?;
+        self.slot.end_wait(self.server.rt);
         self.say(&ClientAnswer::BadLine(LineFault::NotJson))?;
         if had_end {
             Ok(AfterLine::Continue)
@@ -254,10 +302,27 @@ impl<N: HeldNode, K: FrameKeys, R: Wait + Clock> Client<'_, '_, N, K, R> {
         }
     }
 
+    /// Reads a line to its end, unless the connection gives way before. Whether it had an end.
+    fn pass_line(&self, ahead: &mut Ahead) -> Result<bool, AheadFault> {
+        for _ in self.server.rt.forever() {
+            let mut part = self.stream.take(LINE_PART);
+            if ahead.pass_line(&mut Watched::new(&mut part))? {
+                return Ok(true);
+            }
+            if part.limit() > 0 || self.slot.has_given_way(self.server.rt) {
+                return Ok(false);
+            }
+        }
+        unreachable!()
+    }
+
     /// Answers a line, or puts a job for it.
     fn answer_line(&mut self, line: &[u8]) -> Result<AfterLine, AheadFault> {
         self.lines = self.lines.saturating_add(1);
         self.asked = false;
+        if self.server.operators && asked::may_ask_decisions(line) && self.answer_decisions(line)? {
+            return Ok(AfterLine::Continue);
+        }
         let sizes = self.server.keys.sizes();
         match self.requests.read(&sizes, line) {
             Ok(Request::Stop) => Ok(self.stop()),

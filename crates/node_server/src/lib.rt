@@ -1,7 +1,8 @@
-//! A node over TCP, as a library: frames of its peers, and lines of its clients.
+//! A node as a library: frames of its peers over TCP, and lines of its clients, who come through a port, a socket in a
+//! folder, or both.
 //!
-//! The calling thread is that of the ports: it waits at once for both ports, for the frames of all peers, and for room
-//! on the connections to them. Each client has a thread of its own, from when its connection comes. All put jobs into
+//! The calling thread is that of the ports: it waits at once for the port of peers, for both doors of clients, for the
+//! frames of all peers, and for room on the connections to them. Each client has a thread of its own, from when its connection comes. All put jobs into
 //! one inbox; four workers make their calls under the node's lock, each with a seat of its own, and those who only look
 //! share a fifth. A worker has no thread: whoever put jobs does them with an idle worker, and what is left is done by
 //! threads that wait for it.
@@ -17,6 +18,7 @@ mod clients;
 mod connections;
 mod credits;
 mod crew;
+mod doors;
 mod fault;
 mod operators;
 mod peers;
@@ -30,13 +32,15 @@ pub use fault::ServerFault;
 use frame_queues::MOST_CLIENTS;
 pub use frame_queues::{ClusterKeys, FrameKeys, Limits, PeerName};
 use node_lock::{Inbox, Seat};
+use owner_shares::Shares;
 use peers::Peers;
-use ports::{Ports, poll_of};
+use ports::{Listeners, Ports, poll_of};
 pub use served_node::{HeldNode, NotKept, Said};
 use server_locks::{JobQueue, job_queues};
 use starting::{Served, server_of};
 use std::alloc::{AllocError, Global};
 use std::net::{Net, SocketAddr, TcpListener, TcpStream};
+use std::os::unix::net::UnixListener;
 use std::sync::Wait;
 use std::thread::Threads;
 use std::time::{Clock, Duration};
@@ -56,8 +60,10 @@ const PASSES: u8 = WORKERS + MOST_CLIENTS as u8 + 1;
 pub struct Site {
     /// Takes the frames of peers.
     pub peers: TcpListener,
-    /// Takes the lines of clients.
-    pub clients: TcpListener,
+    /// Takes the lines of clients, where the port is open to them.
+    pub port: Option<TcpListener>,
+    /// Takes the lines of clients, where there is a socket for them.
+    pub socket: Option<UnixListener>,
     /// Where each node takes frames, by its index; the node's own address is not used.
     pub addresses: Vec<SocketAddr>,
     /// How many connections of peers there may be.
@@ -65,9 +71,11 @@ pub struct Site {
     /// After so long a client that sends nothing is closed.
     pub idle: Duration,
     /// Whether the lines of operators are answered, beside those of clients. Then a connection of clients begins with
-    /// `{`; else one that does not begin as an HTTP request is a client's. And then a command at a node that was begun
-    /// twice is refused.
+    /// `{`; else one that does not begin as an HTTP request is a client's. Then a command at a node that was begun twice
+    /// is refused, and a client's connection gives way to another where the door's slots are all taken.
     pub operators: bool,
+    /// The shares that are asked before the node, if any. They are those of its table of roles.
+    pub shares: Option<Shares>,
 }
 
 /// A listener at an address, which never waits.
@@ -136,7 +144,11 @@ where
     let (poll, waker) = poll_of(rt).map_err(fault_of)?;
     let server = server_of(rt, alloc, served, queues, waker, &site)?;
     let peers = Peers::new(&server, queue, site.limits)?;
-    let listeners = (site.peers, site.clients);
+    let listeners = Listeners {
+        peers: site.peers,
+        port: site.port,
+        socket: site.socket,
+    };
     serve_ports(Ports::new(&server, poll, listeners, peers).map_err(fault_of)?)
 }
 

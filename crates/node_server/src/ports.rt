@@ -1,15 +1,17 @@
 //! The thread of the ports: it waits at once for all that comes and for room to write.
 
+use crate::doors::{ClientDoor, Coming, doors_of, next_of, wait_for};
 use crate::peers::Peers;
 use crate::server::Server;
 use frame_queues::{FrameKeys, MOST_PEERS};
-use mio::unix::SourceFd;
-use mio::{Events, Interest, Poll, Token, Waker};
+use mio::{Events, Poll, Token, Waker};
 use served_node::{HeldNode, millis};
+use server_locks::ClientStream;
 use std::io;
 use std::io::ErrorKind;
 use std::net::{Net, TcpListener, TcpStream};
 use std::os::fd::AsRawFd;
+use std::os::unix::net::UnixListener;
 use std::sync::{Arc, Wait};
 use std::time::{Clock, Duration};
 
@@ -17,9 +19,10 @@ use std::time::{Clock, Duration};
 /// peers have those from `FIRST_DIAL` on.
 const PEER_PORT: usize = MOST_PEERS as usize;
 
-const CLIENT_PORT: usize = PEER_PORT + 1;
+/// The two doors of clients.
+const FIRST_DOOR: usize = PEER_PORT + 1;
 
-const WAKER: usize = CLIENT_PORT + 1;
+const WAKER: usize = FIRST_DOOR + 2;
 
 const FIRST_DIAL: usize = WAKER + 1;
 
@@ -38,16 +41,19 @@ const NEXT_LOOK: u64 = 1_000;
 /// How many connections of each port are taken in a turn at most. With fewer, who floods the port fills its queue.
 const MOST_NEWCOMERS: usize = 32;
 
-/// The milliseconds until a listener is asked again that has failed.
-const NEXT_TRY: u64 = 5;
-
-/// How many milliseconds a client waits for a slot. Where none is free then it is closed.
-const SLOT_PATIENCE: u64 = 1_000;
-
 /// How many milliseconds a write to a client may wait until some bytes are taken; then its connection is closed.
 const WRITE_PATIENCE: u64 = 1_000;
 
-/// A listener that never waits.
+/// The listeners of a node, which never wait.
+#[derive(Drop)]
+pub struct Listeners {
+    pub peers: TcpListener,
+    /// Those of the clients' doors, where they are open.
+    pub port: Option<TcpListener>,
+    pub socket: Option<UnixListener>,
+}
+
+/// The port of the peers.
 #[derive(Drop)]
 struct Port {
     listener: TcpListener,
@@ -56,31 +62,21 @@ struct Port {
 }
 
 impl Port {
-    /// The next connection that has come; none where none is left. A listener that fails is asked again a little later.
+    /// The next connection that has come; none where none is left.
     fn accept(&mut self, now: u64) -> Option<TcpStream> {
         if self.accept_at > now {
             return None;
         }
         match self.listener.accept() {
             Ok((stream, _)) => Some(stream),
-            Err(error) => {
-                let is_empty = error.kind() == ErrorKind::WouldBlock;
-                self.accept_at = if is_empty {
-                    u64::MAX
-                } else {
-                    now.saturating_add(NEXT_TRY)
-                };
-                None
-            }
+            Err(error) => next_of(&mut self.accept_at, now, Err(error)),
         }
     }
 }
 
 /// The port of a listener that never waits, for which the poll waits under this number.
 fn port_of(poll: &Poll, listener: TcpListener, number: usize) -> io::Result<Port> {
-    let fd = listener.as_raw_fd();
-    poll.registry()
-        .register(&mut SourceFd(&fd), Token(number), Interest::READABLE)?;
+    wait_for(poll, listener.as_raw_fd(), number)?;
     let accept_at = u64::MAX;
     Ok(Port {
         listener,
@@ -88,29 +84,20 @@ fn port_of(poll: &Poll, listener: TcpListener, number: usize) -> io::Result<Port
     })
 }
 
-/// The ports of these listeners, for peers and for clients.
-fn ports_of(poll: &Poll, listeners: (TcpListener, TcpListener)) -> io::Result<(Port, Port)> {
-    let (peers, clients) = listeners;
-    let peer_port = port_of(poll, peers, PEER_PORT)?;
-    Ok((peer_port, port_of(poll, clients, CLIENT_PORT)?))
-}
-
-/// The two ports, the connections of peers and those to them.
+/// The port of peers, the doors of clients, the connections of peers and those to them.
 #[derive(Drop)]
 pub struct Ports<'a, 'b, N: HeldNode, K: FrameKeys, R> {
     pub server: &'b Server<'a, N, K, R>,
     poll: Poll,
     events: Events,
     peer_port: Port,
-    client_port: Port,
+    doors: Vec<ClientDoor>,
     peers: Peers<'a, 'b, N, K, R>,
     /// When a connection to a peer is made next, and when all of these are looked at.
     next_dial: u64,
     next_look: u64,
-    /// Until when a client that has come waits for a slot; at no time where none waits.
-    slot_until: u64,
     /// The clients that have come, at these slots, for which a thread is to be started.
-    pub newcomers: Vec<(u32, Arc<TcpStream>)>,
+    pub newcomers: Vec<(u32, Arc<ClientStream>)>,
 }
 
 /// What the thread of the ports waits by, and what wakes it.
@@ -125,7 +112,7 @@ pub fn poll_of(rt: &impl Net) -> io::Result<(Poll, Waker)> {
 }
 
 impl<'a, 'b, N: HeldNode, K: FrameKeys, R: Net + Wait + Clock> Ports<'a, 'b, N, K, R> {
-    /// The ports of these listeners, for peers and for clients, which never wait.
+    /// The ports and doors of these listeners.
     ///
     /// # Errors
     ///
@@ -133,23 +120,28 @@ impl<'a, 'b, N: HeldNode, K: FrameKeys, R: Net + Wait + Clock> Ports<'a, 'b, N, 
     pub fn new(
         server: &'b Server<'a, N, K, R>,
         poll: Poll,
-        listeners: (TcpListener, TcpListener),
+        listeners: Listeners,
         peers: Peers<'a, 'b, N, K, R>,
     ) -> io::Result<Ports<'a, 'b, N, K, R>> {
-        let (peer_port, client_port) = ports_of(&poll, listeners)?;
+        let Listeners {
+            peers: frames,
+            port,
+            socket,
+        } = listeners;
+        let peer_port = port_of(&poll, frames, PEER_PORT)?;
+        let doors = doors_of(server.alloc, &poll, port, socket, FIRST_DOOR)?;
         let Ok(events) = Events::with_capacity(server.alloc, MOST_EVENTS) else {
             return Err(io::Error::from(ErrorKind::OutOfMemory));
         };
         Ok(Ports {
             server,
             peer_port,
-            client_port,
+            doors,
             poll,
             events,
             peers,
             next_dial: 0,
             next_look: 0,
-            slot_until: u64::MAX,
             newcomers: Vec::new(server.alloc),
         })
     }
@@ -182,13 +174,12 @@ impl<'a, 'b, N: HeldNode, K: FrameKeys, R: Net + Wait + Clock> Ports<'a, 'b, N, 
 
     /// Until when to wait at most for what comes next.
     fn wait_until(&mut self, now: u64) -> u64 {
-        let client = match self.slot_until {
-            u64::MAX => self.client_port.accept_at,
-            until => until,
-        };
         let due = self.peers.wait_until(now);
-        let due = due.min(self.next_dial).min(self.peer_port.accept_at);
-        due.min(client).min(now.saturating_add(LONGEST_WAIT))
+        let mut due = due.min(self.next_dial).min(self.peer_port.accept_at);
+        for door in &self.doors {
+            due = due.min(door.wait_until(now));
+        }
+        due.min(now.saturating_add(LONGEST_WAIT))
     }
 
     /// Notes what came: connections on the ports, bytes of peers, and what befell the connections to them.
@@ -198,13 +189,13 @@ impl<'a, 'b, N: HeldNode, K: FrameKeys, R: Net + Wait + Clock> Ports<'a, 'b, N, 
             let Token(number) = event.token();
             if number == PEER_PORT {
                 self.peer_port.accept_at = now;
-            } else if number == CLIENT_PORT {
-                self.client_port.accept_at = now;
             } else if number < PEER_PORT {
                 self.peers.note(number, event.is_read_closed());
             } else if number >= FIRST_DIAL {
                 server.go_on(number - FIRST_DIAL, now);
                 self.next_dial = now;
+            } else if let Some(door) = self.doors.get_mut(number - FIRST_DOOR) {
+                door.accept_at = now;
             }
         }
     }
@@ -241,30 +232,43 @@ impl<'a, 'b, N: HeldNode, K: FrameKeys, R: Net + Wait + Clock> Ports<'a, 'b, N, 
         }
     }
 
-    /// Takes the clients that have come. Where no slot is free they wait for one, and are closed after a while.
+    /// Takes the clients that have come to each door, no more in a turn than so many.
     fn take_clients(&mut self, now: u64) {
+        for at in 0..self.doors.len() {
+            for _ in 0..MOST_NEWCOMERS {
+                if !self.take_next(at, now) {
+                    break;
+                }
+            }
+        }
+    }
+
+    /// Takes the next client of a door. Whether to look for one more at once.
+    fn take_next(&mut self, at: usize, now: u64) -> bool {
         let server = self.server;
-        for _ in 0..MOST_NEWCOMERS {
-            if self.client_port.accept_at > now {
-                self.slot_until = u64::MAX;
-                return;
+        let Some(door) = self.doors.get_mut(at) else {
+            return false;
+        };
+        let standings = server.standings();
+        match door.next(&standings, now) {
+            Coming::Nobody => false,
+            Coming::Closed => true,
+            Coming::GivesWay(slot) => {
+                server.give_way(slot, &standings);
+                false
             }
-            let slot = server.slots.iter().position(|slot| slot.is_free(server.rt));
-            if slot.is_none() && now < self.slot_until {
-                self.slot_until = self.slot_until.min(now.saturating_add(SLOT_PATIENCE));
-                return;
-            }
-            if let (Some(stream), Some(slot)) = (self.client_port.accept(now), slot) {
-                self.slot_until = u64::MAX;
+            Coming::Client(slot, stream) => {
                 self.give(slot, stream);
+                true
             }
         }
     }
 
     /// Gives a slot to a client. Where that fails its connection is closed.
-    fn give(&mut self, slot: usize, stream: TcpStream) {
+    fn give(&mut self, slot: usize, stream: ClientStream) {
         let server = self.server;
-        if prepare(&stream, server.idle).is_err() {
+        let writes = Duration::from_millis(WRITE_PATIENCE);
+        if stream.prepare(server.idle, writes).is_err() {
             return;
         }
         let (Ok(number), Some(slot), Ok(stream)) = (
@@ -278,11 +282,4 @@ impl<'a, 'b, N: HeldNode, K: FrameKeys, R: Net + Wait + Clock> Ports<'a, 'b, N, 
             slot.refuse(server.rt);
         }
     }
-}
-
-/// Has the reads and writes of a client's connection wait for so long at most.
-fn prepare(stream: &TcpStream, idle: Duration) -> io::Result<()> {
-    stream.set_nodelay(true)?;
-    stream.set_read_timeout(Some(idle))?;
-    stream.set_write_timeout(Some(Duration::from_millis(WRITE_PATIENCE)))
 }

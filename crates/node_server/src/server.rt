@@ -1,10 +1,11 @@
 //! What the threads of a serving node share.
 
 use crate::crew::Crew;
-use frame_queues::FrameKeys;
+use frame_queues::{ALL_SLOTS, FrameKeys, SlotStanding};
 use link_frames::{Frame, Message, Place};
 use mio::Waker;
 use node_lock::{Call, Seat};
+use owner_shares::Shares;
 use peer_windows::Share;
 use quorum_sizes::NodeName;
 use role_commands::Items;
@@ -40,6 +41,8 @@ pub struct Server<'a, N: HeldNode, K: FrameKeys, R> {
     pub idle: Duration,
     /// Whether the lines of operators are answered; what they are told of syncs, and of what is heard of the peers.
     pub operators: bool,
+    /// The shares that are asked before the node, if any.
+    pub shares: Option<Shares>,
     pub syncs: Mutex<SyncTally>,
     pub heard: Mutex<Heard>,
     /// Whether more peers than may lie have voted ahead of what the node has published.
@@ -80,6 +83,29 @@ impl<N: HeldNode, K: FrameKeys, R: Wait + Clock> Server<'_, N, K, R> {
     pub fn refuse(&self, slot: u32) {
         if let Some(slot) = self.slots.get(slot as usize) {
             slot.refuse(self.rt);
+        }
+    }
+
+    /// How the slots of all clients stand.
+    pub fn standings(&self) -> [SlotStanding; ALL_SLOTS] {
+        let mut standings = [SlotStanding::Answered; ALL_SLOTS];
+        for (standing, slot) in standings.iter_mut().zip(&self.slots) {
+            *standing = slot.standing(self.rt);
+        }
+        standings
+    }
+
+    /// The connection in a slot gives way to another, if it still stands as it did, and waits for the end of a line. None
+    /// does where operators' lines are not answered.
+    pub fn give_way(&self, slot: usize, standings: &[SlotStanding; ALL_SLOTS]) {
+        if !self.operators {
+            return;
+        }
+        if let (Some(slot), Some(SlotStanding::Waits(since))) = (
+            self.slots.get(slot),
+            standings.get(slot),
+        ) {
+            slot.give_way(self.rt, *since);
         }
     }
 

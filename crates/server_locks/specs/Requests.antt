@@ -1,7 +1,9 @@
--- Connections that are no client's, as their first bytes tell.
+-- Connections that are no client's, as their first bytes tell, and half a line of one that has given way.
 use Rattle.std.specs.Prelude.{◌≡◌, ℕ, nat_eq, Bool, false, not, ◌==◌, if◌then◌else◌, List, [], ◌∷◌, codes}
 use Rattle.std.specs.Prelude.{Option, Some, None, ⊤}
 use Rattle.std.specs.List.{list_any, starts_with}
+use Rattle.link_frames.specs.declared.lines.next.Next.{Next}
+use Rattle.link_frames.specs.declared.lines.next.Next.TheVariants as next
 
 -- the methods of a request that a page in a browser can have sent to any port, and a space behind each
 abbrev pub http_methods : List (List ℕ)
@@ -29,3 +31,8 @@ is_foreign operators bytes = if operators then begins_otherwise bytes else is_ht
 abbrev pub HoldsOfAll : Bool → Option (List ℕ) → Bool → Type 0
 HoldsOfAll operators None told = ⊤
 HoldsOfAll operators (Some bytes) told = told ≡ is_foreign operators bytes
+
+-- Where a connection has given way to another, half a line isn't obeyed: nothing stands behind the last whole line.
+abbrev pub whole_next : Next → Bool → Next
+whole_next (next.Last count) gave_way = if gave_way then next.End else next.Last count
+whole_next what gave_way = what

@@ -6,13 +6,13 @@ ghost use Rattle.std.specs.Io.KnownBytes.{Keeps};
 ghost use Rattle.link_frames.specs.lines.Aheads.{front_of, pending};
 ghost use Rattle.link_frames.specs.lines.Blocks.{ReadAhead};
 ghost use Rattle.link_frames.specs.lines.Watching.{watched_inner, watched_tally};
-ghost use Rattle.server_locks.specs.Requests.{is_foreign, is_http, HoldsOfAll};
+ghost use Rattle.server_locks.specs.Requests.{is_foreign, is_http, whole_next, HoldsOfAll};
 
+use crate::stream::ClientStream;
 use client_lines::MOST_LINE_BYTES;
-use link_frames::{Ahead, AheadFault, Watched};
+use link_frames::{Ahead, AheadFault, Next, Watched};
 use served_node::millis;
 use std::io::{ErrorKind, Read, Write};
-use std::net::TcpStream;
 use std::time::{Clock, Duration};
 use std::{io, thread};
 
@@ -67,17 +67,27 @@ pub fn hears_foreign<R: Read>(
     Ok(is_foreign(operators, ahead.front()))
 }
 
+/// What comes next of a connection, of which is known whether it has given way: half a line is nothing then.
+pub fn whole_next(next: Next, gave_way: bool) -> Next
+    ensures { result ≡ whole_next next gave_way }
+{
+    match next {
+        Next::Last(_) if gave_way => Next::End,
+        next => next,
+    }
+}
+
 /// A client's stream, from which its lines are read.
 #[derive(Drop)]
 pub struct LineReader<'a> {
-    stream: &'a TcpStream,
+    stream: &'a ClientStream,
     looks_first: bool,
 }
 
 impl<'a> LineReader<'a> {
     /// A reader that looks for bytes a few times before it waits for them, or waits at once. Between two looks it gives
     /// way to the other threads.
-    pub fn new(stream: &'a TcpStream, looks_first: bool) -> LineReader<'a>
+    pub fn new(stream: &'a ClientStream, looks_first: bool) -> LineReader<'a>
         ensures { result.looks_first ≡ looks_first }
     {
         LineReader {
@@ -119,13 +129,13 @@ impl Read for LineReader<'_> {
 #[derive(Drop)]
 pub struct Farewell<'a, R> {
     rt: &'a R,
-    stream: &'a TcpStream,
+    stream: &'a ClientStream,
     end: u64,
 }
 
 impl<'a, R: Clock> Farewell<'a, R> {
     /// So many milliseconds begin.
-    pub fn new(rt: &'a R, stream: &'a TcpStream, time: u64) -> Farewell<'a, R> {
+    pub fn new(rt: &'a R, stream: &'a ClientStream, time: u64) -> Farewell<'a, R> {
         let end = millis(rt).saturating_add(time);
         Farewell { rt, stream, end }
     }

@@ -1,25 +1,32 @@
 //! Slots for the clients' connections that are open at once.
 
 ghost use Rattle.std.specs.Prelude.{◌≡◌, ◌+◌, ◌-◌, ◌^◌, min, nat_le, slice_set, true, false, Some};
-ghost use Rattle.std.specs.Prelude.{◌&&◌, not, is_some, IsTrue, IsFalse};
+ghost use Rattle.std.specs.Prelude.{not, unwrap_or, IsTrue, IsFalse, None};
 ghost use Rattle.served_node.specs.Told.{answer_to};
+ghost use Rattle.server_locks.specs.SlotStates.{does_wait, standing_of, without_stream};
 
 use crate::job_queue::JobQueue;
+use crate::stream::ClientStream;
+use frame_queues::SlotStanding;
 use served_node::{Ending, Said, Told};
 use std::alloc::{AllocError, Global};
-use std::net::{Shutdown, TcpStream};
+use std::net::Shutdown;
 use std::sync::{Arc, Condvar, Mutex, MutexGuard, Wait};
 
 /// What a connection has, and what was done for it.
 #[derive(Drop)]
 pub struct SlotState<'a> {
-    stream: Option<Arc<TcpStream>>,
+    stream: Option<Arc<ClientStream>>,
     /// Absent while a thread serves the connection.
     queue: Option<JobQueue<'a>>,
     /// How many of its jobs are done, and how many its thread waits for.
     done: u32,
     wanted: u32,
     pub told: Told,
+    /// Since when its thread waits for the end of a line, in milliseconds, if it does.
+    waits_since: Option<u64>,
+    /// The connection was shut for reading, to give way to another.
+    gave_way: bool,
     /// The node has ended.
     ended: bool,
 }
@@ -39,24 +46,63 @@ impl SlotState<'_> {
 }
 
 impl<'a> SlotState<'a> {
-    /// Whether there is no connection, nor a thread that serves one.
-    fn is_free(&self) -> bool
-        ensures { result ≡ (not (is_some self.now.stream) && is_some self.now.queue) }
+    /// How the slot stands.
+    fn standing(&self) -> SlotStanding
+        ensures { result ≡ standing_of self.now }
     {
-        self.stream.is_none() && self.queue.is_some()
+        if self.stream.is_none() {
+            return without_stream(self.queue.is_some());
+        }
+        match self.waits_since {
+            _ if self.gave_way => SlotStanding::Leaves,
+            Some(since) => SlotStanding::Waits(since),
+            None => SlotStanding::Answered,
+        }
     }
 
     /// There is this connection, unless the node has ended. Whether there is.
-    fn give(&mut self, stream: Arc<TcpStream>) -> bool
+    fn give(&mut self, stream: Arc<ClientStream>) -> bool
         ensures given { result ≡ not self.old.ended }
-        ensures stream { IsTrue result → self.new ≡ record self.old { stream = Some stream } }
+        ensures stream { IsTrue result →
+            self.new ≡ record self.old { stream = Some stream; waits_since = None; gave_way = false } }
         ensures same { IsFalse result → self.new ≡ self.old }
     {
         if self.ended {
             return false;
         }
         self.stream = Some(stream);
+        self.waits_since = None;
+        self.gave_way = false;
         true
+    }
+
+    /// The thread waits for the end of a line from now on, if it didn't.
+    fn begin_wait(&mut self, now: u64)
+        ensures { self.new ≡ record self.old { waits_since = Some (unwrap_or self.old.waits_since now) } }
+    {
+        self.waits_since = Some(self.waits_since.unwrap_or(now));
+    }
+
+    /// The connection gives way, if it waits for the end of a line since this time still. Whether it does.
+    fn give_way(&mut self, since: u64) -> bool
+        ensures waits { result ≡ does_wait since (standing_of self.old) }
+        ensures gives { IsTrue result → self.new ≡ record self.old { gave_way = true } }
+        ensures same { IsFalse result → self.new ≡ self.old }
+    {
+        let waits = self.does_wait(since);
+        if waits {
+            self.gave_way = true;
+        }
+        waits
+    }
+
+    fn does_wait(&self, since: u64) -> bool
+        ensures { result ≡ does_wait since (standing_of self.now) }
+    {
+        match self.standing() {
+            SlotStanding::Waits(other) => other == since,
+            _ => false,
+        }
     }
 
     /// The slot is free once more, if so many jobs are done, all that were put: else one could meet the next
@@ -70,6 +116,17 @@ impl<'a> SlotState<'a> {
             self.queue = Some(queue);
             self.done = 0;
         }
+    }
+}
+
+/// How a slot without a connection stands, whose way into the inbox is there or not.
+fn without_stream(is_free: bool) -> SlotStanding
+    ensures { result ≡ without_stream is_free }
+{
+    if is_free {
+        SlotStanding::Free
+    } else {
+        SlotStanding::Leaves
     }
 }
 
@@ -95,19 +152,21 @@ impl<'a> Slot<'a> {
                 done: 0,
                 wanted: u32::MAX,
                 told: Told::new(alloc)?,
+                waits_since: None,
+                gave_way: false,
                 ended: false,
             }),
             done: Condvar::new(),
         })
     }
 
-    /// Whether there is no connection.
-    pub fn is_free<R: Wait>(&self, rt: &R) -> bool {
-        self.state.lock(rt).is_free()
+    /// How the slot stands.
+    pub fn standing<R: Wait>(&self, rt: &R) -> SlotStanding {
+        self.state.lock(rt).standing()
     }
 
     /// Gives a connection to the slot, which is free. False at the node's end, and for want of memory.
-    pub fn give<R: Wait>(&self, rt: &R, stream: &Arc<TcpStream>) -> bool {
+    pub fn give<R: Wait>(&self, rt: &R, stream: &Arc<ClientStream>) -> bool {
         match Arc::try_clone(stream) {
             Ok(other) => self.state.lock(rt).give(other),
             Err(_) => false,
@@ -130,6 +189,32 @@ impl<'a> Slot<'a> {
         if let Some(mut state) = self.wait_for(rt, put) {
             state.give_back(queue, put);
         }
+    }
+
+    /// The connection's thread waits for the end of a line from now on, if it didn't: so the connection may give way.
+    pub fn begin_wait<R: Wait>(&self, rt: &R, now: u64) {
+        self.state.lock(rt).begin_wait(now);
+    }
+
+    /// A line has come: the connection is answered, and gives way to none.
+    pub fn end_wait<R: Wait>(&self, rt: &R) {
+        self.state.lock(rt).waits_since = None;
+    }
+
+    /// The connection gives way, if it waits for the end of a line since this time still: it is shut for reading. What
+    /// had come of it as whole lines is answered.
+    pub fn give_way<R: Wait>(&self, rt: &R, since: u64) {
+        let mut state = self.state.lock(rt);
+        if state.give_way(since) {
+            if let Some(stream) = &state.stream {
+                let _ = stream.shutdown(Shutdown::Read);
+            }
+        }
+    }
+
+    /// Whether the connection has given way.
+    pub fn has_given_way<R: Wait>(&self, rt: &R) -> bool {
+        self.state.lock(rt).gave_way
     }
 
     /// Whether so many jobs are done.

@@ -15,5 +15,6 @@ abbrev pub status : Fault → ℕ
 status (program.Words fault) = words_status fault
 status (program.Given fault) = given_status fault
 status (program.Kept fault) = kept_status fault
+status (program.Socket path why) = 4
 status program.Device = 4
 status program.Memory = 5

@@ -3,6 +3,7 @@
 ghost use Rattle.std.specs.Prelude.{◌≡◌};
 ghost use Rattle.tundelca.specs.Statuses.{words_status, status};
 
+use crate::socket::SocketFault;
 use cluster_hosts::GivenFault;
 use node_journal::KeptFault;
 use node_server::ServerFault;
@@ -50,6 +51,9 @@ pub enum Fault {
     /// The journal is not begun, opened or looked at.
     #[error(transparent)]
     Kept(KeptFault),
+    /// No socket is made at this path.
+    #[error("{0}: {1}")]
+    Socket(String, SocketFault),
     /// A listener could not be made or has failed, a call of the disk has failed, or what is to be said can't be
     /// written.
     #[error("device")]
@@ -68,6 +72,7 @@ impl Fault {
             Fault::Words(fault) => fault.status(),
             Fault::Given(fault) => fault.status(),
             Fault::Kept(fault) => fault.status(),
+            Fault::Socket(_, _) => 4,
             Fault::Device => 4,
             Fault::Memory => 5,
         }

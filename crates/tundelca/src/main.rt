@@ -8,19 +8,23 @@ ghost use Rattle.std.specs.Prelude.{IfOk};
 ghost use Rattle.cluster_text.specs.Setups.{IsNodeSetup, IsServerSetup};
 ghost use Rattle.cluster_hosts.specs.Hosts.{HasHosts};
 
+mod entries;
 mod fault;
 mod report;
 mod serve;
+mod socket;
 mod version;
 mod words;
 
 use cluster_hosts::{Given, GivenFault, read_given};
+use entries::Entries;
 use fault::{Fault, WordsFault};
 use link_frames::Watched;
 use node_journal::{begin, look, make_journal, open_journal, open_to_look, remove_beside};
 use node_server::SEATS;
 use report::{report_of, sight_text};
-use serve::{serve_in_memory, serve_kept};
+use serve::{Doors, open_ports, serve_in_memory, serve_kept};
+use socket::{MadeSocket, make_socket, remove_socket};
 use sqlite_std_file::Unknown;
 use std::env;
 use std::fs::File;
@@ -34,8 +38,14 @@ use words::{Keeping, Words, read_words};
 
 fn main(rt: HostRuntime) -> ExitCode {
     match words_given(&rt) {
-        Ok(Words::Serve { cluster, keeping }) => match given_of(&rt, &cluster) {
-            Ok(given) => ended(&rt, serve_given(&rt, &rt, given, keeping)),
+        Ok(
+            Words::Serve {
+                cluster,
+                keeping,
+                entries,
+            },
+        ) => match given_of(&rt, &cluster) {
+            Ok(given) => ended(&rt, serve_given(&rt, &rt, given, keeping, &entries)),
             Err(fault) => ended(&rt, Err(Fault::Given(fault))),
         },
         Ok(words) => ended(&rt, answer(&rt, words)),
@@ -54,8 +64,15 @@ fn ended(rt: &HostRuntime, outcome: Result<(), Fault>) -> ExitCode {
     }
 }
 
-/// Serves the node that is given, which keeps what it records as it was said.
-fn serve_given<R>(rt: &R, host: &HostRuntime, given: Given, keeping: Keeping) -> Result<(), Fault>
+/// Serves the node that is given, which keeps what it records as it was said, and whose clients come through these
+/// doors. A socket is made once the journal and the ports are the node's.
+fn serve_given<R>(
+    rt: &R,
+    host: &HostRuntime,
+    given: Given,
+    keeping: Keeping,
+    entries: &Entries,
+) -> Result<(), Fault>
 where
     R: Net<Listener = TcpListener, Stream = TcpStream> + Threads + Wait + Clock + Sync,
     requires me { IsNodeSetup given.setup }
@@ -63,11 +80,54 @@ where
     requires hosts { HasHosts given }
 {
     match keeping {
-        Keeping::InMemory => serve_in_memory(rt, host.alloc(), given),
-        Keeping::Journal(path) => match open_journal(host, &path, Unknown) {
-            Ok(files) => serve_kept(rt, host.alloc(), given, files),
-            Err(fault) => Err(Fault::Kept(fault)),
-        },
+        Keeping::InMemory => {
+            let (doors, made) = open_doors(rt, host, &given, entries)?;
+            let served = serve_in_memory(rt, host.alloc(), given, doors);
+            close_door(host, made);
+            served
+        }
+        Keeping::Journal(path) => {
+            let files = open_journal(host, &path, Unknown)?;
+            let (doors, made) = open_doors(rt, host, &given, entries)?;
+            let served = serve_kept(rt, host.alloc(), given, files, doors);
+            close_door(host, made);
+            served
+        }
+    }
+}
+
+/// Opens the doors of the node that is given, the socket last, and what is known of its file.
+fn open_doors<'a, R>(
+    rt: &R,
+    host: &HostRuntime,
+    given: &Given,
+    entries: &'a Entries,
+) -> Result<(Doors, Option<MadeSocket<'a>>), Fault>
+where
+    R: Net<Listener = TcpListener, Stream = TcpStream>,
+    requires me { IsNodeSetup given.now.setup }
+    requires peers { IsServerSetup given.now.setup }
+    requires hosts { HasHosts given.now }
+{
+    let doors = open_ports(rt, given, entries.port)?;
+    let Some(path) = &entries.socket else {
+        return Ok((doors, None));
+    };
+    let (listener, made) = make_socket(host, host.alloc(), path)?;
+    let Doors { peers, port, .. } = doors;
+    let socket = Some(listener);
+    let doors = Doors {
+        peers,
+        port,
+        socket,
+    };
+    Ok((doors, Some(made)))
+}
+
+/// Removes the file of a socket.
+fn close_door(host: &HostRuntime, made: Option<MadeSocket<'_>>) {
+    if let Some(made) = made {
+        remove_socket(host, made);
     }
 }
 

@@ -1,5 +1,6 @@
 //! The words after the program's name.
 
+use crate::entries::{Entries, EntriesFault};
 use crate::fault::WordsFault;
 use crate::version::{JOURNAL_VERSION, LOGIC, VERSION};
 use clap::error::ErrorKind;
@@ -15,6 +16,7 @@ pub enum Words {
     Serve {
         cluster: String,
         keeping: Keeping,
+        entries: Entries,
     },
     /// To begin a journal of the node of this cluster file.
     Journal {
@@ -58,6 +60,7 @@ fn asked(alloc: Global, matches: &ArgMatches<'_>) -> Result<Words, WordsFault> {
         Some(("serve", words)) => Ok(Words::Serve {
             cluster: text(alloc, words, "cluster")?,
             keeping: kept_in(alloc, words)?,
+            entries: entries(alloc, words)?,
         }),
         Some(("journal", words)) => Ok(Words::Journal {
             cluster: text(alloc, words, "cluster")?,
@@ -92,10 +95,32 @@ fn text(alloc: Global, words: &ArgMatches<'_>, name: &str) -> Result<String, Wor
 
 /// The path of the journal, where there is one.
 fn journal(alloc: Global, words: &ArgMatches<'_>) -> Result<Option<String>, WordsFault> {
-    match words.get_str("journal") {
+    path(alloc, words, "journal")
+}
+
+/// The path behind a word, where it is said.
+fn path(alloc: Global, words: &ArgMatches<'_>, name: &str) -> Result<Option<String>, WordsFault> {
+    match words.get_str(name) {
         Some(word) => Ok(Some(String::from_str(alloc, word)?)),
         None => Ok(None),
     }
+}
+
+/// Through which doors clients come. A node without any is refused, and a socket's path that no address can have.
+fn entries(alloc: Global, words: &ArgMatches<'_>) -> Result<Entries, WordsFault> {
+    let entries = Entries {
+        port: !words.get_flag("no-port"),
+        socket: path(alloc, words, "socket")?,
+    };
+    match entries.fault() {
+        None => Ok(entries),
+        Some(EntriesFault::NoDoor) => refused(alloc, "--no-port stands beside --socket only\n"),
+        Some(EntriesFault::Path) => refused(alloc, "--socket: a path of 1 to 107 bytes\n"),
+    }
+}
+
+fn refused(alloc: Global, why: &str) -> Result<Entries, WordsFault> {
+    Err(WordsFault::Refused(String::from_str(alloc, why)?))
 }
 
 /// Where a node that is served keeps what it records: one of the two is said, and not both.
@@ -124,7 +149,8 @@ fn serve_words<'a>(alloc: Global) -> Result<Command<'a>, AllocError> {
         .about("Serves a node")
         .arg(cluster_word(alloc))?;
     let kept = serve.arg(journal_word(alloc).required_unless_present("in-memory")?)?;
-    kept.arg(in_memory_word(alloc)?)
+    let kept = kept.arg(in_memory_word(alloc)?)?;
+    kept.arg(socket_word(alloc))?.arg(no_port_word(alloc))
 }
 
 fn journal_words<'a>(alloc: Global) -> Result<Command<'a>, AllocError> {
@@ -147,6 +173,21 @@ fn in_memory_word<'a>(alloc: Global) -> Result<Arg<'a>, AllocError> {
         .help("Keeps nothing over its end")
         .action(ArgAction::SetTrue)
         .conflicts_with("journal")
+}
+
+fn socket_word<'a>(alloc: Global) -> Arg<'a> {
+    Arg::new(alloc, "socket")
+        .long("socket")
+        .value_name("PATH")
+        .help("Takes clients' lines at a socket too")
+        .action(ArgAction::Set)
+}
+
+fn no_port_word<'a>(alloc: Global) -> Arg<'a> {
+    Arg::new(alloc, "no-port")
+        .long("no-port")
+        .help("Takes none at the cluster file's client port")
+        .action(ArgAction::SetTrue)
 }
 
 fn cluster_word<'a>(alloc: Global) -> Arg<'a> {
