@@ -1,6 +1,5 @@
 """The gateway's HTTP: tornado reads requests and writes answers, on one loop; how many and how long is said here."""
 import asyncio
-import contextlib
 import http
 import os
 import signal
@@ -222,11 +221,15 @@ class Server(HTTPServerConnectionDelegate):
 
     async def parted(self, stream: Stream, answer: bytes) -> None:
         """Writes the answer, and reads for a while what comes, so that the caller has it before the end."""
-        with contextlib.suppress(StreamClosedError, OSError, asyncio.TimeoutError):
+        try:
             await asyncio.wait_for(stream.write(answer), PARTING)
-            stream.socket.shutdown(socket.SHUT_WR)
-            await asyncio.wait_for(self.passed_over(stream), PARTING)
-        self.close(stream)
+            if not stream.closed():
+                stream.socket.shutdown(socket.SHUT_WR)
+                await asyncio.wait_for(self.passed_over(stream), PARTING)
+        except (StreamClosedError, OSError, asyncio.TimeoutError):
+            pass  # the caller went away first
+        finally:
+            self.close(stream)
 
     @staticmethod
     async def passed_over(stream: Stream) -> None:
