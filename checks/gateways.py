@@ -8,7 +8,6 @@ import signal
 import socket
 import subprocess
 import tempfile
-import time
 from types import TracebackType
 from typing import Any, Dict, List, Optional, Tuple, Type, Union
 
@@ -220,7 +219,3 @@ class Before:
                  trace: Optional[TracebackType]) -> None:
         self.gateway.__exit__(kind, fault, trace)
         self.cluster.end()
-
-
-def took(begun: float) -> float:
-    return time.monotonic() - begun

@@ -15,7 +15,7 @@ from typing import Any, Dict, List, Optional, Tuple
 
 from paths import TOP
 import calls_tried
-from gateways import EVALUATION, TOKEN, Before, evaluation
+from gateways import TOKEN, Before, evaluation
 from runner import Case, judge
 
 BODY = json.dumps(evaluation()).encode()
@@ -195,8 +195,8 @@ def slow_callers(_: Any) -> str:
                 break
         evicted, late = one.gateway.metric("evicted_connections_total"), one.gateway.metric("late_connections_total")
     told = (f"{alone[0]:,.0f} decisions a second alone, {beside[0]:,.0f} beside {SLOW} slow callers; in a second of "
-            f"its processor {alone[1]:,.0f} and {beside[1]:,.0f}; {made:,} were made, {ended:,} ended; {evicted:,.0f} gave "
-            f"way, {late:,.0f} were late")
+            f"its processor {alone[1]:,.0f} and {beside[1]:,.0f}; {made:,} were made, {ended:,} ended; {evicted:,.0f} "
+            f"gave way, {late:,.0f} were late")
     judge(not wrong, f"{len(wrong)} callers lost, as {wrong[:1]}")
     judge(max(now / before for now, before in zip(beside, alone)) >= 0.9, told)
     judge(answered == 0 and ended > 0 and 256 < standing <= 512, f"{answered} answered, {standing} stand; {told}")

@@ -1,4 +1,4 @@
-"""The gateway before a node that is away, out of touch, slow, or answers wrongly: nothing of it is a yes. For deciding."""
+"""The gateway before a node that is away, out of touch, slow or wrong: nothing of that is a yes. For deciding."""
 import json
 import os
 import signal
@@ -8,7 +8,7 @@ from typing import Any, Callable, Dict, List
 
 import calls_tried
 import gateways
-from gateways import EVALUATION, EVALUATIONS, Before, Gateway, evaluation
+from gateways import EVALUATION, Before, Gateway, evaluation
 from runner import Case, judge, wait_until
 
 SLOW = 0.5  # seconds in which the node answers, as with a slow sync

@@ -1,16 +1,16 @@
 """Policy files that are refused, each with the place that is named. For deciding."""
 import copy
+import hashlib
 import json
 import os
+import re
 import stat
-import subprocess
-import sys
 import tempfile
 from typing import Any, Callable, Dict, List, Optional, Tuple
 
 from paths import TOP
-from gateways import COMMANDS, OWNERS, POLICY
-from gateway import policy
+from gateways import POLICY, evaluation
+from gateway import policy, questions
 from runner import Case, judge
 
 Change = Callable[[Dict[str, Any]], Any]
@@ -142,6 +142,18 @@ def files(_: Any) -> str:
     return "modes, fingerprints"
 
 
+def page(_: Any) -> str:
+    """The policy of docs/DECIDING.md is one, and its question has the rows that stand there."""
+    with open(os.path.join(TOP, "docs", "DECIDING.md"), encoding="utf-8") as file:
+        found = re.search(r"```json\n(.*?)```", file.read(), re.DOTALL)
+    judge(found is not None, "docs/DECIDING.md has no policy")
+    read = policy.policy_of(found.group(1) if found is not None else "", 4)
+    asked = questions.evaluation(json.dumps(evaluation()).encode(), read)
+    judge(asked.groups() == [[[7, 0, 5, 9], [7, 0, 5, 0]]], str(asked.groups()))
+    judge(read.callers == {hashlib.sha256(b"TOKEN").hexdigest(): "shop"}, "its token")
+    return "its policy and its rows"
+
+
 def is_read(path: str) -> bool:
     try:
         policy.read(path)
@@ -151,4 +163,5 @@ def is_read(path: str) -> bool:
 
 
 def cases(_: Any) -> List[Case]:
-    return [Case("policies that are wrong", lambda: wrong_files(None)), Case("policy files", lambda: files(None))]
+    return [Case("policies that are wrong", lambda: wrong_files(None)), Case("policy files", lambda: files(None)),
+            Case("DECIDING.md", lambda: page(None))]

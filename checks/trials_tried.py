@@ -10,12 +10,12 @@ import subprocess
 import sys
 import tempfile
 import time
-from typing import Any, List, Optional, Set
+from typing import Any, List, Set
 
 from cluster import Cluster
-from gateways import COMMANDS, OWNERS, POLICY, PYTHON, expect_tornado
+from gateways import COMMANDS, OWNERS, POLICY, expect_tornado
 from paths import TOP
-from runner import Case, Skipped, judge, wait_until
+from runner import Case, judge, wait_until
 
 CTL = os.path.join(TOP, "tools", "tundelca_ctl.py")
 PATIENCE = 60

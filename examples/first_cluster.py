@@ -140,7 +140,7 @@ def show(shown):
 
 
 def show_gateway(shown):
-    """Starts the gateway before node 2, and shows what it answers: alice is user 7, and the liar says that 666 is too."""
+    """Starts the gateway before node 2, and shows what it answers: mallory is user 666, of whom the liar speaks."""
     policy = os.path.join(shown.folder.name, "policy.json")
     tundelca.write_secret(policy, json.dumps(POLICY))
     listen = f"{tundelca.LOOPBACK}:{shown.gateway}"

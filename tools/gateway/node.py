@@ -134,7 +134,7 @@ class Node:
 
     def __init__(self, door: tundelca.Door, looked: Callable[[], None]) -> None:
         self.door, self.looked = door, looked
-        self.known: Optional[str] = "the node wasn't asked yet"  # why its word doesn't count, when it was looked at last
+        self.known: Optional[str] = "the node wasn't asked yet"  # why its word didn't count at the last look
         self.looked_at = 0.0
         self.status: Dict[str, Any] = {}
         self.warnings: List[str] = []  # of what is nine tenths used
