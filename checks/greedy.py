@@ -216,8 +216,9 @@ def acts_kept(program):
         judge("F4 Full" in acts, acts)
         took, begun = time.monotonic() - begun, time.monotonic()
         cluster.start_again(0)
-        started = time.monotonic() - begun
         with cluster.client(0) as node:
+            node.ask("status")
+            started = time.monotonic() - begun
             expect_spent(node, some)
             node.ask("deassign", user=USER, role=ROLE)
             wait_until(lambda: node.reach(0) == 2, "a command counts")
