@@ -84,7 +84,7 @@ taken_in f zero xs = refl
 taken_in f (suc n) [] = refl
 taken_in f (suc n) (x ∷ xs) = ap (λ l. f x ∷ l) (taken_in f n xs)
 
-got_in : {A B : Type 0} (f : A → B) (xs : List A) (k : ℕ) (y : B) → slice_get (map f xs) k ≡ Some y →
+pub got_in : {A B : Type 0} (f : A → B) (xs : List A) (k : ℕ) (y : B) → slice_get (map f xs) k ≡ Some y →
     (x : A) × (slice_get xs k ≡ Some x) × (f x ≡ y)
 got_in f [] k y there = absurd cc
 got_in f (x ∷ xs) zero y there = (x, refl, same_Some (f x) y there)
@@ -357,7 +357,7 @@ short_lives (suc (suc (suc (suc n)))) less = absurd (omega (arith, less))
 module _ (is_run : IsClusterRun four_nodes three_lies example_run)
     (at_zero : delivered_by four_nodes example_run 0 0 0 ≡ Some user_seven) where
   -- a node that is none does nothing
-  short_if : (n : ℕ) → length (history_of n example_run) ≤ 11
+  pub short_if : (n : ℕ) → length (history_of n example_run) ≤ 11
   short_if n = ⊎_elim (λ (less : n < 4). short_lives n less)
       (λ (past : 4 ≤ n). by (history_of n example_run) refl past) (cases_lt n 4)
     where
@@ -376,7 +376,7 @@ module _ (is_run : IsClusterRun four_nodes three_lies example_run)
               ltb-true found.1.0 4 (and_parts (nat_lt found.1.0 4) _ correct).0 in
               omega (arith, below, name, past)
 
-  seven_first : total one_place (done (history_of 0 example_run)) 0 ≡ user_seven ∷ []
+  pub seven_first : total one_place (done (history_of 0 example_run)) 0 ≡ user_seven ∷ []
   unfolding history_of
   seven_first =
       let h : List Event = history_of 0 example_run in
