@@ -12,7 +12,7 @@ import tempfile
 import threading
 import time
 
-import gateway_cases
+import gateways
 import tool_runs
 from cluster import TOP, Cluster, tundelca
 from played import Played
@@ -111,6 +111,7 @@ def played_by(account, paths, heard):
             os.setgid(account)
             os.setuid(account)
             for node in filled(paths).nodes:
+                node.changed = {"f": MAY_LIE}
                 node.answer = lambda line, answer=node.answer: file.write(line) and answer(line)
             os.write(told, b"!")
             time.sleep(10 * PATIENCE)
@@ -158,16 +159,22 @@ def strangers_are_refused():
             with serving("board", "--port", 0, "--every", "0.1", *paths) as address:
                 state = json.loads(fetch(address + "state.json")[2])["now"]
                 judge([node["state"] for node in state["nodes"]] == ["away"] * NODES, str(state)[:300])
-            with contextlib.ExitStack() as stack:
-                gateway = gateway_cases.Gateway(folder, paths[0], stack)
-                judge("doesn't answer" in gateway.refuses_to_start(), "the gateway begins")
+            if gateways.has_tornado():
+                with gateways.Gateway(paths[0]) as gateway:
+                    gateway.wait("/health/live")
+                    status, answer = gateway.ask("POST", gateways.EVALUATION, gateways.evaluation())
+                    judge(status == 503 and f"account {STRANGER}" in str(answer), f"the gateway says {status} {answer}")
             judge(os.path.getsize(heard) == 0, "something went out to a stranger")
             for row in words[:-1]:
                 row = [*row, "--account" if row[0] in ("diff", "stream") else "--owner", STRANGER]
                 judge(row[0] == "stop" or tool_runs.ended(*row)[0] == 0, f"{row}: {tool_runs.ended(*row)}")
             tool("status", *paths, "--owner", "no-such-account", status=WRONG)
+            if gateways.has_tornado():
+                with gateways.Gateway(paths[0], None, "--owner", str(STRANGER)) as gateway:
+                    gateway.wait()
         taken_over(paths[0], heard)
-    return f"{len(words)} commands, the board and the gateway"
+    last = "the gateway" if gateways.has_tornado() else "NO GATEWAY WAS TRIED: there is no python3-tornado"
+    return f"{len(words)} commands, the board, {last}"
 
 
 def taken_over(path, heard):
@@ -365,7 +372,7 @@ def stop_waits():
     return "in three ways, and one that stays"
 
 
-def cases(_):
+def trials():
     """Each trial by its name."""
-    return [("nodes are named", nodes_are_named), ("strangers", strangers_are_refused),
-            ("once more", questions_go_again), ("stop", stop_waits)]
+    return [("tools: nodes are named", nodes_are_named), ("tools: strangers", strangers_are_refused),
+            ("tools: once more", questions_go_again), ("tools: stop", stop_waits)]

@@ -25,8 +25,8 @@ from tool_runs import (
     serving, tool)
 
 PAIRS = 5_000  # that are published, kept and published anew
-COMMANDS = ["status", "health", "metrics", "board", "ask", "stream", "diff", "publish", "sessions", "stop", "lab", "key",
-            "file", "files", "check", "begin-anew"]
+COMMANDS = ["try", "policy", "status", "health", "metrics", "board", "ask", "stream", "diff", "publish", "sessions",
+            "stop", "lab", "key", "file", "files", "check", "begin-anew"]
 
 
 def words_are_told():

@@ -10,7 +10,7 @@
 
 One file, and nothing beside Python 3.9 and its standard library. As a program it is `tundelca_ctl.py` beside it. A node
 hears lines of JSON at its door, a port of this machine or a Unix socket, one answer for each, and whoever reaches that
-door may say anything in any user's name: keep it behind a service of yours that knows its users (examples/gateway.py).
+door may say anything in any user's name: keep it behind what knows your users, as tundelca_gateway.py does.
 Wherever a node is named here, that is by what `door` takes: a port, a socket's path, `@NAME`, a cluster file.
 
 A node may lie. Each answer is read up to a bound (`LONGEST`) and held against a form (`FORMS`), by `read_answer` alone;
@@ -1209,7 +1209,7 @@ STATUSES = {
     0: "it was stopped",
     2: "its words",
     3: "its cluster file",
-    4: "a port or a journal that is held, or a failed listener or disk",
+    4: "a port, a socket or a journal that is held, or a failed listener or disk",
     5: "want of memory",
     6: "its journal",
 }

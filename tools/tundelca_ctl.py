@@ -20,6 +20,7 @@ from ctl.nodes import allow  # noqa: E402
 from ctl.words import NAME, Steps, Words  # noqa: E402
 
 GROUPS = {  # the commands, each with the module that does it
+    "to begin with, and the gateway": {"try": "trial", "policy": "policies"},
     "to see how nodes are": {"status": "status", "health": "status", "metrics": "metrics", "board": "board"},
     "to read and to publish": {"ask": "publishing", "stream": "streams", "diff": "streams", "publish": "publishing",
                                "sessions": "sessions", "stop": "stopping", "lab": "lab"},

@@ -1,5 +1,5 @@
 -- A node within its shares stays so by each call to which these have no answer.
-use Rattle.std.proofs.Common.{◌≡◌, ℕ, Bool, true, false, Option, Some, None, refl, sym, subst, ◌++◌, ◌∷◌, []}
+use Rattle.std.proofs.Common.{◌≡◌, Bool, true, false, Option, Some, None, refl, sym, subst, ◌++◌, ◌∷◌, []}
 use Rattle.std.specs.Prelude.{option_map, if◌then◌else◌, IsSome}
 use Rattle.node_lock.specs.Holds.{Held, held_after}
 use Rattle.node_lock.specs.Seats.{Sitting}
@@ -8,10 +8,9 @@ use Rattle.owner_shares.specs.Shares.{SharesValue, shares_of}
 use Rattle.owner_shares.specs.declared.answer.ShareAnswer.{ShareAnswer}
 use Rattle.owner_shares.proofs.Exported.{shares_are_kept}
 use Rattle.role_node.specs.Answers.{is_recorded}
-use Rattle.role_node.specs.Nodes.{NodeValue, due_at, with_event, IsLegalNode}
+use Rattle.role_node.specs.Nodes.{due_at, with_event, IsLegalNode}
 use Rattle.role_node.specs.declared.event.Event.{Event}
 use Rattle.server_locks.specs.HoldRules.{no_hold_by, answer_due, IsWithin}
-use Rattle.server_locks.specs.declared.hold_rules.NoHold.{NoHold}
 
 no_answer : (o : Option ShareAnswer) → option_map no_hold_by o ≡ None → o ≡ None
 no_answer None e = refl

@@ -1,7 +1,8 @@
 -- At which doors a node is served, and when a socket is made at a path.
 use Rattle.std.specs.Prelude.{ℕ, ◌%◌, ◌/◌, ◌==◌, nat_lt, Bool, true, false, ◌&&◌, ◌||◌, if◌then◌else◌}
 use Rattle.std.specs.Prelude.{Option, None, Some, Result, Ok, Err}
-use Rattle.core.specs.ErrorKind as kind
+use Rattle.std.specs.declared.io.ErrorKind.{ErrorKind}
+use Rattle.std.specs.declared.io.ErrorKind.TheVariants as kind
 use Rattle.tundelca.specs.declared.entries.Entries.{Entries}
 use Rattle.tundelca.specs.declared.entries.EntriesFault.{EntriesFault}
 use Rattle.tundelca.specs.declared.entries.EntriesFault.TheVariants.{NoDoor, Path}
@@ -40,4 +41,4 @@ abbrev pub refused_by : ErrorKind → AtPath
 refused_by kind.ConnectionRefused = at.DeadSocket
 refused_by kind.WouldBlock = at.LiveSocket
 refused_by kind.NotFound = at.Nothing
-refused_by other = at.Unknown
+refused_by _ = at.Unknown

@@ -1,7 +1,6 @@
 //! Through which doors clients come, as the words say.
 
-ghost use Rattle.std.specs.Prelude.{◌≡◌, option_map};
-ghost use Rattle.std_alloc.specs.String.{string_len};
+ghost use Rattle.std.specs.Prelude.{◌≡◌, option_map, string_len};
 ghost use Rattle.tundelca.specs.Sockets.{entries_fault};
 
 /// The most bytes of a socket's path: what the system's address of a socket holds.

@@ -1,4 +1,4 @@
-use Rattle.std.proofs.Common.{◌≡◌, Some, None, sym, subst, ◌∙◌}
+use Rattle.std.proofs.Common.{Some, sym, subst, ◌∙◌}
 use Rattle.node_lock.specs.Views.{held_after_hold}
 use Rattle.node_lock.specs.declared.receipt.Call.{Call}
 use Rattle.node_lock.specs.declared.receipt.Call.TheVariants.{Step}
