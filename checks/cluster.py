@@ -71,7 +71,8 @@ class Cluster:
     `ports` are those of nodes and of clients, free ones if left out; `hosts` the nodes' addresses, where not all
     are on 127.0.0.1. With `own_folders` each node's files, and so its keys, lie apart from the others'. From
     `paths` it takes cluster files that are there, and makes none. A node may open so many `descriptors`, and has
-    `variables` beside its environment.
+    `variables` beside its environment. Clients come through `doors`: the nodes' ports, their sockets, or both, where
+    the script takes the ports.
     """
 
     def __init__(self, program: str = "", nodes: int = 1, may_lie: int = 0, owners: int = 1,
@@ -79,9 +80,9 @@ class Cluster:
                  has_journals: bool = False, waits: bool = False, is_apart: bool = False, own_folders: bool = False,
                  ports: Optional[Ports] = None, hosts: Optional[Sequence[str]] = None,
                  paths: Optional[Sequence[str]] = None, descriptors: Optional[int] = None,
-                 variables: Optional[Dict[str, str]] = None) -> None:
+                 variables: Optional[Dict[str, str]] = None, doors: Tuple[str, ...] = ("port",)) -> None:
         self.program, self.may_lie, self.has_journals, self.descriptors = program, may_lie, has_journals, descriptors
-        self.variables = dict(variables or {})
+        self.variables, self.doors = dict(variables or {}), doors
         self.roles = [(ROLE + owner, owner) for owner in range(owners)] if roles is None else list(roles)
         self.faults: Optional[int] = None  # where what nodes say on standard error goes; None: where the script's does
         self.running: Dict[int, "subprocess.Popen[bytes]"] = {}
@@ -137,12 +138,21 @@ class Cluster:
         """The program and the words with which it serves a node, or does something else with its files."""
         words = [self.program, word, "--cluster", self.paths[me]]
         if self.has_journals or word == "journal":
-            return [*words, "--journal", self.journal(me)]
-        return words if word != "serve" or self.is_daemon() else [*words, "--in-memory"]
+            words += ["--journal", self.journal(me)]
+        elif word == "serve" and not self.is_daemon():
+            words += ["--in-memory"]
+        if word == "serve" and "socket" in self.doors:
+            words += ["--socket", self.socket_path(me)]
+            words += [] if "port" in self.doors else ["--no-port"]
+        return words
 
     def is_daemon(self) -> bool:
         """Whether the program is role_daemon, which keeps no journals and has no words for that."""
         return os.path.basename(self.program).startswith("role_daemon")
+
+    def socket_path(self, me: int) -> str:
+        """Where a node's socket is: in a folder of its own, which the node makes."""
+        return f"{self.paths[me]}.door/node.socket"
 
     def journal(self, me: int) -> str:
         """Where a node's journal lies."""
@@ -226,11 +236,15 @@ class Cluster:
 
     def client(self, me: int, patience: float = PATIENCE) -> tundelca.Client:
         """A client of a node."""
-        return tundelca.Client(self.clients[me], patience)
+        return tundelca.Client(self.door(me), patience)
+
+    def door(self, me: int) -> tundelca.Door:
+        """Where a node takes clients."""
+        return tundelca.door(self.clients[me] if "port" in self.doors else self.socket_path(me))
 
     def connect(self, me: int, patience: float = PATIENCE) -> socket.socket:
         """A connection to where a node takes clients."""
-        return socket.create_connection((tundelca.LOOPBACK, self.clients[me]), patience)
+        return self.door(me).connect(patience)
 
     def link(self, to: int, patience: float = PATIENCE) -> socket.socket:
         """A connection to where a node takes frames."""

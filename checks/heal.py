@@ -2,9 +2,9 @@
 """Whether a cluster comes through by itself: heal [CHECKOUT] [--only CASE]
 
 Nodes of `role_daemon serve` are brought to where frames are lost, and then every correct node has to have all that the
-owners published, though nobody helps it: no client sends `again` for what is missing. The cases slots do so to
-`tundelca`, and are told in slots.py. CHECKOUT is where both were built, or the program that a case takes; this checkout
-if it is left out. A case's name ends with how many nodes there are: --only flood, --only "burst 7".
+owners published, though nobody helps it: no client sends `again` for what is missing. The cases slots and greedy do so
+to `tundelca`, and are told in slots.py and greedy.py. CHECKOUT is where both were built, or the program that a case
+takes; this checkout if it is left out. A case's name ends with how many nodes there are: --only flood, --only "burst 7".
 
 In burst, blocks, flood and again frames arrive, more at once than a node takes. In the others forwarders between the
 nodes lose, double, delay or cut, or a node stands still. A case fails where a node lacks something SOON seconds after
@@ -16,6 +16,7 @@ import contextlib
 import signal
 import time
 
+import greedy
 import runner
 import slots
 from cluster import ECHO, READY, SEND, ROLE, Cluster, assign, tundelca
@@ -296,7 +297,8 @@ CASES = [("burst", burst, 4), ("burst", burst, 7), ("blocks", blocks, 4), ("bloc
 
 def cases(given):
     """Those of role_daemon, and those of tundelca."""
-    of_programs = [("role_daemon", *case) for case in CASES] + [("tundelca", *case) for case in slots.CASES]
+    of_programs = [("role_daemon", *case) for case in CASES]
+    of_programs += [("tundelca", *case) for case in slots.CASES + greedy.CASES]
     return [runner.Case(f"{name} {nodes}", lambda program=program, case=case, nodes=nodes: case(
         given.program(program), nodes)) for program, name, case, nodes in of_programs]
 

@@ -107,6 +107,8 @@ def odd_standings(well):
             {**well, "peers": [{**peer, "again": 1e18}, *well["peers"][1:]]}, {**well, "x": "x" * 66_000}]
     more += [{**well, "begun_twice": odd} for odd in (None, 0, 1, "true", [True])]
     more += [{**well, "f": odd} for odd in [*ODD, 2, True]]
+    more += [{**well, name: odd} for name in ("acts", "acts_share") for odd in [*ODD, 1 << 23, [1]] if odd is not None]
+    more += [{**well, "shares": odd} for odd in (None, 7, [], [1] * 3, [1] * 5, [1 << 21] * 4, [-1] * 4, ["1"] * 4)]
     more += [{**well, "journal": {**journal, name: odd}} for name in journal for odd in ODD]
     more += [{**well, "peers": [{**peer, name: odd}, *well["peers"][1:]]} for name in peer for odd in ODD]
     yield from (b"{}\n" if not lie else lie for lie in LINES)

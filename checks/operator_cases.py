@@ -81,8 +81,8 @@ def standing(program):
             judge(0 < journal["last"] <= journal["worst"] and 0 < journal["mean"] <= journal["worst"], f"{journal}")
             judge(len(status["peers"]) == NODES and status["peers"][1] is None, f"peers {status['peers']}")
             judge(all(peer["unopened"] == peer["lost"] == 0 for peer in status["peers"] if peer), str(status))
-            due = {"at": status["at"], "limit": LIMIT, "published": 0, "reaches": [10, 0, 0, 0], "sessions": 1,
-                   "unopened": 0}
+            due = {"acts": 1, "acts_share": 1_044_480, "at": status["at"], "limit": LIMIT, "published": 0,
+                   "reaches": [10, 0, 0, 0], "sessions": 1, "shares": [314_572, 0, 0, 0], "unopened": 0}
             judge({name: status[name] for name in due} == due, f"due {due}, came {status}")
             judge(owner.ask("status")["published"] == 10, "published")
             nodes.kill(3)
@@ -94,7 +94,7 @@ def standing(program):
         nodes.start_again(1)
         with nodes.client(1) as other:
             status = other.ask("status")
-            judge(status["at"] >= before and status["sessions"] == 1, f"after a start: {status}")
+            judge(status["at"] >= before and status["sessions"] == status["acts"] == 1, f"after a start: {status}")
             judge(other.ask("sessions", **{"from": 1})["sessions"] == [[session, 7]], "the session is open yet")
             wait_until(lambda: all(seen == (True, True) for seen in links(other).values()), "it hears all")
     return f"{journal['syncs']} syncs, {journal['mean']} microseconds each"

@@ -2,8 +2,9 @@
 """Makes the package, unpacks it into a scratch root, and runs a cluster from it: checks/package.py [CHECKOUT]
 
 CHECKOUT is where tundelca and role_lab were built, or these programs; this checkout if it is left out. Nothing is
-installed, no service manager is started and nothing runs as another user: the programs are started directly, with the
-words of the unit, which is otherwise judged by reading it.
+installed and no service manager is started: the programs are started directly, with the words of the unit, which is
+otherwise judged by reading it. In the case `accounts`, for root alone, numbers of nobody's accounts are the nodes', the
+gateway's and a third's.
 """
 import configparser
 import functools
@@ -14,19 +15,34 @@ import re
 import shutil
 import subprocess
 import sys
+import tempfile
 
 import runner
+import gateways
 from cluster import TOP, Cluster, tundelca
 from runner import Skipped, judge
 
 PATIENCE = 120  # seconds, for a program
 NODES, MAY_LIE = 4, 1
 HARDENED = {
-    "User": "tundelca", "UMask": "0077", "NoNewPrivileges": "yes", "ProtectSystem": "strict", "Restart": "on-failure",
+    "User": "tundelca", "UMask": "0077", "NoNewPrivileges": "yes", "ProtectSystem": "strict", "Restart": "always",
     "RestartPreventExitStatus": "2 3 6", "StateDirectory": "tundelca/%i", "StateDirectoryMode": "0700",
     "LimitCORE": "0", "SystemCallFilter": "@system-service", "SystemCallErrorNumber": "EPERM",
+    "Group": "tundelca-clients", "SupplementaryGroups": "tundelca", "RuntimeDirectory": "tundelca/%i",
+    "RuntimeDirectoryMode": "0750", "RuntimeDirectoryPreserve": "restart",
+    "RestrictAddressFamilies": "AF_INET AF_INET6 AF_UNIX",
 }
-SERVE = ["serve", "--cluster", "/etc/tundelca/%i.json", "--journal", "/var/lib/tundelca/%i/node.journal"]
+SERVE = ["serve", "--cluster", "/etc/tundelca/%i.json", "--journal", "/var/lib/tundelca/%i/node.journal", "--socket",
+         "/run/tundelca/%i/node.socket", "--no-port"]
+STOP = ["-/usr/bin/tundelca-ctl", "stop", "/run/tundelca/%i/node.socket"]
+GATEWAY = {
+    "User": "tundelca-gateway", "Group": "tundelca-gateway", "UMask": "0077", "NoNewPrivileges": "yes",
+    "ProtectSystem": "strict", "Restart": "on-failure", "RestartPreventExitStatus": "3", "IPAddressDeny": "any",
+    "IPAddressAllow": "localhost", "LimitCORE": "0", "SystemCallFilter": "@system-service",
+    "SupplementaryGroups": "tundelca-clients", "EnvironmentFile": "-/etc/tundelca-gateway/%i.environment",
+    "InaccessiblePaths": "-/etc/tundelca -/var/lib/tundelca",
+}
+DECIDE = ["${NODE}", "/etc/tundelca-gateway/%i.json", "--listen", "${LISTEN}"]
 MODULES = "usr/lib/python3/dist-packages"  # where Debian's Python looks by itself
 LIBC = {"libc.so.6", "libm.so.6", "libpthread.so.0", "ld-linux-x86-64.so.2", "linux-vdso.so.1"}
 
@@ -110,46 +126,95 @@ def manuals(one):
 
 
 def unit(one):
-    """The unit, by reading: its user, what it may not, when it is started again, and that what it starts is there."""
-    name = "usr/lib/systemd/system/tundelca@.service"
+    """The units, by reading: their users, what they may not, when they are started again, and that what they start is
+    there. The gateway's account is in no group that reads keys."""
+    counts = [read_unit(one, "tundelca@.service", HARDENED, SERVE, STOP),
+              read_unit(one, "tundelca-gateway@.service", GATEWAY, DECIDE, [])]
+    judge(os.access(one.path("usr/bin/tundelca-ctl"), os.X_OK), "tundelca-ctl is not in the package")
+    with open(os.path.join(one.control, "postinst"), encoding="utf-8") as file:
+        script = file.read()
+    for due in ("useradd --system --user-group --home-dir /nonexistent",
+                "chown root:tundelca-gateway /etc/tundelca-gateway"):
+        judge(due in script, f"postinst lacks {due}")
+    judge(not re.search(r"usermod|adduser|gpasswd", script), "postinst puts an account into a group")
+    for folder in ("etc/tundelca", "etc/tundelca-gateway"):
+        judge(os.stat(one.path(folder)).st_mode & 0o777 == 0o750, f"the mode of {folder}")
+    with open(os.path.join(one.control, "control"), encoding="utf-8") as file:
+        judge("Recommends: python3-tornado" in file.read(), "python3-tornado isn't recommended")
+    return f"{counts[0]} and {counts[1]} settings"
+
+
+def read_unit(one, unit_name, hardened, due, stop):
+    """Reads one unit. How many settings it has."""
+    name = f"usr/lib/systemd/system/{unit_name}"
     parts = configparser.ConfigParser(interpolation=None, comment_prefixes=("#",), delimiters=("=",))
     parts.optionxform = str
     parts.read_string(one.read(name).decode())
     service = parts["Service"]
-    for key, due in HARDENED.items():
-        judge(service.get(key) == due, f"{key} is {service.get(key)}")
-    words = service["ExecStart"].split()
+    for key, value in hardened.items():
+        judge(service.get(key) == value, f"{unit_name}: {key} is {service.get(key)}")
+    words = service["ExecStart"].replace("\\\n", " ").split()
     judge(os.access(one.path(words[0].lstrip("/")), os.X_OK), f"{words[0]} is not in the package")
-    judge(words[1:] == SERVE, f"the words are {words[1:]}")
+    judge(words[1:] == due, f"{unit_name}: the words are {words[1:]}")
+    judge(service.get("ExecStop", "").split() == stop, f"{unit_name}: ExecStop is {service.get('ExecStop')}")
     if shutil.which("systemd-analyze"):  # it reads the unit, and starts nothing
         ran = subprocess.run(["systemd-analyze", "verify", "--recursive-errors=no", "--man=no", one.path(name)],
                              capture_output=True, text=True, timeout=PATIENCE)
         told = [line for line in ran.stderr.splitlines() if "tundelca" in line and "not executable" not in line]
         judge(not told, "\n".join(told))
-        return f"{len(parts['Service'])} settings, read by systemd-analyze too"
-    return f"{len(parts['Service'])} settings"
+    return len(service)
+
+
+MADE = ["useradd --system --user-group --home-dir /var/lib/tundelca --no-create-home --shell /usr/sbin/nologin tundelca",
+        "useradd --system --user-group --home-dir /nonexistent --no-create-home --shell /usr/sbin/nologin "
+        "tundelca-gateway", "groupadd --system tundelca-clients"]
+SET = ["chown root:tundelca /etc/tundelca", "chmod 0750 /etc/tundelca",
+       "chown root:tundelca-gateway /etc/tundelca-gateway", "chmod 0750 /etc/tundelca-gateway"]
+
+
+def installed(one):
+    """What the package's script makes on a machine: the users and the group that aren't there. Nothing is made here:
+    the programs that it calls are stand-ins, which note their words."""
+    for is_there in (False, True):
+        with tempfile.TemporaryDirectory(prefix="tundelca-") as folder:
+            log = os.path.join(folder, "log")
+            for name in ("getent", "useradd", "groupadd", "chown", "chmod"):
+                path = os.path.join(folder, name)
+                with open(path, "w", encoding="ascii") as file:
+                    does = f"exit {0 if is_there else 2}" if name == "getent" else f'echo {name} "$@" >> {log}'
+                    file.write(f"#!/bin/sh\n{does}\n")
+                os.chmod(path, 0o755)
+            said("/bin/sh", os.path.join(one.control, "postinst"), "configure", env={"PATH": folder})
+            with open(log, encoding="ascii") as file:
+                came = file.read().splitlines()
+            judge(came == ([] if is_there else MADE) + SET, f"made were {came}")
+    with gzip.open(one.path("usr/share/doc/tundelca/NEWS.Debian.gz"), "rt", encoding="ascii") as file:
+        news = file.read()
+    judge(re.match(r"tundelca \([0-9.]+\) unstable; urgency=medium\n", news) and "port.conf" in news, news)
+    return "two users and a group, or none"
 
 
 ASKING = """
 import sys
 from tundelca import Client
-with Client(int(sys.argv[1])) as node:
+with Client(sys.argv[1]) as node:
     print(sys.modules["tundelca"].__file__, node.reach(owner=0))
 """
 
 
-def client(one, port, reach):
+def client(one, path, reach):
     """A program elsewhere that looks where Debian's Python does, and nowhere else of the package, finds the client."""
-    words = [sys.executable, "-c", ASKING, str(port)]
+    words = [sys.executable, "-c", ASKING, path]
     told = said(*words, cwd="/", env={**os.environ, "PYTHONPATH": one.path(MODULES), "PYTHONDONTWRITEBYTECODE": "1"})
     judge(told == f"{one.path(MODULES)}/tundelca.py {reach}\n", told)
 
 
 class Packaged(Cluster):
-    """Four nodes with journals whose program, files and journals lie as the package has them, in the scratch root."""
+    """Four nodes with journals whose program, files, journals and sockets lie as the package has them, in the scratch
+    root, or in a folder there. Their folders are made as systemd does it, and they have the unit's words."""
 
-    def __init__(self, one):
-        self.one, etc = one, one.path("etc/tundelca")
+    def __init__(self, one, folder=""):
+        self.one, self.top, etc = one, one.path(folder), os.path.join(one.path(folder), "etc/tundelca")
         ports = tundelca.free_ports(2 * NODES)
         files = one.run("tundelca-ctl", "files", etc, "--nodes", *ports[:NODES], "--clients", *ports[NODES:], "--roles",
                         "2=0", "--may-lie", MAY_LIE)
@@ -157,17 +222,22 @@ class Packaged(Cluster):
         paths = [os.path.join(etc, f"node{me}.json") for me in range(NODES)]
         for me in range(NODES):
             os.makedirs(os.path.dirname(self.journal(me)), 0o700)
-        super().__init__(one.path("usr/bin/tundelca"), paths=paths, has_journals=True, waits=True)
+            os.makedirs(os.path.dirname(self.socket_path(me)))
+            os.chmod(os.path.dirname(self.socket_path(me)), 0o750)
+        super().__init__(one.path("usr/bin/tundelca"), paths=paths, has_journals=True, waits=True, doors=("socket",))
+
+    def socket_path(self, me):
+        return os.path.join(self.top, "run/tundelca", str(me), "node.socket")
 
     def journal(self, me):
-        return os.path.join(self.one.path("var/lib/tundelca"), str(me), "node.journal")
+        return os.path.join(self.top, "var/lib/tundelca", str(me), "node.journal")
 
 
 def cluster(one):
     """Four nodes with journals and the tool, all from the scratch root; one is killed and started again."""
     os.umask(0o077)  # as in the unit
     with Packaged(one) as nodes:
-        clients = nodes.clients
+        clients = [nodes.socket_path(me) for me in range(NODES)]
         one.run("tundelca-ctl", "ask", clients[0], "assign", "user=7", "role=2")
         nodes.kill(3)
         one.run("tundelca-ctl", "ask", clients[0], "grant", "role=2", "operation=5", "object=9")
@@ -183,10 +253,78 @@ def cluster(one):
             mode = os.stat(path).st_mode & 0o777
             judge(mode & 0o077 == 0, f"{path} has mode {mode:o}")
         table = one.run("tundelca-ctl", "status", *clients, due=(0, 1))  # 1: something is to be seen to
-        judge(all(str(port) in table for port in clients), table)
-        statuses = [nodes.stop(me) for me in range(NODES)]
+        judge(all(path in table for path in clients), table)
+        for path in clients:
+            judge(os.stat(path).st_mode & 0o777 == 0o660, f"the mode of {path} is {os.stat(path).st_mode:o}")
+            one.run("tundelca-ctl", "stop", path)
+        statuses = [nodes.running[me].poll() for me in range(NODES)]  # `stop` has waited for their ends
         judge(statuses == [0] * NODES, f"statuses {statuses}")
-    return "four nodes, one killed and started again"
+        left = [path for path in clients if os.path.lexists(path)]
+        judge(not left, f"{left} are left")
+    return "four nodes, one killed and started again, stopped as by systemd"
+
+
+NODE, CLIENTS, THIRD = 61_001, 61_002, 61_003  # accounts of nobody: the nodes', their clients' group, a third
+
+
+class Accounts(Packaged):
+    """The same nodes under an account of their own, as the unit has it: with the clients' group."""
+
+    def __init__(self, one):
+        super().__init__(one, "accounts")
+
+    def start(self, me):
+        for name in ("", "etc", "etc/tundelca", "run", "run/tundelca", "var", "var/lib", "var/lib/tundelca"):
+            os.chmod(os.path.join(self.top, name), 0o711)
+        for path, group, mode in ((self.paths[me], NODE, 0o600), (os.path.dirname(self.journal(me)), NODE, 0o700),
+                                  (self.journal(me), NODE, 0o600), (self.journal(me) + "-wal", NODE, 0o600),
+                                  (os.path.dirname(self.socket_path(me)), CLIENTS, 0o750)):
+            os.chown(path, NODE, group)
+            os.chmod(path, mode)
+        super().start(me)
+
+    def settings(self, me):
+        return {**super().settings(me), "user": NODE, "group": CLIENTS, "extra_groups": [NODE]}
+
+    def door(self, me):
+        return tundelca.door(self.socket_path(me), NODE)
+
+
+def accounts(one):
+    """What the package's tool says to the nodes' account, to one of their clients' group, and to a third."""
+    if os.geteuid() != 0 or not os.path.exists("/usr/bin/python3"):
+        raise Skipped("only root may act for other accounts, and they need Debian's Python")
+    for folder in (one.root, os.path.dirname(one.root), os.path.dirname(os.path.dirname(one.root))):
+        os.chmod(folder, 0o711)
+    with Accounts(one) as nodes:
+        path, words = nodes.socket_path(0), ["--owner", str(NODE)]
+
+        def ctl(due, account, groups, *said):
+            ran = subprocess.run([one.path("usr/bin/tundelca-ctl"), *said], stdout=subprocess.PIPE,
+                                 stderr=subprocess.STDOUT, text=True, timeout=PATIENCE, user=account, group=account,
+                                 extra_groups=groups, env={"PATH": "/usr/bin:/bin"}, cwd="/")
+            judge(ran.returncode == due, f"{account} {groups} {said}: {ran.returncode} {ran.stdout}")
+            return ran.stdout
+
+        ctl(0, NODE, [], "ask", path, "reach", "owner=0")
+        ctl(0, THIRD, [CLIENTS], "ask", path, "assign", "user=7", "role=2", *words)
+        judge(f"account {NODE}" in ctl(2, THIRD, [CLIENTS], "ask", path, "stop"), "a stranger's node is believed")
+        judge("Permission denied" in ctl(2, THIRD, [], "ask", path, "stop", *words), "a third is let in")
+        judge("Permission denied" in ctl(2, THIRD, [], "stop", path, *words), "a third is let in")
+        ctl(3, THIRD, [CLIENTS], "check", nodes.paths[0])  # who may ask doesn't read the keys
+        for me in range(NODES):
+            ctl(0, THIRD, [CLIENTS], "stop", nodes.socket_path(me), *words)
+        statuses = [nodes.running[me].poll() for me in range(NODES)]
+        judge(statuses == [0] * NODES, f"statuses {statuses}")
+    return "the owner, the gateway's account, a third"
+
+
+def gateway(one):
+    """A trial out of the package: four nodes, and the gateway before one of them."""
+    gateways.expect_tornado()
+    told = one.run("tundelca-ctl", "try", "--once")
+    judge('"decision": true' in told and '"decision": false' in told, told)
+    return re.search(r"its first answer came after [\d.]+ s", told).group(0)
 
 
 def cases(given):
@@ -199,7 +337,7 @@ def cases(given):
         return Unpacked(given.new_folder(), given.program("tundelca"), given.program("role_lab"))
 
     return [runner.Case(part.__name__, lambda part=part: part(unpacked()))
-            for part in (checksums, programs, manuals, unit, cluster)]
+            for part in (checksums, programs, manuals, installed, unit, cluster, accounts, gateway)]
 
 
 if __name__ == "__main__":

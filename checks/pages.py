@@ -45,7 +45,7 @@ WITH_LOGIC = ("README.md", "docs/PROOFS.md", "docs/CONTRIBUTING.md", "crates/tun
 TRIALS = ("row_lab", "serving_tests", "workloads")  # programs that only try or time others
 ASIDE = {  # what says nothing to the compiler, by a file's ending
     ".rt": r'//[^\n]*|"(?:[^"\\\n]|\\.)*"', ".c": r'//[^\n]*|"(?:[^"\\\n]|\\.)*"', ".antt": r"--[^\n]*",
-    ".py": r'(?s)""".*?"""|#[^\n]*|"(?:[^"\\\n]|\\.)*"',
+    ".py": r'(?s)""".*?"""|#[^\n]*|"(?:[^"\\\n]|\\.)*"', ".service": r"#[^\n]*",
 }
 
 

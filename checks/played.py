@@ -4,6 +4,7 @@ For the trials of tools (tools_tried.py). What is published at a played node is 
 """
 import contextlib
 import json
+import os
 import socket
 import socketserver
 import threading
@@ -12,15 +13,18 @@ import time
 import tundelca
 
 SIZE = 100  # of a page of sessions
+ACTS_SHARE = 1_044_480  # of the clients of a node
 
 
 class Played:
-    """A cluster whose nodes a script plays. Role r belongs to node `owners[r]`."""
+    """A cluster whose nodes a script plays, at these ports, or sockets' paths. Role r belongs to node `owners[r]`."""
 
-    def __init__(self, ports, owners):
-        self.streams = [[] for _ in ports]
+    def __init__(self, doors, owners):
+        self.streams = [[] for _ in doors]
         self.lock, self.owners = threading.Lock(), owners
-        self.nodes = [Node(self, me, port) for me, port in enumerate(ports)]
+        each = tundelca.places_each(list(owners.items()), len(doors))
+        self.shares = [each if me in owners.values() else 0 for me in range(len(doors))]
+        self.nodes = [Node(self, me, door) for me, door in enumerate(doors)]
 
     def __enter__(self):
         return self
@@ -34,7 +38,8 @@ class Played:
 
 
 class Node:
-    """A played node. `lacks` commands of each owner it hasn't; `changed` are members of its status that it says so.
+    """A played node, at a port or a socket's path. `lacks` commands of each owner it hasn't; `changed` are members of
+    its status that it says so.
 
     Where `mute`, it takes lines and answers none; `garbage` is said in place of each answer; `drips` is how many
     seconds go by before each byte of an answer. `lies` are for an operation what is said in place of its answer: bytes,
@@ -42,8 +47,8 @@ class Node:
     """
 
     def __init__(self, cluster, me, port):
-        self.cluster, self.me, self.port = cluster, me, port
-        self.lacks, self.changed, self.sessions, self.newest = {}, {}, {}, 0
+        self.cluster, self.me, self.port, is_port = cluster, me, port, isinstance(port, int)
+        self.lacks, self.changed, self.sessions, self.newest, self.acts = {}, {}, {}, 0, 0
         self.mute, self.garbage, self.drips, self.connections, self.lies = False, None, None, [], {}
         node = self
 
@@ -60,19 +65,26 @@ class Node:
                         time.sleep(node.drips)
                         self.wfile.write(bytes([byte]))
 
-        class Server(socketserver.ThreadingTCPServer):
+        class Server(socketserver.ThreadingTCPServer if is_port else socketserver.ThreadingUnixStreamServer):
             allow_reuse_address, daemon_threads = True, True
 
             def handle_error(self, *_):
                 pass
 
-        self.server = Server((tundelca.LOOPBACK, port), Handler)
+        self.server = Server((tundelca.LOOPBACK, port) if is_port else port, Handler)
         threading.Thread(target=self.server.serve_forever, kwargs={"poll_interval": 0.02}, daemon=True).start()
 
     def end(self):
         """Ends it, and all its connections."""
         self.server.shutdown()
         self.server.server_close()
+        self.hang_up()
+        if not isinstance(self.port, int):
+            with contextlib.suppress(OSError):
+                os.unlink(self.port)
+
+    def hang_up(self):
+        """Ends all its connections."""
         for connection in self.connections:
             with contextlib.suppress(OSError):
                 connection.shutdown(socket.SHUT_RDWR)
@@ -108,7 +120,8 @@ class Node:
     def on_status(self, _):
         count = len(self.cluster.nodes)
         peer = {"again": 0, "connected": True, "heard": True, "lost": 0, "unopened": 0, "waiting": 0}
-        said = {"at": sum(map(len, self.cluster.streams)) * (2 * count + 1), "journal": None, "limit": 4_194_304,
+        said = {"acts": self.acts, "acts_share": ACTS_SHARE, "shares": self.cluster.shares,
+                "at": sum(map(len, self.cluster.streams)) * (2 * count + 1), "journal": None, "limit": 4_194_304,
                 "peers": [None if name == self.me else dict(peer) for name in range(count)],
                 "published": len(self.cluster.streams[self.me]), "reaches": [self.reach(o) for o in range(count)],
                 "sessions": len(self.sessions), "unopened": 0}
@@ -140,7 +153,7 @@ class Node:
         return {"at": 1, "sessions": [list(pair) for pair in found[:SIZE]]}
 
     def on_open(self, asked):
-        self.newest += 1
+        self.newest, self.acts = self.newest + 1, self.acts + 1
         self.sessions[self.newest] = asked["user"]
         return {"session": self.newest}
 
@@ -148,6 +161,7 @@ class Node:
         if self.sessions.get(asked["session"]) != asked["user"]:
             return {"error": "N1 NoSession"}
         del self.sessions[asked["session"]]
+        self.acts += 1
         return {"done": True}
 
     def on_assigned_users(self, asked):

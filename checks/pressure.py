@@ -12,6 +12,7 @@ import time
 from statistics import median
 
 import client_pressure
+import node_trials
 import runner
 from cluster import ECHO, FRAME, PATIENCE, SEND, Cluster, assign, flood
 from loads import Load
@@ -323,7 +324,7 @@ CASES = [
     older_connection_runs_to_its_end, newcomers_shut_nobody_out, garbage_slows_little,
     client_pressure.listings_that_nobody_reads, client_pressure.listings_hold_up_nobody,
     client_pressure.a_connection_for_each_question, client_pressure.sixteen_idle_clients,
-    client_pressure.deaf_client_is_given_up, client_pressure.http_request_is_answered_once]
+    client_pressure.deaf_client_is_given_up, client_pressure.http_request_is_answered_once, *node_trials.CASES]
 
 
 def cases(given):

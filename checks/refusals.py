@@ -33,8 +33,8 @@ TESTED = {
         "node_lock_tests",
         ["a_pool_ends_well_or_wants_memory", "an_inbox_gives_back_what_is_left"],
     ),
-    "role_lab": ("role_lab", "tests", ["a_script_ends_well_or_wants_memory"]),
 }
+FOUR = "examples/lab/four_correct_nodes"  # a script of a cluster, beside the stored one of an instance
 SERVED = ["memory", "thread", "socket", "listen", "accept", "connect", "poll", "option", "read", "write"]
 SOON = 5  # seconds: a node ends within one of `stop`, on a machine that isn't busy
 MOST_RUNS = 20_000
@@ -124,12 +124,14 @@ def sweep_rows(refuser, path):
     return f"{told(refusals + 1, refusals)}, {ended[1]} ended while reading"
 
 
-def sweep_program(refuser, crate):
+def read_bytes(path):
+    with open(path, "rb") as file:
+        return file.read()
+
+
+def sweep_program(refuser, crate, given, due):
     program, ended = refuser.given.program(crate), {0: 0, 5: 0}
-    with open(os.path.join(TOP, "crates", crate, "stdin"), "rb") as file:
-        given = file.read()
-    with open(os.path.join(TOP, "crates", crate, "stdout"), "rb") as file:
-        due = file.read()
+    given, due = (read_bytes(os.path.join(TOP, name)) for name in (given, due))
 
     def run(kind, at):
         ran = refuser.run([program], kind, at, given)
@@ -289,7 +291,9 @@ def cases(given):
 
     return [*(case(f"tests of {crate}", sweep_tests, crate) for crate in TESTED),
             *(case(rows.named(path), sweep_rows, path) for path in filter(rows.has_memory, rows.files())),
-            *(case(crate, sweep_program, crate) for crate in ("role_lab", "role_daemon")),
+            *(case(crate, sweep_program, crate, f"crates/{crate}/stdin", f"crates/{crate}/stdout")
+              for crate in ("role_lab", "role_daemon")),
+            case("role_lab, four nodes", sweep_program, "role_lab", FOUR, f"{FOUR}.stdout"),
             *(case(f"serve, {kind}", sweep_serve, kind) for kind in SERVED),
             *(case(f"serve, {kind}, all lines at once", sweep_serve, kind, at_once=True)
               for kind in ("memory", "write")),

@@ -25,7 +25,7 @@ def states_are_told():
             ({}, READY, READY, "4 of 4 nodes answer"),
             ({"lacks": {0: 100}}, BEHIND, BEHIND, "node 3 is 100 commands behind (of owner 0 it has 200 of 300)"),
             ({"changed": {"at": 4_194_304}}, BEHIND, BEHIND, "node 3 has a full history"),
-            ({"changed": {"at": 4_000_000}}, READY, BEHIND, "node 3 has used 95 % of its life span"),
+            ({"changed": {"at": 4_000_000}}, READY, BEHIND, "node 3 has recorded 95 % of what it can"),
             ({"changed": {"journal": journal}}, BEHIND, BEHIND, "node 3 can't write its journal"),
             ({"changed": {"peers": deaf}}, BEHIND, BEHIND, "node 3 hears 0 of its 3 peers, too few"),
             ({"changed": {"peers": alone}}, READY, BEHIND, "node 3 hears and reaches 1 of its 3 peers, too few"),
@@ -149,7 +149,7 @@ def changes_are_told():
         def stands_still(lacks, now):
             """What is told of it at this time, where it lacks so many commands."""
             last.lacks = {0: lacks}
-            seen = [nodes.Seen(nodes.Named(node.port), nodes.standing_of(node.on_status(None)))
+            seen = [nodes.Seen(nodes.Named(tundelca.door(node.port)), nodes.standing_of(node.on_status(None)))
                     for node in cluster.nodes]
             return [found.text for found in looks.sight(seen, 1, now).changes]
 

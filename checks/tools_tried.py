@@ -16,6 +16,7 @@ import client_tried
 import lies_told
 import played
 import runner
+import shares_tried
 import standings_tried
 from cluster import Cluster, tundelca
 from runner import judge, wait_until
@@ -24,8 +25,8 @@ from tool_runs import (
     serving, tool)
 
 PAIRS = 5_000  # that are published, kept and published anew
-COMMANDS = ["status", "health", "metrics", "board", "ask", "stream", "diff", "publish", "sessions", "lab", "key",
-            "file", "files", "check", "begin-anew"]
+COMMANDS = ["try", "policy", "status", "health", "metrics", "board", "ask", "stream", "diff", "publish", "sessions",
+            "stop", "lab", "key", "file", "files", "check", "begin-anew"]
 
 
 def words_are_told():
@@ -181,7 +182,7 @@ def files_fit_together():
             judge(all(prints[min(me, you), max(me, you)] in said for you in range(NODES) if you != me), said)
             judge(os.stat(path("node", me)).st_mode & 0o777 == 0o600, "others may read it")
         paths = [path("node", me) for me in range(NODES)]
-        tool("check", *paths)
+        judge("165,564 places for 2 owners each" in tool("check", *paths), "it doesn't say how many places there are")
         tool("file", path("new"), "--like", paths[0], "--cluster", 6, status=WRONG)  # keys are wanted anew
         tool("file", path("new"), "--like", paths[0], "--client", clients[1])
         judge("both of node 0" in tool("check", paths[0], path("new"), status=BEHIND), "fits")
@@ -302,6 +303,7 @@ def cases(given):
     tried = [
         ("tools: words", words_are_told),
         *standings_tried.trials(),
+        *shares_tried.trials(),
         ("tools: colours, --watch", colours_are_for_terminals),
         ("tools: stream, diff", streams_are_read),
         ("tools: sessions", sessions_are_closed),

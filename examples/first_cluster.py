@@ -12,6 +12,7 @@ cluster stands for N seconds, or until Ctrl-C, to be tried by hand.
 """
 import argparse
 import contextlib
+import hashlib
 import json
 import os
 import shutil
@@ -19,22 +20,22 @@ import signal
 import subprocess
 import sys
 import time
-import urllib.error
-import urllib.request
 
 import built
 import cluster
+import gateways
 import tundelca
+from ctl.trial import Shown
 
 CORRECT, LIAR, MAY_LIE = range(3), 3, 1
 PORTS = 7_300  # of nodes; those for clients are 100 above, and the gateway's 200
 ROLES = [(2, 0), (3, LIAR)]
 COMMANDS = [{"op": "assign", "user": 7, "role": 2}, {"op": "grant", "role": 2, "operation": 5, "object": 9}]
-TABLE = {
-    "tokens": {"secret": "alice", "hidden": "mallory"}, "users": {"alice": 7, "mallory": 666},
-    "roles": {"editor": 2}, "owners": {"editor": 0},
-    "operations": {"write": 5, "erase": 6}, "objects": {"report": 9},
-    "accepted": {"report": [0]}, "may_lie": MAY_LIE,
+TOKEN = "secret"
+POLICY = {
+    "subjects": {"user": {"alice": 7, "bob": 8, "mallory": 666}}, "roles": {"editor": 2},
+    "types": {"record": {"owner": 0, "ids": [1, 1000], "actions": {"read": 5, "write": 6}}},
+    "callers": {"you": [hashlib.sha256(TOKEN.encode()).hexdigest()]},
 }
 BUILD = 600  # seconds that building may take
 
@@ -70,11 +71,11 @@ class Cluster(cluster.Cluster):
         return os.path.join(self.folder.name, name + ".said")
 
     def start_beside(self, name, *words):
-        """Starts a program of examples/ beside the nodes."""
+        """Starts a program beside the nodes."""
         with open(self.said(name), "wb") as file:
             self.beside[name] = subprocess.Popen(
-                [sys.executable, *map(str, words)], cwd=os.path.join(built.TOP, "examples"), stdin=subprocess.DEVNULL,
-                stdout=file, stderr=file, start_new_session=True)
+                list(map(str, words)), cwd=os.path.join(built.TOP, "examples"), stdin=subprocess.DEVNULL, stdout=file,
+                stderr=file, start_new_session=True)
 
     def processes(self):
         """All that runs, by name."""
@@ -94,16 +95,6 @@ class Cluster(cluster.Cluster):
         """What a program has said."""
         with open(self.said(name), encoding="utf-8", errors="replace") as file:
             return file.read().strip()
-
-    def post(self, token, path, body):
-        """The gateway's answer."""
-        request = urllib.request.Request(f"http://{tundelca.LOOPBACK}:{self.gateway}{path}", json.dumps(body).encode(),
-                                         {"Authorization": f"Bearer {token}"})
-        try:
-            with urllib.request.urlopen(request, timeout=10) as answer:
-                return answer.read().decode()
-        except urllib.error.HTTPError as error:
-            return error.read().decode()
 
     def stop_all(self):
         """Stops what runs. Of each its name, its program's status, and the last line that it said."""
@@ -131,7 +122,7 @@ def show(shown):
         print("rt try compiles tundelca thrice, without a proof: two to three minutes on an idle machine", flush=True)
     for node in CORRECT:
         shown.start(node)
-    shown.start_beside("liar", "liar.py", shown.paths[LIAR])
+    shown.start_beside("liar", sys.executable, "liar.py", shown.paths[LIAR])
     for node in CORRECT:
         shown.wait_for(f"node {node}", shown.clients[node], BUILD)
     took = time.monotonic() - begun
@@ -142,20 +133,25 @@ def show(shown):
     for node in CORRECT:
         with shown.client(node) as client:
             print(f"node {node}: role 2 is of the users", client.listing("assigned_users", role=2), flush=True)
-    table = os.path.join(shown.folder.name, "table.json")
-    with open(table, "w", encoding="ascii") as file:
-        json.dump(TABLE, file)
-    shown.start_beside("gateway", "gateway.py", shown.clients[2], shown.gateway, table)
+    if gateways.has_tornado():
+        show_gateway(shown)
+    else:
+        print(f"no gateway is shown, which wants tornado for {gateways.PYTHON}: apt-get install python3-tornado")
+
+
+def show_gateway(shown):
+    """Starts the gateway before node 2, and shows what it answers: mallory is user 666, of whom the liar speaks."""
+    policy = os.path.join(shown.folder.name, "policy.json")
+    tundelca.write_secret(policy, json.dumps(POLICY))
+    listen = f"{tundelca.LOOPBACK}:{shown.gateway}"
+    shown.start_beside("gateway", gateways.TOOL, shown.clients[2], policy, "--listen", listen)
     shown.wait_for("gateway", shown.gateway, 20)
-    for token, path, body in [
-        ("secret", "/login", {"roles": ["editor"]}),
-        ("secret", "/check", {"operation": "write", "object": "report"}),
-        ("secret", "/check", {"operation": "erase", "object": "report"}),
-        ("hidden", "/login", {"roles": ["editor"]}),
-    ]:
-        body = json.dumps(body)
-        print(f"curl -d '{body}' -H 'Authorization: Bearer {token}' {tundelca.LOOPBACK}:{shown.gateway}{path}")
-        print(f"    {shown.post(token, path, json.loads(body))}", flush=True)
+    asked = Shown(shown.gateway, TOKEN)
+    over = time.monotonic() + 20
+    while asked.ask("alice")[0] != 200 and time.monotonic() < over:
+        time.sleep(0.1)
+    for subject in ("alice", "bob", "mallory"):
+        asked.show(subject)
 
 
 def main():

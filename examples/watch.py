@@ -1,8 +1,9 @@
 #!/usr/bin/env python3
-"""How far nodes are, by the client library: python3 examples/watch.py [--every SECONDS] PORT..
+"""How far nodes are, by the client library: python3 examples/watch.py [--every SECONDS] NODE..
 
-A row for each client port: how many commands of each owner the node has delivered, with its distance where another is
-further, and its history's length; dashes where it doesn't answer. `tools/tundelca_ctl.py status` says more.
+A row for each node, which is named by its client port, its socket's path or its cluster file: how many commands of each
+owner the node has delivered, with its distance where another is further, and its history's length; dashes where it
+doesn't answer. `tools/tundelca_ctl.py status` says more.
 """
 import argparse
 import sys
@@ -12,18 +13,18 @@ import built  # noqa: F401  before what lies in tools/
 import tundelca
 
 
-def seen(port):
+def seen(door):
     """The reach of each owner at the node, and the length of its history; None where it doesn't answer."""
     try:
-        with tundelca.Client(port, patience=2.0) as node:
+        with tundelca.Client(door, patience=2.0) as node:
             return node.reaches(), node.length()
     except tundelca.Unreachable:
         return None
 
 
-def look(ports):
+def look(doors):
     """Prints the table. Whether all nodes answer."""
-    nodes = {port: seen(port) for port in ports}
+    nodes = {door.short(): seen(door) for door in doors}
     reaches = [node[0] for node in nodes.values() if node]
     most = [max(column) for column in zip(*reaches)]
     print("  ".join([f"{'port':>6}", *(f"{f'owner {owner}':>14}" for owner in range(len(most))), f"{'history':>10}"]))
@@ -39,13 +40,13 @@ def look(ports):
 def main():
     parser = argparse.ArgumentParser(description=__doc__, formatter_class=argparse.RawDescriptionHelpFormatter)
     parser.add_argument("--every", type=float, metavar="SECONDS", help="look again after so many seconds, for ever")
-    parser.add_argument("ports", nargs="+", type=int, metavar="PORT", help="the client port of a node")
+    parser.add_argument("nodes", nargs="+", type=tundelca.door, metavar="NODE", help="a port, a path or a file")
     words = parser.parse_args()
-    is_well = look(words.ports)
+    is_well = look(words.nodes)
     while words.every is not None:
         time.sleep(words.every)
         print(flush=True)
-        look(words.ports)
+        look(words.nodes)
     sys.exit(0 if is_well else 2)
 
 

@@ -4,8 +4,9 @@
     packaging/deb.py [--to FOLDER] [TUNDELCA ROLE_LAB]
 
 The programs are those of crates/tundelca/out and crates/role_lab/out where none are named. Beside them come the tool
-tundelca-ctl, the unit tundelca@.service, man pages made from docs/, the licences of the kit's crates that are in the
-programs, and what was built from what. The same commit, programs and Python make the same package, byte for byte.
+tundelca-ctl, the gateway, their units, man pages made from docs/, what an upgrade changes (NEWS), the licences of the
+kit's crates that are in the programs, and what was built from what. The same commit, programs and Python make the same
+package, byte for byte.
 
 A licence of Tundelca itself is its owner's to choose: a file LICENSE at the top of the repository becomes the package's
 copyright file. Needs Python 3.9 and dpkg-deb.
@@ -28,8 +29,12 @@ import manual  # noqa: E402
 HERE = os.path.dirname(os.path.abspath(__file__))
 TOP = os.path.dirname(HERE)
 NAME, PROGRAMS = "tundelca", ("tundelca", "role_lab")
+STARTED = {"tundelca_ctl.py": "tundelca-ctl", "tundelca_gateway.py": "tundelca-gateway"}  # tools by their commands
+ETC = (NAME, "tundelca-gateway")  # folders of what nodes and the gateway are told
+UNITS = ("tundelca@.service", "tundelca-gateway@.service")
 PAGES = {  # of docs/: the man page and its section, and what it is about
     "OPERATIONS.md": ("tundelca", 8, "run nodes of a role registry that tolerates lying nodes"),
+    "DECIDING.md": ("tundelca-gateway", 8, "a decision point before a node, asked over HTTP"),
     "CLIENTS.md": ("tundelca-clients", 7, "what a service says to a node, and cluster files"),
     "ACCESS.md": ("tundelca-access", 7, "the rules of access"),
     "PROTOCOL.md": ("tundelca-protocol", 7, "how nodes agree"),
@@ -86,14 +91,15 @@ def libc_of(programs):
 
 
 def put_tools(root):
-    """The operator's tool, the client that it uses, and a gateway to begin from."""
+    """The operator's tool, the client that it uses, and the gateway."""
     tools = os.path.join(TOP, "tools")
     for path in sorted(glob.glob(os.path.join(tools, "**", "*"), recursive=True)):
         if os.path.isfile(path) and "__pycache__" not in path:
             name = os.path.relpath(path, tools)
-            put(root, f"usr/lib/tundelca/{name}", read(path), 0o755 if name == "tundelca_ctl.py" else 0o644)
-    put(root, f"usr/share/doc/{NAME}/examples/gateway.py", read(os.path.join(TOP, "examples", "gateway.py")))
-    os.symlink("../lib/tundelca/tundelca_ctl.py", os.path.join(root, "usr/bin/tundelca-ctl"))
+            put(root, f"usr/lib/tundelca/{name}", read(path), 0o755 if name in STARTED else 0o644)
+    put(root, f"usr/share/doc/{NAME}/NEWS.Debian.gz", gzip.compress(read(os.path.join(HERE, "NEWS")), 9, mtime=0))
+    for name, command in STARTED.items():
+        os.symlink(f"../lib/tundelca/{name}", os.path.join(root, "usr/bin", command))
     modules = os.path.join(root, "usr/lib/python3/dist-packages")  # where Debian's Python finds `import tundelca`
     os.makedirs(modules)
     os.symlink("../../tundelca/tundelca.py", os.path.join(modules, "tundelca.py"))
@@ -166,6 +172,7 @@ Section: net
 Priority: optional
 Architecture: amd64
 Depends: libc6 (>= {libc_of(programs.values())}), python3 (>= 3.9), passwd
+Recommends: python3-tornado (>= 6.1)
 Maintainer: {maintainer} <{address}>
 Installed-Size: {size}
 Description: {DESCRIPTION}
@@ -188,20 +195,23 @@ def main():
     moment = said("git", "-C", TOP, "log", "-1", "--format=%ct")
     date = time.strftime("%Y-%m-%d", time.gmtime(int(moment)))
     package = os.path.abspath(os.path.join(given.to, f"{NAME}_{version}_amd64.deb"))
-    with tempfile.TemporaryDirectory(prefix="tundelca-") as folder:
-        root = os.path.join(folder, "root")
+    with tempfile.TemporaryDirectory(prefix="tundelca-") as scratch:
+        root = os.path.join(scratch, "root")
         for name, path in programs.items():
             put(root, f"usr/bin/{name}", read(path), 0o755)
         put_tools(root)
-        put(root, "usr/lib/systemd/system/tundelca@.service", read(os.path.join(HERE, "tundelca@.service")))
+        for unit in UNITS:
+            put(root, f"usr/lib/systemd/system/{unit}", read(os.path.join(HERE, unit)))
         put_manuals(root, version, date)
         put_licences(root)
         put_built(root, told, programs)
-        os.makedirs(os.path.join(root, "etc", NAME))
+        for folder in ETC:
+            os.makedirs(os.path.join(root, "etc", folder))
         put_control(root, version, programs)
         for path, folders, _ in os.walk(root):
             os.chmod(path, 0o755)
-        os.chmod(os.path.join(root, "etc", NAME), 0o750)
+        for folder in ETC:
+            os.chmod(os.path.join(root, "etc", folder), 0o750)
         environment = {**os.environ, "SOURCE_DATE_EPOCH": moment}
         said("dpkg-deb", "--root-owner-group", "-Zxz", "--build", root, package, env=environment)
     with open(package + ".sha256", "w", encoding="ascii") as file:

@@ -9,8 +9,9 @@
         print(node.publish(commands, owner=0, others=[7401, 7402, 7403], may_lie=1))
 
 One file, and nothing beside Python 3.9 and its standard library. As a program it is `tundelca_ctl.py` beside it. A node
-hears lines of JSON at its client port, one answer for each, and whoever reaches that port may say anything in any
-user's name: keep it behind a service of yours that knows its users (examples/gateway.py).
+hears lines of JSON at its door, a port of this machine or a Unix socket, one answer for each, and whoever reaches that
+door may say anything in any user's name: keep it behind what knows your users, as tundelca_gateway.py does.
+Wherever a node is named here, that is by what `door` takes: a port, a socket's path, `@NAME`, a cluster file.
 
 A node may lie. Each answer is read up to a bound (`LONGEST`) and held against a form (`FORMS`), by `read_answer` alone;
 what doesn't fit is an `Unfit`, and ends the connection. A line that nodes learn to answer gets its row in both.
@@ -23,22 +24,27 @@ import itertools
 import json
 import operator
 import os
+import pwd
 import random
 import re
 import secrets
 import select
 import socket
+import stat
+import struct
 import subprocess
 import threading
 import time
-from dataclasses import dataclass
-from typing import Optional
+from dataclasses import dataclass, replace
+from typing import Optional, Union
 
 LOOPBACK = "127.0.0.1"
+RUN, ETC = "/run/tundelca", "/etc/tundelca"  # where the package's nodes have their sockets and their cluster files
 PUBLISHED = ("assign", "deassign", "grant", "revoke", "clear")
 NODES = 128  # at most
 PLACES = 1_048_576  # of a stream
 EVENTS = 4_194_304  # of a node's history, at most
+OF_OWNERS = 3_145_728  # of these, for what owners publish
 SESSIONS, PAGE, ACTIVE = 4_096, 100, 64  # open at a node, told at once, active roles of one: at most
 ASKED, A_LINE = 128, 100  # accesses that a line may ask about, and about which `decide_all` asks in one
 ITEMS = 1_048_576  # of all listings of a node together: it has no room for more commands
@@ -61,12 +67,210 @@ class Unreachable(NodeFault):
     """Nobody listens, the connection was closed, or no answer came in time. Whether the line was obeyed isn't known."""
 
 
+def kind_of(error):
+    """The fault of a connection: whether it has come to its end, or is given up."""
+    return Ended if isinstance(error, ConnectionError) else Unreachable
+
+
 class Unfit(Unreachable):
     """A node answered what no node says: another program is there, or one that lies."""
 
-    def __init__(self, port, request, line):
+    def __init__(self, at, request, line):
         shown = line if len(line) <= SHOWN else line[:SHOWN] + ".."
-        super().__init__(f"a node answers what no node says: port {port}, to {json.dumps(request)}: {shown!a}")
+        super().__init__(f"a node answers what no node says: {at}, to {json.dumps(request)}: {shown!a}")
+
+
+class Ended(Unreachable):
+    """The connection came to its end before an answer: the node closed it, or has ended."""
+
+
+class Stranger(Unreachable):
+    """Another account listens at a socket than may: what it answers would be no node's word. Nothing was sent."""
+
+    def __init__(self, at, account, expected):
+        super().__init__(f"at {at} listens {named_account(account)}, where {' or '.join(expected)} may: nothing was "
+                         f"sent. If the node runs as {named_account(account)}, allow it (--owner)")
+
+
+def named_account(number):
+    """An account as a person knows it, with its number."""
+    try:
+        return f"{pwd.getpwuid(number).pw_name} ({number})"
+    except KeyError:
+        return f"account {number}"
+
+
+def account_of(word):
+    """The number of an account that is named, or given by its number. A ValueError where there is none."""
+    if word.isdecimal():
+        return int(word)
+    try:
+        return pwd.getpwnam(word).pw_uid
+    except KeyError:
+        raise ValueError(f"{word} is no account of this machine") from None
+
+
+def place_of(address):
+    """A port or a path, in words."""
+    return f"port {address}" if isinstance(address, int) else f"socket {address}"
+
+
+@dataclass(frozen=True)
+class Door:
+    """Where a node takes lines: the port `address` of this machine, or the Unix socket at the path `address`.
+
+    At a port any program may listen. At a socket the system tells who does: that has to be the account of this program,
+    root or `tundelca`, or the account with the number `owner`; else a connection is refused as a `Stranger`.
+    """
+
+    address: Union[int, str]
+    owner: Optional[int] = None
+
+    PEER = struct.Struct("iII")  # what the system tells of who listens: process, account, group
+
+    def __str__(self):
+        return place_of(self.address)
+
+    def is_port(self):
+        return isinstance(self.address, int)
+
+    def short(self):
+        """As one would name it: 7400, @0 or a path."""
+        of_package = re.fullmatch(re.escape(RUN) + r"/([^/]+)/node\.socket", str(self.address))
+        return str(self.address) if of_package is None else f"@{of_package.group(1)}"
+
+    def connect(self, patience):
+        """A connection, and in it what comes within so many seconds each time. An OSError, or a `Stranger`."""
+        if self.is_port():
+            link = socket.create_connection((LOOPBACK, self.address), timeout=patience)
+            link.setsockopt(socket.IPPROTO_TCP, socket.TCP_NODELAY, 1)
+            return link
+        link, end = socket.socket(socket.AF_UNIX), time.monotonic() + patience
+        try:
+            link.settimeout(patience)
+            while not self.reaches(link):
+                if time.monotonic() > end:
+                    raise socket.timeout
+                time.sleep(0.005)
+            self.judge(link)
+        except BaseException:
+            link.close()
+            raise
+        return link
+
+    def reaches(self, link):
+        """Whether the socket at the path takes the connection now; it doesn't while too many wait there."""
+        try:
+            link.connect(self.address)
+            return True
+        except BlockingIOError:
+            return False
+
+    def begin(self):
+        """A connection that never waits, and may not stand yet. An OSError, or a `Stranger`."""
+        link = socket.socket() if self.is_port() else socket.socket(socket.AF_UNIX)
+        try:
+            link.setblocking(False)
+            if self.is_port():
+                link.connect_ex((LOOPBACK, self.address))
+            else:
+                link.connect(self.address)
+                self.judge(link)
+        except BaseException:
+            link.close()
+            raise
+        return link
+
+    def judge(self, link):
+        """Raises a `Stranger` where another account listens than may."""
+        account = self.listener(link)[1]
+        if account in (os.geteuid(), 0, self.owner):
+            return
+        with contextlib.suppress(ValueError):
+            if account == account_of("tundelca"):
+                return
+        expected = ["root", "tundelca", *map(named_account, {os.geteuid(), self.owner} - {0, None})]
+        raise Stranger(self, account, expected)
+
+    def listener(self, link):
+        """Who listens at the socket: its process and its account. No process where that isn't to be seen from here."""
+        process, account, _ = self.PEER.unpack(link.getsockopt(socket.SOL_SOCKET, socket.SO_PEERCRED, self.PEER.size))
+        return process, account
+
+
+def door(node, owner=None):
+    """The door of a NODE, which is a port, a socket's path, `@NAME` or a cluster file. A ValueError, in a line.
+
+    `@0` is /run/tundelca/0/node.socket, where the package's unit has its node 0 listen. A cluster file stands for its
+    client port; /etc/tundelca/0.json for `@0`, where that socket is there. `owner` is an account, by name or number,
+    whose node it may be too.
+    """
+    account = None if owner is None else account_of(str(owner))
+    if isinstance(node, Door):
+        return node if owner is None else replace(node, owner=account)
+    word = str(node)
+    if word.isdecimal():
+        return Door(int(word), account)
+    if word.startswith("@"):
+        if not re.fullmatch(r"@[\w.:-]*\w[\w.:-]*", word):
+            raise ValueError(f"{word} names no node: @NAME is /run/tundelca/NAME/node.socket")
+        return Door(f"{RUN}/{word[1:]}/node.socket", account)
+    if is_socket(word):
+        return Door(word, account)
+    return door_of_file(word, read_cluster(word), account)
+
+
+def door_of_file(path, text, account=None):
+    """The door of a cluster file: its client port, or its node's socket where the package has it."""
+    folder, name = os.path.split(os.path.abspath(path))
+    socket_path = f"{RUN}/{name[:-len('.json')]}/node.socket"
+    is_of_package = folder == ETC and name.endswith(".json") and is_there(socket_path)
+    return Door(socket_path if is_of_package else text["client"], account)
+
+
+def is_there(path):
+    """Whether a socket is there, as far as this program may see."""
+    try:
+        return stat.S_ISSOCK(os.stat(path).st_mode)
+    except OSError:
+        return False
+
+
+def is_socket(path):
+    """Whether a word names a socket: one that is there, or by a path where nothing is to be seen, and no name of a
+    cluster file."""
+    return is_there(path) or "/" in path and not os.path.lexists(path) and not path.endswith(".json")
+
+
+def read_json(path):
+    """What a file of JSON holds. A ValueError in one line where it is none."""
+    try:
+        with open(path, encoding="utf-8") as file:
+            return json.load(file)
+    except OSError as error:
+        raise ValueError(f"{path}: {error.strerror}") from None
+    except (ValueError, RecursionError):
+        raise ValueError(f"{path}: no JSON") from None
+
+
+def read_cluster(path):
+    """A cluster file, as a dict. A ValueError in one line where something is wrong with it."""
+    text = read_json(path)
+    if not isinstance(text, dict):
+        raise ValueError(f"{path}: no cluster file")
+    numbers = ["cluster", "n", "f", "me", "client"]
+    lists = ["roles", "keys", "nodes"]
+    for name in numbers + lists:
+        if type(text.get(name)) is not (int if name in numbers else list):
+            raise ValueError(f"{path}: no cluster file, {name} is wrong")
+    if type(text.get("hosts", [])) is not list:
+        raise ValueError(f"{path}: hosts are a list")
+    if not text["me"] < text["n"] <= NODES or not len(text["keys"]) == len(text["nodes"]) == text["n"]:
+        raise ValueError(f"{path}: n, me, keys and nodes don't fit together")
+    for pair in text["roles"]:
+        if type(pair) is not list or [type(number) for number in pair] != [int, int]:
+            raise ValueError(f"{path}: roles are pairs [role, owner]")
+    return text
 
 
 class Refused(NodeFault):
@@ -84,8 +288,8 @@ class Refused(NodeFault):
 class Published:
     """How far a publication came: so many `commands` are published, the last at place `end` - 1.
 
-    `behind` are the ports of the nodes that haven't all of them, with how far they said last that they are; None where
-    one never said it.
+    `behind` are the ports, or the paths of sockets, of the nodes that haven't all of them, with how far they said last
+    that they are; None where one never said it.
     """
 
     commands: int
@@ -93,8 +297,8 @@ class Published:
     behind: dict
 
     def __str__(self):
-        late = [f"the node at port {port} " + ("doesn't answer" if reach is None else f"has {reach}")
-                for port, reach in self.behind.items()]
+        late = [f"the node at {place_of(address)} " + ("doesn't answer" if reach is None else f"has {reach}")
+                for address, reach in self.behind.items()]
         return "; ".join([f"the stream goes up to {self.end}", *late])
 
 
@@ -137,12 +341,40 @@ def found_twice(status, elsewhere=0):
     return beyond_published(status["published"], status["reaches"][me], elsewhere)
 
 
+def places_each(roles, nodes):
+    """The share of each owner: how many places its stream has, in a cluster of so many nodes. `roles` are pairs of a
+    role and its owner; a node that owns none has no places."""
+    return OF_OWNERS // (len({owner for _, owner in roles}) * (2 * nodes + 1) + 1)
+
+
+def told_of_share(used, share, whose="its", who="it has", what="places"):
+    """In words that of a share nine tenths are used, or more than there is; None where less is used."""
+    if used * 10 < share * 9 or used == 0:
+        return None
+    if used > share:
+        return f"{who} used {used:,} {what}, {used - share:,} more than {whose} share"
+    return f"{who} used {100 * used // share} % of {whose} share: {share - used:,} of {share:,} {what} are left"
+
+
+def shares_told(status):
+    """In words of which shares nine tenths are used, by a node's answer to `status`: of owners' places, and of what its
+    clients may do. Nothing of a node that doesn't tell its shares."""
+    if status.get("shares") is None:
+        return []
+    used = list(status["reaches"])
+    me = status["peers"].index(None)
+    used[me] = max(used[me], status["published"])
+    rows = [told_of_share(*row, "its", f"node {owner} has") for owner, row in enumerate(zip(used, status["shares"]))]
+    rows.append(told_of_share(status["acts"], status["acts_share"], "their", f"clients of node {me} have", "acts"))
+    return [row for row in rows if row is not None]
+
+
 class BegunTwice(Unfinished):
     """The owner has spoken before and doesn't know it: others have voted at the places that it gives its commands."""
 
-    def __init__(self, port, owner, done, seen):
+    def __init__(self, at, owner, done, seen):
         self.done = done
-        said = f"node {owner} at port {port} {seen}: {TWICE} ({done.commands:,} of these commands went out)"
+        said = f"node {owner} at {at} {seen}: {TWICE} ({done.commands:,} of these commands went out)"
         Exception.__init__(self, said)
 
 
@@ -280,15 +512,23 @@ JOURNAL = at_least({"sound": FLAG, **dict.fromkeys(("last", "mean", "syncs", "wo
 STATUS = at_least({"at": EVENTS + 1, "journal": or_none(JOURNAL), "limit": EVENTS + 1,
                    "peers": list_of(or_none(PEER), NODES), "published": PLACES + 1,
                    "reaches": list_of(PLACES + 1, NODES), "sessions": SESSIONS + 1, "unopened": COUNT})
+SHARES = {"acts": EVENTS + 1, "acts_share": or_none(one_of(EVENTS + 1)), "shares": or_none(list_of(PLACES + 1, NODES))}
 
 
 def is_status(value, request):
-    """How a node stands: its parts fit together, and one of its peers is itself. Nodes of before don't say `f`, and not
-    whether they were begun twice."""
+    """How a node stands: its parts fit together, and one of its peers is itself. Nodes of before don't say `f`, nor
+    whether they were begun twice, nor their shares."""
     return STATUS(value, request) and FLAG(value.get("begun_twice", False), request) and \
-        value["peers"].count(None) == 1 and \
+        are_shares(value, request) and value["peers"].count(None) == 1 and \
         len(value["peers"]) == len(value["reaches"]) and value["at"] <= value["limit"] > 0 and \
         fits(value.get("f", 0), (len(value["peers"]) + 2) // 3, request)
+
+
+def are_shares(value, request):
+    """Whether a status tells shares, which fit together; or none, as nodes of before do."""
+    told = {name: value[name] for name in SHARES if name in value}
+    return not told or fits(told, SHARES, request) and (told["acts_share"] is None) == (told["shares"] is None) and (
+        told["shares"] is None or len(told["shares"]) == len(value["peers"]))
 
 
 def verdicts(rule, **members):
@@ -319,6 +559,7 @@ FORMS = {  # of the answer to each line
     "command": {"command": or_none(by("op", COMMANDS))},
     "sessions": {"at": EVENTS + 1, "sessions": is_page},
 }
+QUESTIONS = {"check", "decide", "decide_all", "reach", "status", "command", "sessions", *LISTINGS}
 REFUSAL = one_of({"error": matches(CODE)}, {"error": matches(CODE), "name": matches(MEMBER)})
 LONGEST = {  # bytes of an answer's line, without its end
     "status": 1 << 16, "sessions": 1 << 14, "decide_all": 1 << 13, **dict.fromkeys(LISTINGS, 24 << 20),
@@ -345,12 +586,13 @@ def read_answer(request, line, items=ITEMS):
 
 
 class Turn:
-    """A thread's questions on a client, up to their last answer. Where it waits, `begins` is locked until then."""
+    """A thread's questions on a client, up to their last answer. Where it waits, `begins` is locked until then; they
+    went out once more where it `is_renewed`."""
 
-    __slots__ = "thread", "begins"
+    __slots__ = "thread", "begins", "is_renewed"
 
     def __init__(self):
-        self.thread, self.begins = threading.get_ident(), None
+        self.thread, self.begins, self.is_renewed = threading.get_ident(), None, False
 
 
 class Turns:
@@ -411,24 +653,39 @@ class Incoming(io.RawIOBase):
 
 
 class Client:
-    """A connection to a node's client port: one line, one answer, in order. `patience` is in seconds, an answer.
+    """A connection to a node's door: one line, one answer, in order. `patience` is in seconds, an answer.
 
-    It is one thread's at a time, from a question to the end of its answer, so threads may share it: they take turns in
-    the order in which they came. While an `ask_all` isn't at its end, other threads wait for `patience` at most, and
-    then nothing went out; the thread that began it gets a RuntimeError for each other question. What ends a question
-    before its whole answer ends the connection, an interrupt too, so that no late answer is taken for another's.
+    `node` and `owner` are as for `door`. A client is one thread's at a time, from a question to the end of its answer,
+    so threads may share it: they take turns in the order in which they came. While an `ask_all` isn't at its end, other
+    threads wait for `patience` at most, and then nothing went out; the thread that began it gets a RuntimeError for
+    each other question. What ends a question before its whole answer ends the connection, an interrupt too, so that no
+    late answer is taken for another's. Only where a connection that has brought an answer has come to its end do
+    `QUESTIONS` go out once more, over a new one: they change nothing. A command never does, since it may be obeyed.
     """
 
-    def __init__(self, port, patience=10.0):
-        self.port, self.patience, self.turns = port, patience, Turns()
+    def __init__(self, node, patience=10.0, owner=None):
+        self.door, self.patience, self.turns = door(node, owner), patience, Turns()
         self.items = ITEMS  # of the next listing, at most
+        self.is_over = False  # it was closed, or has failed
+        self.connect(patience)
+
+    def connect(self, patience):
+        """Makes the connection."""
         try:
-            self.socket = socket.create_connection((LOOPBACK, port), timeout=patience)
+            self.socket = self.door.connect(patience)
         except (OSError, OverflowError) as error:
-            raise Unreachable(f"no node answers at port {port}: {words_of(error)}") from None
-        self.socket.setsockopt(socket.IPPROTO_TCP, socket.TCP_NODELAY, 1)
+            raise Unreachable(f"no node answers at {self.door}: {words_of(error)}") from None
+        self.has_answered = False
         self.incoming = Incoming(self.socket)
         self.lines = io.TextIOWrapper(io.BufferedReader(self.incoming, 65_536), "ascii", "replace", newline="\n")
+
+    def renew(self, until):
+        """Makes the connection anew, which has come to its end, by the moment."""
+        self.drop()
+        self.connect(max(0.001, min(self.patience, until - time.monotonic())))
+        self.socket.settimeout(self.patience)
+        if self.is_over:  # another thread has closed the client meanwhile
+            self.fail("isn't asked any more: the client is closed")
 
     def __enter__(self):
         return self
@@ -438,6 +695,11 @@ class Client:
 
     def close(self):
         """Ends the connection, also for a thread that waits for an answer. Sessions stay open."""
+        self.is_over = True
+        self.drop()
+
+    def drop(self):
+        """Ends the connection that there is."""
         with contextlib.suppress(OSError):
             self.socket.shutdown(socket.SHUT_RDWR)
         self.lines.close()
@@ -452,8 +714,7 @@ class Client:
         turn, is_due = Turn(), True
         try:
             self.begin(turn)
-            self.send([request])
-            answer = self.answer(request, until)
+            answer = self.answered(turn, [request], [request], until)
             is_due = False
         finally:
             try:
@@ -465,6 +726,28 @@ class Client:
             raise Refused(request, answer)
         return answer
 
+    def answered(self, turn, some, waiting, until):
+        """Sends some, which are the last of those that wait, and gives the answer to the first of these.
+
+        Where the connection has come to its end, all that wait go out once more, if they may.
+        """
+        end = time.monotonic() + self.patience
+        try:
+            if some:
+                self.send(some)
+            return self.answer(waiting[0], until)
+        except Ended:
+            if turn.is_renewed or not self.goes_again(waiting):
+                raise
+        end, turn.is_renewed = end if until is None else min(end, until), True
+        self.renew(end)
+        self.send(waiting)
+        return self.answer(waiting[0], end)
+
+    def goes_again(self, requests):
+        """Whether requests may go out once more, where the connection has come to its end."""
+        return self.has_answered and not self.is_over and all(request.get("op") in QUESTIONS for request in requests)
+
     def ask_all(self, requests, ahead=200, until=None):
         """The answers to many requests, in their order, as dicts; a refusal is one with a member `error`.
 
@@ -475,14 +758,14 @@ class Client:
         try:
             self.begin(turn)
             while True:
-                if some := list(itertools.islice(asked, ahead - len(waiting))):
-                    waiting.extend(some)
-                    self.send(some)
+                some = list(itertools.islice(asked, ahead - len(waiting)))
+                waiting.extend(some)
                 if not waiting:
                     return
                 for _ in range((len(waiting) + 1) // 2):
-                    answer = self.answer(waiting[0], until)
+                    answer = self.answered(turn, some, waiting, until)
                     waiting.popleft()
+                    some = []
                     yield answer
         finally:
             try:
@@ -494,7 +777,7 @@ class Client:
     def begin(self, turn):
         """Waits until the turn begins, for `patience` at most."""
         if not self.turns.begin(turn, self.patience):
-            raise Unreachable(f"other threads ask the node at port {self.port} on this client, for longer than "
+            raise Unreachable(f"other threads ask the node at {self.door} on this client, for longer than "
                               f"{self.patience:g} s: nothing went out")
 
     def leave(self, turn, is_due):
@@ -509,13 +792,16 @@ class Client:
         try:
             self.socket.sendall(lines)
         except OSError as error:
-            self.fail(f"didn't take {json.dumps(requests[0])}: {words_of(error)}")
+            self.fail(f"didn't take {json.dumps(requests[0])}: {words_of(error)}", kind_of(error))
 
     def answer(self, request, until=None):
         """The next line, which is the answer to this request, as a dict."""
         line = self.line(request, until)
         answer = read_answer(request, line, self.items)
-        return self.unfit(request, line) if answer is None else answer
+        if answer is None:
+            self.unfit(request, line)
+        self.has_answered = True
+        return answer
 
     def line(self, request, until):
         """The next line, which has to be there whole within `patience`, and by the moment."""
@@ -526,30 +812,33 @@ class Client:
         try:
             line = self.lines.readline(most + 1)
         except (OSError, ValueError) as error:
-            self.fail(f"didn't answer {json.dumps(request)}: {words_of(error)}")
+            self.fail(f"didn't answer {json.dumps(request)}: {words_of(error)}", kind_of(error))
         if self.incoming.reads > 1:
             self.socket.settimeout(self.patience)
         self.incoming.end = None
         if line.endswith("\n"):
             return line[:-1]
         if len(line) <= most:
-            self.fail(f"closed the connection at {json.dumps(request)}")
+            self.fail(f"closed the connection at {json.dumps(request)}", Ended)
         self.unfit(request, line)
 
-    def fail(self, what):
-        """Ends the connection, and raises `Unreachable`."""
-        self.close()
-        raise Unreachable(f"the node at port {self.port} {what}")
+    def fail(self, what, kind=Unreachable):
+        """Ends the connection, and raises `Unreachable`; where it is an `Ended`, there may be another one."""
+        if kind is Ended:
+            self.drop()
+        else:
+            self.close()
+        raise kind(f"the node at {self.door} {what}")
 
     def unfit(self, request, line):
         """Ends the connection, and raises `Unfit`."""
         self.close()
-        raise Unfit(self.port, request, line)
+        raise Unfit(self.door, request, line)
 
     def publish(self, commands, owner, others=(), may_lie=0, patience=30.0, deadline=None, in_order=True, told=None):
         """Publishes the commands, such as {"op": "clear", "role": 2}, each once and in their order. A `Published`.
 
-        This is the node of `owner`, `others` are client ports of other nodes, and of all these at most `may_lie` lie or
+        This is the node of `owner`, `others` are other nodes, as for `door`, and of all these at most `may_lie` lie or
         stand still: those that are behind the others are left out. No command goes out at a place more than 32 beyond
         what the remaining nodes have delivered, and at the end they have delivered all, and each stands in the owner's
         stream at the place that it was given. Raises `Unfinished` where a command is refused, where nothing moves for
@@ -666,7 +955,7 @@ class Client:
         deadline = time.monotonic() + (self.patience if patience is None else patience)
         while self.reach(owner) < reach:
             if time.monotonic() > deadline:
-                raise Unreachable(f"the node at port {self.port} has not {reach} commands of node {owner} yet")
+                raise Unreachable(f"the node at {self.door} has not {reach} commands of node {owner} yet")
             time.sleep(0.005)
 
 
@@ -675,8 +964,8 @@ class Watched:
 
     LONGEST = 200  # bytes of an answer
 
-    def __init__(self, port, owner):
-        self.port, self.reach = port, None
+    def __init__(self, node, owner):
+        self.door, self.reach = door(node), None
         self.question = {"op": "reach", "owner": owner}
         self.socket, self.text, self.is_asked, self.next_try = None, b"", False, 0.0
         self.is_odd = False  # the last that it said is what no node says
@@ -686,15 +975,13 @@ class Watched:
         try:
             if self.socket is None and time.monotonic() >= self.next_try:
                 self.next_try = time.monotonic() + 1.0
-                self.socket = socket.socket()
-                self.socket.setblocking(False)
-                self.socket.connect_ex((LOOPBACK, self.port))
+                self.socket = self.door.begin()
             if self.socket is not None and not self.is_asked:
                 self.socket.send(json.dumps(self.question).encode("ascii") + b"\n")
                 self.is_asked = True
         except BlockingIOError:
             pass  # not connected yet
-        except OSError:
+        except (OSError, Stranger):
             self.close()
 
     def take(self):
@@ -728,7 +1015,7 @@ class Publication:
     def __init__(self, node, owner, others, may_lie, patience, deadline):
         self.node, self.owner, self.patience, self.may_lie = node, owner, patience, may_lie
         self.given, self.can_tell = [], True  # each command with its place; the node tells what stands there
-        self.watched = [Watched(port, owner) for port in others]
+        self.watched = [Watched(node, owner) for node in others]
         self.quorum = max(1, 1 + len(self.watched) - may_lie)
         self.commands = self.end = self.reach = self.front = 0
         self.moved = time.monotonic()
@@ -752,7 +1039,7 @@ class Publication:
             return
         me = status["peers"].index(None)
         if me != self.owner:
-            raise Unreachable(f"the node at port {self.node.port} says that it is node {me}, and not {self.owner}")
+            raise Unreachable(f"the node at {self.node.door} says that it is node {me}, and not {self.owner}")
         if seen := found_twice(status, elsewhere):
             self.twice(seen)
 
@@ -763,7 +1050,7 @@ class Publication:
 
     def twice(self, seen):
         """Raises `BegunTwice`."""
-        raise BegunTwice(self.node.port, self.owner, self.done(), seen)
+        raise BegunTwice(self.node.door, self.owner, self.done(), seen)
 
     def read_back(self):
         """Sees that each command stands at its place in the owner's stream, and that the owner, which may have found
@@ -847,14 +1134,15 @@ class Publication:
         if now > self.deadline:
             raise Unreachable("the deadline is over")
         if now > self.moved + self.patience:
-            odd = "".join(f"; a node answers what no node says: port {one.port}" for one in self.watched if one.is_odd)
+            odd = "".join(f"; a node answers what no node says: {one.door}" for one in self.watched if one.is_odd)
             raise Unreachable(f"for {self.patience:g} seconds too few nodes say that they have more than {self.front}"
                               f"{odd}")
 
     def behind(self):
-        """The ports of the nodes that haven't all, and how far they are."""
-        heard = [(self.node.port, self.reach), *((one.port, one.reach) for one in self.watched)]
-        return {port: reach for port, reach in heard if reach is None or reach < self.end}
+        """The addresses of the nodes that haven't all, and how far they are."""
+        heard = [(one.door.address, one.reach) for one in self.watched]
+        return {address: reach for address, reach in [(self.node.door.address, self.reach), *heard]
+                if reach is None or reach < self.end}
 
     def done(self):
         return Published(self.commands, self.end, self.behind())
@@ -921,7 +1209,7 @@ STATUSES = {
     0: "it was stopped",
     2: "its words",
     3: "its cluster file",
-    4: "a port or a journal that is held, or a failed listener or disk",
+    4: "a port, a socket or a journal that is held, or a failed listener or disk",
     5: "want of memory",
     6: "its journal",
 }
@@ -968,9 +1256,9 @@ def start(program, path, patience=10.0, journal=None):
             time.sleep(0.01)
 
 
-def stop(port, process=None, patience=10.0):
-    """Stops a node by its client port. Its exit status, where its process is given."""
-    with Client(port, patience) as client:
+def stop(node, process=None, patience=10.0):
+    """Stops a node. Its exit status, where its process is given."""
+    with Client(node, patience) as client:
         client.ask("stop")
     return None if process is None else process.wait(patience)
 

@@ -3,9 +3,9 @@
 
     python3 tools/tundelca_ctl.py --help
 
-Installed it is `tundelca-ctl`. It speaks to nodes of this machine at their client ports, and wants nothing beside
-Python 3.9, its standard library and what lies beside this file. It ends by itself, in a bounded time, save where it is
-told to watch, to follow or to serve a page.
+Installed it is `tundelca-ctl`. It speaks to nodes of this machine at their client ports or sockets, and wants nothing
+beside Python 3.9, its standard library and what lies beside this file. It ends by itself, in a bounded time, save where
+it is told to watch, to follow or to serve a page.
 """
 import importlib
 import os
@@ -16,12 +16,14 @@ if __name__ == "__main__":
 
 import tundelca  # noqa: E402
 from ctl import AWAY, INTERRUPTED, NO, REFUSED, STATUSES, WORDS, Fault  # noqa: E402
+from ctl.nodes import allow  # noqa: E402
 from ctl.words import NAME, Steps, Words  # noqa: E402
 
 GROUPS = {  # the commands, each with the module that does it
+    "to begin with, and the gateway": {"try": "trial", "policy": "policies"},
     "to see how nodes are": {"status": "status", "health": "status", "metrics": "metrics", "board": "board"},
     "to read and to publish": {"ask": "publishing", "stream": "streams", "diff": "streams", "publish": "publishing",
-                               "sessions": "sessions", "lab": "lab"},
+                               "sessions": "sessions", "stop": "stopping", "lab": "lab"},
     "keys and cluster files": {"key": "files", "file": "files", "files": "files", "check": "files",
                                "begin-anew": "anew"},
 }
@@ -41,8 +43,9 @@ def words(command):
 def overview(steps):
     """The help of the whole program."""
     lines = [f"usage: {NAME} COMMAND [WORD ..]", "",
-             "The operator's tool for nodes of a cluster. A NODE is its client port on this machine, or the path of",
-             "its cluster file, which tells more."]
+             "The operator's tool for nodes of a cluster. A NODE is its client port on this machine, the path of the",
+             "socket at which it listens, @NAME for /run/tundelca/NAME/node.socket, where the package has it, or its",
+             "cluster file, which tells more; /etc/tundelca/NAME.json is at @NAME too, where that is there."]
     for title, names in GROUPS.items():
         lines += ["", f"{title}:", *(f"  {name:12}{steps.helps[name]}" for name in names)]
     return "\n".join([*lines, "", STATUSES, "", f"{NAME} COMMAND --help says more of one."])
@@ -56,6 +59,7 @@ def main(given):
             print(overview(steps))
             return 0 if given else WORDS
         asked = parser.parse_args(given)
+        allow(asked)
         done = asked.run(asked)
         sys.stdout.flush()
         return done

@@ -6,10 +6,10 @@ import sys
 
 import tundelca
 from ctl import DONE, NO, WORDS, Fault, files, nodes
-from ctl.nodes import Nodes, read_json
+from ctl.nodes import Nodes
 from ctl.publishing import issue, pace
 from ctl.terminal import counted
-from ctl.words import Steps
+from ctl.words import NODE, Steps
 
 
 def add(steps):
@@ -17,11 +17,11 @@ def add(steps):
     one = steps.add_parser("begin-anew", "keep what roles hold, compare, new files, publish", example="""
   tundelca-ctl begin-anew keep node*.json > kept.json        what the roles hold; the nodes must agree
   tundelca-ctl begin-anew compare kept0.json kept1.json      whether two owners kept the same
-  tundelca-ctl begin-anew files new node*.json               all files of the next cluster, where one may see all
+  tundelca-ctl begin-anew files new node*.json --kept kept.json   all files of the next cluster, if one may see all
   tundelca-ctl begin-anew publish kept.json new/node*.json   each role's holdings, at its owner
 
-Before the first all owners stop publishing, since what is published after `keep` isn't carried over. Between the
-first and the last the old nodes are stopped and the new ones started. Where no owner may see another's file, each
+Before the first all owners stop publishing, since what is published after `keep` isn't carried over. Before the last
+the old nodes are stopped and the new ones started. Where no owner may see another's file, each
 makes its own by `file --like OLD`, with a key for each pair of owners and the number that all agreed on, keeps by its
 own node and publishes at its own node; a role that is in no named file is left to its owner.""")
     steps = Steps(one, "step")
@@ -31,10 +31,11 @@ own node and publishes at its own node; a role that is in no named file is left 
 
 One of the nodes may lie, so ask as many as can be reached. The status is 1 where they differ in what a role holds, or
 in how many commands of an owner they have; where a node hasn't all that it published; and where one has more commands
-at the end than before. At last it is told how many commands of each owner were there: stop a node only while `status`
-shows the same numbers, or keep again.""")
-    one.add_argument("nodes", nargs="+", type=nodes.node, metavar="NODE",
-                     help="a client port, or a cluster file; one file at least")
+at the end than before; and where an owner's roles hold more pairs (assignments and grants) than it has places in a
+cluster of the same owners, so that not all could be published anew. At last it is told how many commands of each owner
+were there: stop a node only while `status` shows the same numbers, or keep again.""")
+    one.node("nodes", f"{NODE}; one file at least", nargs="+")
+    one.account("--owner")
     one.patience(30.0)
     one.set_defaults(run=keep)
     one = steps.add_parser("compare", "whether files of `keep` are the same", example="""
@@ -45,10 +46,13 @@ The status is 1 where they differ; it is told in which roles.""")
     one.set_defaults(run=compare)
     one = steps.add_parser("files", "all cluster files of the next cluster, with new keys and the next number",
                            example="""
-  tundelca-ctl begin-anew files new node0.json node1.json node2.json node3.json""")
+  tundelca-ctl begin-anew files new node0.json node1.json node2.json node3.json --kept kept.json
+
+Where an owner has more pairs in KEPT than places in the next cluster, the status is 1 and no file is written.""")
     one.add_argument("folder", metavar="FOLDER")
     one.add_argument("nodes", nargs="+", type=nodes.cluster_file, metavar="FILE", help="the old file of every node")
     one.add_argument("--cluster", type=int, metavar="NUMBER", help="another number than the next")
+    one.add_argument("--kept", metavar="KEPT", help="what `keep` wrote: whether each owner has places for it")
     one.set_defaults(run=next_files)
     one = steps.add_parser("publish", "what was kept, at the owners of the roles", example="""
   tundelca-ctl begin-anew publish kept.json new/node0.json new/node1.json new/node2.json new/node3.json
@@ -57,15 +61,15 @@ The status is 1 where they differ; it is told in which roles.""")
 Name all nodes whose client ports can be reached: it waits for all but F of them, as the files say. 20,000
 assignments take some seconds.""")
     one.add_argument("kept", metavar="KEPT")
-    one.add_argument("nodes", nargs="+", type=nodes.node, metavar="NODE",
-                     help="a new cluster file, or a client port by which it is paced")
+    one.node("nodes", "a new cluster file, or another node by which it is paced", nargs="+")
+    one.account("--owner")
     pace(one)
     one.set_defaults(run=publish)
 
 
-def holdings(port, roles, patience):
-    """For each role its users and its permissions, as the node at this port has them."""
-    with tundelca.Client(port, patience) as client:
+def holdings(door, roles, patience):
+    """For each role its users and its permissions, as the node at this door has them."""
+    with tundelca.Client(door, patience) as client:
         return {str(role): held for role, held in nodes.holdings(client, roles).items()}
 
 
@@ -73,11 +77,11 @@ def keep(given):
     """Prints what all the nodes say that the roles hold, and tells how many commands of each owner that is."""
     files_of_some = [one for one in given.nodes if one.text is not None]
     if not files_of_some:
-        raise Fault(WORDS, "one cluster file at least is wanted: ports alone don't tell the roles")
+        raise Fault(WORDS, "one cluster file at least is wanted: a node alone doesn't tell all roles")
     roles = sorted(role for role, _ in files_of_some[0].text["roles"])
     with Nodes(given.nodes, given.patience) as watched:
         before = level(watched)
-        heard = list(watched.pool.map(lambda one: holdings(one.port, roles, given.patience), watched.named))
+        heard = list(watched.pool.map(lambda one: holdings(one.door, roles, given.patience), watched.named))
         for one, other in zip(watched.named[1:], heard[1:]):
             for role in heard[0]:
                 if other[role] != heard[0][role]:
@@ -89,8 +93,26 @@ def keep(given):
                             "stop, and keep again")
     json.dump(heard[0], sys.stdout)
     print(flush=True)
-    print(f"kept: {reaches_text(after)}; stop a node only while `status` shows the same", file=sys.stderr)
-    return DONE
+    crowded = over_share({int(role): rows for role, rows in heard[0].items()}, files_of_some[0].text)
+    then = f"stop a node only while `status` shows the same{''.join(f'; but {text}' for text in crowded)}"
+    print(f"kept: {reaches_text(after)}; {then}", file=sys.stderr)
+    return NO if crowded else DONE
+
+
+def over_share(held, text):
+    """In words of which owners the roles hold more pairs than they have places in a cluster of this file's owners."""
+    pairs, each = {}, tundelca.places_each(text["roles"], text["n"])
+    for role, owner in text["roles"]:
+        rows = held.get(role, {"users": [], "permissions": []})
+        pairs[owner] = pairs.get(owner, 0) + len(rows["users"]) + len(rows["permissions"])
+    return [f"node {owner}'s roles hold {counted(count, 'pair')}, and it has {counted(each, 'place')}"
+            for owner, count in sorted(pairs.items()) if count > each]
+
+
+def expect_room(held, text):
+    """Raises a `Fault` where an owner has fewer places in the cluster of this file than what was kept takes."""
+    if crowded := over_share(held, text):
+        raise Fault(NO, f"{'; '.join(crowded)}: fewer owners have more places each, and what nobody needs can go")
 
 
 def level(watched):
@@ -121,7 +143,7 @@ def reaches_text(reaches):
 def read_kept(path):
     """What a file of `keep` holds: for each role its users and its permissions."""
     try:
-        held = read_json(path)
+        held = tundelca.read_json(path)
     except ValueError as error:
         raise Fault(WORDS, str(error)) from None
     try:
@@ -171,6 +193,8 @@ def next_files(given):
         raise Fault(WORDS, f"the files of all {first['n']} nodes are wanted, each once")
     if len({files.fingerprint_of_all(text) for text in texts}) > 1:
         raise Fault(WORDS, "the files are not of one cluster: `check` says where they differ")
+    if given.kept is not None:
+        expect_room(read_kept(given.kept), first)
     os.makedirs(given.folder, mode=0o700, exist_ok=True)
     number = first["cluster"] + 1 if given.cluster is None else given.cluster
     paths = tundelca.cluster_files(given.folder, first["roles"], first["nodes"], [text["client"] for text in texts],
@@ -185,6 +209,7 @@ def publish(given):
     files_of_some = [one for one in given.nodes if one.text is not None]
     if not files_of_some:
         raise Fault(WORDS, "the new cluster file of one owner at least is wanted")
+    expect_room(held, files_of_some[0].text)
     for one in files_of_some:
         mine = [role for role, owner in one.text["roles"] if owner == one.text["me"] and role in held]
         published.update(mine)

@@ -30,7 +30,8 @@ def add(steps):
 
 It takes GET alone and can have nothing done. It keeps a connection to each node, of the 16 that a node gives
 clients.""")
-    one.add_argument("nodes", nargs="+", type=nodes.node, metavar="NODE", help="a client port, or a cluster file")
+    one.node("nodes", nargs="+")
+    one.account("--owner")
     one.add_argument("--port", type=int, required=True, metavar="P", help="of 127.0.0.1; 0 takes a free one")
     one.add_argument("--every", type=nodes.seconds, default=1.0, metavar="S",
                      help="how often nodes are asked (%(default)g s)")
@@ -50,13 +51,14 @@ class Samples:
         """Takes what was seen now."""
         sight = self.looks.sight(seen, self.may_lie, time.monotonic())
         rows = [row_of(one, sight) for one in seen]
+        owners = {share.owner: lasts(share) for share in sight.shares.values() if share.owner is not None}
         found = [{"kind": finding.kind, "text": finding.text} for finding in sight.findings()]
         levels = [[row.get(name) for name in ("delivered", "behind", "again", "mean")] for row in rows]
         sample = {"time": time.time(), "most": sum(sight.most), "nodes": levels}
         with self.lock:
             self.count += 1
             self.kept.append(sample)
-            self.last = {"nodes": rows, "most": sight.most, "findings": found}
+            self.last = {"nodes": rows, "most": sight.most, "owners": owners, "findings": found}
 
     def text(self, query):
         """What the page asks for, as JSON: how all is now, and the samples behind the one that it has."""
@@ -71,13 +73,19 @@ class Samples:
         return "application/json", json.dumps(answer, separators=(",", ":")).encode("ascii")
 
 
+def lasts(share):
+    """What is left of a share, for how long, and whether that is little; None where there is none."""
+    return share and {"text": share.lasts(), "soon": share.told() is not None}
+
+
 def row_of(one, sight):
     """What the page shows of a node."""
-    row = {"port": one.node.port, "me": one.me(), "state": sight.state(one)[0]}
+    row = {"where": str(one.node.door), "short": one.node.door.short(), "me": one.me(), "state": sight.state(one)[0]}
     it = one.standing
     if it is None:
         return row
-    row.update(delivered=sum(it.reaches), behind=sight.lacks(one), reaches=it.reaches, at=it.at, limit=it.limit)
+    row.update(delivered=sum(it.reaches), behind=sight.lacks(one), reaches=it.reaches, at=it.at, used=it.used(),
+               acts=lasts(sight.shares.get(one.node.door)))
     if it.peers is not None:
         row.update(published=it.published, sessions=it.sessions, again=it.again(), lost=it.lost(),
                    unopened=it.all_unopened(), hears=it.hears(), others=len(it.others()),

@@ -217,6 +217,8 @@ def report(path, text):
     yield f"{path}: node {text['me']} of {text['n']}, of which {text['f']} may lie, cluster {text['cluster']}, " \
           f"{counted(len(text['roles']), 'role')}"
     yield f"  {fingerprint_of_all(text)}  of cluster, nodes and roles: the same in all files"
+    owners = len({owner for _, owner in text["roles"]})
+    yield f"  {counted(tundelca.places_each(text['roles'], text['n']), 'place')} for {counted(owners, 'owner')} each"
     for name, one in enumerate(text["keys"]):
         what = "with itself, for nobody else" if name == text["me"] else f"with node {name}: the same there"
         yield f"  {fingerprint_of_key(one)}  of the key {what}"

@@ -3,6 +3,7 @@ from dataclasses import dataclass
 
 import tundelca
 from ctl.nodes import behind, furthest
+from ctl.shares import Rates, shares_of
 from ctl.terminal import counted, microseconds, percent
 
 READY, BEHIND, TWICE, AWAY = "ready", "behind", "begun twice", "away"  # states of a node, the worst last
@@ -26,14 +27,14 @@ class Finding:
 class Sight:
     """Nodes as they were seen, and what is to be thought of them.
 
-    `may_lie` is how many of them may; None where nobody said it. `most` is how far each owner's stream is, `changes`
-    what looks before this one show (`Looks`).
+    `may_lie` is how many of them may; None where nobody said it. `most` is how far each owner's stream is, `shares`
+    what is left of each, `changes` what looks before this one show (`Looks`).
     """
 
     def __init__(self, seen, may_lie):
         self.seen, self.may_lie = seen, may_lie
         self.most = furthest(seen, may_lie or 0)
-        self.changes = []
+        self.shares, self.changes = shares_of(seen, self.most), []
 
     def lacks(self, one):
         """How many commands a node that answers is behind."""
@@ -45,9 +46,14 @@ class Sight:
         kinds = {finding.kind for finding in found}
         return next((state for state in (AWAY, TWICE, BEHIND) if state in kinds), READY), found
 
+    def spent(self, some=None):
+        """Which shares are near their end, or beyond it: all, or those of owners and of the clients of this node."""
+        told = [share.told() for share in self.shares.values() if share.owner is not None or some in (None, share.node)]
+        return [Finding(ALARM, text) for text in told if text is not None]
+
     def findings(self):
         """What is not well with the nodes, and between them."""
-        found = [finding for one in self.seen for finding in self.state(one)[1]]
+        found = [finding for one in self.seen for finding in self.state(one)[1]] + self.spent()
         return found + list(between([one.standing for one in self.seen if one.standing is not None])) + self.changes
 
 
@@ -55,11 +61,12 @@ class Looks:
     """Looks at nodes, one after another, by which is told what one look can't show."""
 
     def __init__(self):
-        self.lost, self.still = {}, {}
+        self.lost, self.still, self.rates = {}, {}, Rates()
 
     def sight(self, seen, may_lie, now):
         """What is seen now, at this time in seconds, with what has changed."""
         sight = Sight(seen, may_lie)
+        sight.shares = self.rates.with_ends(sight.shares, now)
         for one in seen:
             if one.standing is not None:
                 sight.changes += [*self.losses(one), *self.delays(one, sight.most, now)]
@@ -69,18 +76,18 @@ class Looks:
         """Of which connected peers more frames are lost than at the last look."""
         for name, peer in enumerate(one.standing.peers or []):
             if peer is not None:
-                before = self.lost.get((one.node.port, name), peer.lost)
+                before = self.lost.get((one.node.door, name), peer.lost)
                 if peer.connected and peer.lost > before:
                     yield Finding(ALARM, f"{one} lost {counted(peer.lost - before, 'frame')} for node {name} since the "
                                          f"last look: that machine, or the network, is slow")
-                self.lost[one.node.port, name] = peer.lost
+                self.lost[one.node.door, name] = peer.lost
 
     def delays(self, one, most, now):
         """Of which owners the node lacks commands, and gets none."""
         for owner, reach in enumerate(one.standing.reaches):
-            before, since = self.still.get((one.node.port, owner), (reach, now))
+            before, since = self.still.get((one.node.door, owner), (reach, now))
             since = since if reach == before and reach < most[owner] else now
-            self.still[one.node.port, owner] = reach, since
+            self.still[one.node.door, owner] = reach, since
             if now - since >= LONG:
                 yield Finding(ALARM, f"{one} has been at {reach:,} of {most[owner]:,} commands of node {owner} for "
                                      f"{now - since:.0f} seconds: is it full, or does it lie?")
@@ -107,8 +114,9 @@ def findings_of(one, most, may_lie, most_behind):
                                      f"(of owner {owner} it has {it.reaches[owner]:,} of {most[owner]:,})"))
     if it.at >= it.limit:
         found.append(Finding(BEHIND, f"{one} has a full history and takes nothing new: begin the cluster anew"))
-    elif it.used() >= SOON:
-        found.append(Finding(ALARM, f"{one} has used {percent(it.used())} of its life span: begin anew in time"))
+    elif it.at >= SOON * it.limit:
+        part = percent(it.at / it.limit)
+        found.append(Finding(ALARM, f"{one} has recorded {part} of what it can: begin anew in time"))
     if it.journal is not None and not it.journal.sound:
         found.append(Finding(BEHIND, f"{one} can't write its journal: see to its disk, and start it again"))
     if it.peers is not None and any(it.reaches):
@@ -119,7 +127,15 @@ def findings_of(one, most, may_lie, most_behind):
         elif it.joined() < needed:
             found.append(Finding(ALARM, f"{one} hears and reaches {it.joined()} of its {others} peers, too few: what "
                                         f"is published doesn't come to it, or not from it"))
-    return found + notes_of(one)
+    return found + notes_of(one) + list(beyond_shares(it, one, most))
+
+
+def beyond_shares(it, one, most):
+    """Of which owners a node has more commands than their share, though the others don't: its journal is older."""
+    for owner, (reach, share) in enumerate(zip(it.reaches, it.shares or [])):
+        if reach > share >= most[owner]:
+            more = f"{reach - share:,} more than its share, which come to no other node"
+            yield Finding(ALARM, f"{one} has {reach:,} commands of node {owner}, {more}")
 
 
 def notes_of(one):
@@ -144,7 +160,7 @@ def between(standings):
     """What is not well between nodes that answer."""
     names = [it.me for it in standings if it.me is not None]
     for name in sorted({name for name in names if names.count(name) > 1}):
-        yield Finding(NOTE, f"{names.count(name)} of these ports say that they are node {name}")
+        yield Finding(NOTE, f"{names.count(name)} of these say that they are node {name}")
     if len({len(it.peers) for it in standings if it.peers is not None}) > 1:
         yield Finding(NOTE, "the nodes are of clusters of different sizes")
     yield from unheard(standings)

@@ -1,6 +1,5 @@
 """The nodes that a tool is told of, and what each says of itself."""
 import argparse
-import json
 import time
 from concurrent.futures import ThreadPoolExecutor
 from dataclasses import dataclass, fields, replace
@@ -13,14 +12,18 @@ MOST_NODES = tundelca.NODES  # which are asked side by side
 
 @dataclass(frozen=True)
 class Named:
-    """A node as it is named: by its client port, or by its cluster file, which is `text`."""
+    """A node as it is named: by its door, or by its cluster file, which is `text`."""
 
-    port: int
+    door: tundelca.Door
     path: Optional[str] = None
     text: Optional[dict] = None
 
     def __str__(self):
-        return self.path or f"port {self.port}"
+        return self.path or str(self.door)
+
+    def labels(self):
+        """Its door, for a program: its port, or the path of its socket."""
+        return {"port" if self.door.is_port() else "socket": self.door.address}
 
 
 @dataclass(frozen=True)
@@ -56,8 +59,9 @@ class Standing:
 
     `at` is the length of its history, of at most `limit` events; `reaches` how many commands of each owner it has
     delivered; `me` its name, `published` how many commands it has issued, `sessions` how many are open; `is_twice`
-    whether it says that it was begun twice, `may_lie` how many nodes may lie by its cluster file. Nodes of before say
-    neither.
+    whether it says that it was begun twice, `may_lie` how many nodes may lie by its cluster file; `acts` how many acts
+    of clients it recorded, of `acts_share`, and `shares` how many places each owner has. Nodes of before say none of
+    these.
     """
 
     at: int
@@ -71,6 +75,9 @@ class Standing:
     unopened: int = 0
     is_twice: bool = False
     may_lie: Optional[int] = None
+    acts: Optional[int] = None
+    acts_share: Optional[int] = None
+    shares: Optional[list] = None
 
     def others(self):
         """The peers that it speaks of, without itself."""
@@ -93,9 +100,16 @@ class Standing:
     def all_unopened(self):
         return self.unopened + sum(peer.unopened for peer in self.others())
 
+    def owns(self):
+        """How many places it has published and how many it has; None where it owns no role, or doesn't tell."""
+        share = 0 if self.shares is None else self.shares[self.me]
+        return (max(self.published, self.reaches[self.me]), share) if share else None
+
     def used(self):
-        """How much of its life span is used, 0 to 1."""
-        return min(1.0, self.at / max(1, self.limit))
+        """How much of its life span is used, 0 to 1: of its history, or of its own share or its clients' if that is
+        more."""
+        parts = [(self.at, self.limit), self.owns(), self.shares and (self.acts, self.acts_share)]
+        return min(1.0, max(used / max(1, whole) for used, whole in filter(None, parts)))
 
 
 @dataclass(frozen=True)
@@ -128,7 +142,7 @@ class Seen:
         return tundelca.beyond_published(it.published, it.reaches[it.me], self.elsewhere)
 
     def __str__(self):
-        return f"the node at port {self.node.port}" if self.me() is None else f"node {self.me()}"
+        return f"the node at {self.node.door}" if self.me() is None else f"node {self.me()}"
 
 
 def standing_of(answer):
@@ -137,7 +151,7 @@ def standing_of(answer):
     journal = answer["journal"] and Journal(*(answer["journal"][field.name] for field in fields(Journal)))
     return Standing(answer["at"], answer["limit"], answer["reaches"], peers.index(None), answer["published"],
                     answer["sessions"], journal, peers, answer["unopened"], answer.get("begun_twice", False),
-                    answer.get("f"))
+                    *map(answer.get, ("f", "acts", "acts_share", "shares")))
 
 
 def standing(client, until=None):
@@ -156,7 +170,7 @@ class Nodes:
     """Nodes that are looked at once or again and again. A connection to each is kept; `patience` is in seconds."""
 
     def __init__(self, named, patience):
-        self.named, self.patience, self.clients = list({one.port: one for one in named}.values()), patience, {}
+        self.named, self.patience, self.clients = list({one.door: one for one in named}.values()), patience, {}
         self.pool = ThreadPoolExecutor(max(1, min(MOST_NODES, len(self.named))))
 
     def __enter__(self):
@@ -179,14 +193,14 @@ class Nodes:
 
     def see(self, node):
         """The node as it is seen now, within `patience`. A kept connection that has ended is made anew."""
-        kept, until = self.clients.pop(node.port, None), time.monotonic() + self.patience
+        kept, until = self.clients.pop(node.door, None), time.monotonic() + self.patience
         if kept is not None:
             seen = self.asked(node, kept, until)
             if seen.standing is not None or time.monotonic() > until:
                 return seen
         try:
             left = max(0.001, until - time.monotonic())
-            return self.asked(node, tundelca.Client(node.port, left), until)
+            return self.asked(node, tundelca.Client(node.door, left), until)
         except tundelca.Unreachable as fault:
             return Seen(node, None, str(fault))
 
@@ -195,7 +209,7 @@ class Nodes:
         client.patience = self.patience
         try:
             seen = Seen(node, standing(client, until))
-            self.clients[node.port] = client
+            self.clients[node.door] = client
             return seen
         except tundelca.NodeFault as fault:
             client.close()
@@ -243,48 +257,37 @@ def behind(standing, most):
     return sum(max(0, there - here) for here, there in zip(standing.reaches, most))
 
 
-def read_json(path):
-    """What a file of JSON holds. A ValueError in one line where it is none."""
-    try:
-        with open(path, encoding="utf-8") as file:
-            return json.load(file)
-    except OSError as error:
-        raise ValueError(f"{path}: {error.strerror}") from None
-    except (ValueError, RecursionError):
-        raise ValueError(f"{path}: no JSON") from None
-
-
-def read_cluster(path):
-    """A cluster file, as a dict. A ValueError in one line where something is wrong with it."""
-    text = read_json(path)
-    if not isinstance(text, dict):
-        raise ValueError(f"{path}: no cluster file")
-    numbers = ["cluster", "n", "f", "me", "client"]
-    lists = ["roles", "keys", "nodes"]
-    for name in numbers + lists:
-        if type(text.get(name)) is not (int if name in numbers else list):
-            raise ValueError(f"{path}: no cluster file, {name} is wrong")
-    if type(text.get("hosts", [])) is not list:
-        raise ValueError(f"{path}: hosts are a list")
-    if not text["me"] < text["n"] <= MOST_NODES or not len(text["keys"]) == len(text["nodes"]) == text["n"]:
-        raise ValueError(f"{path}: n, me, keys and nodes don't fit together")
-    for pair in text["roles"]:
-        if type(pair) is not list or [type(number) for number in pair] != [int, int]:
-            raise ValueError(f"{path}: roles are pairs [role, owner]")
-    return text
-
-
 def node(word):
-    """The node of a word: its client port on this machine, or the path of its cluster file."""
-    if word.isdigit():
-        if not 0 < int(word) < 65_536:
-            raise argparse.ArgumentTypeError(f"{word} is no port")
-        return Named(int(word))
+    """The node of a word, which is as for `tundelca.door`."""
     try:
-        text = read_cluster(word)
+        if word.isdecimal() or word.startswith("@") or tundelca.is_socket(word):
+            door = tundelca.door(word)
+            if door.is_port() and not 0 < door.address < 65_536:
+                raise ValueError(f"{word} is no port")
+            return Named(door)
+        text = tundelca.read_cluster(word)
+        return Named(tundelca.door_of_file(word, text), word, text)
     except ValueError as error:
         raise argparse.ArgumentTypeError(str(error)) from None
-    return Named(text["client"], word, text)
+
+
+def account(word):
+    """The number of an account of this machine."""
+    try:
+        return tundelca.account_of(word)
+    except ValueError as error:
+        raise argparse.ArgumentTypeError(str(error)) from None
+
+
+def allow(given):
+    """Has the nodes that the words name be of the account, too, that they allow."""
+    owner = getattr(given, "account", None)
+
+    def of(one):
+        return replace(one, door=replace(one.door, owner=owner)) if isinstance(one, Named) else one
+
+    for name, value in vars(given).items() if owner is not None else ():
+        setattr(given, name, list(map(of, value)) if isinstance(value, list) else of(value))
 
 
 def cluster_file(word):

@@ -32,7 +32,8 @@ Where a cluster file is named, each command goes to the owner of its role; else 
 nodes are those by which it is paced: no command goes out more than 32 beyond what all but F of them have, and at
 the end they have all.""")
     one.add_argument("file", metavar="FILE", help="commands, a line of JSON each, as `stream` writes them")
-    one.add_argument("nodes", nargs="+", type=nodes.node, metavar="NODE", help="a client port, or a cluster file")
+    one.node("nodes", nargs="+")
+    one.account("--owner")
     one.add_argument("--may-lie", type=int, metavar="F", help="how many of the nodes may lie or stand still (by a "
                                                               "cluster file, else 0)")
     one.add_argument("--check", action="store_true", help="read the file and say what would go where; publish nothing")
@@ -40,8 +41,9 @@ the end they have all.""")
     one.set_defaults(run=publish)
     one = steps.add_parser("ask", "one line to a node, and its answer", example="""
   tundelca-ctl ask 7400 assign user=7 role=2
-  tundelca-ctl ask 7400 stop""")
-    one.add_argument("node", type=nodes.node, metavar="NODE", help="a client port, or a cluster file")
+  tundelca-ctl ask @0 reach owner=0""")
+    one.node()
+    one.account("--owner")
     one.add_argument("op", help="as in docs/CLIENTS.md")
     one.add_argument("members", nargs="*", type=pair, metavar="MEMBER=NUMBER")
     one.patience(10.0)
@@ -65,7 +67,7 @@ def pair(word):
 
 def ask(given):
     """Prints the answer to one line."""
-    with tundelca.Client(given.node.port, given.patience) as client:
+    with tundelca.Client(given.node.door, given.patience) as client:
         [answer] = client.ask_all([{"op": given.op, **dict(given.members)}])
     twice = "issued" in answer and tundelca.beyond_published(answer["issued"] + 1, answer["reach"], 0)
     if answer.get("error") == tundelca.REFUSES:
@@ -73,7 +75,7 @@ def ask(given):
     status, answer = REFUSED if "error" in answer else DONE, json.dumps(answer)
     print(answer)
     if twice:
-        raise Fault(NO, f"the node at port {given.node.port} {twice}: {tundelca.TWICE}")
+        raise Fault(NO, f"the node at {given.node.door} {twice}: {tundelca.TWICE}")
     return status
 
 
@@ -129,7 +131,7 @@ def routed(commands, named, given):
 
 
 def name_of(named, given):
-    """The name of a node that is named by its port."""
+    """The name of a node that is named by its door."""
     with Nodes([named], given.patience) as watched:
         [seen] = watched.look()
     if seen.standing is None:
@@ -145,7 +147,7 @@ def publish(given):
     parts = routed(commands, given.nodes, given)
     if given.check:
         for owner, node, part in parts:
-            print(f"node {owner}: {counted(len(part), 'command')}, at port {node.port}")
+            print(f"node {owner}: {counted(len(part), 'command')}, at {node.door}")
         return DONE
     issue(parts, given.nodes, nodes.may_lie_of(given.nodes, given.may_lie) or 0, given)
     return DONE
@@ -155,12 +157,12 @@ def issue(parts, named, may_lie, given):
     """Publishes for each owner its commands, and says how far it came. `given` has a patience and a deadline."""
     end = None if given.deadline is None else time.monotonic() + given.deadline
     for owner, node, commands in parts:
-        others = [one.port for one in named if one.port != node.port]
+        others = [one.door for one in named if one.door != node.door]
         left = None if end is None else max(0.0, end - time.monotonic())
         in_order = not all(command["op"] in ADDING for command in commands)
         told = progress(owner, len(commands)) if sys.stderr.isatty() else None
         try:
-            with tundelca.Client(node.port, min(ANSWER, given.patience)) as client:
+            with tundelca.Client(node.door, min(ANSWER, given.patience)) as client:
                 done = client.publish(commands, owner, others, may_lie, given.patience, left, in_order, told)
         finally:
             if told is not None:

@@ -18,7 +18,8 @@ def add(steps):
   tundelca-ctl sessions 7400 --close-user 7     ends those of user 7, as after a gateway was killed
 
 A session ends by this or by its gateway alone, and a node has at most 4,096. Only `tundelca` tells them.""")
-    one.add_argument("node", type=nodes.node, metavar="NODE", help="a client port, or a cluster file")
+    one.node()
+    one.account("--owner")
     choice = one.add_mutually_exclusive_group()
     choice.add_argument("--user", type=int, metavar="U", help="those of this user alone")
     choice.add_argument("--users", action="store_true", help="a row for each user")
@@ -29,7 +30,7 @@ A session ends by this or by its gateway alone, and a node has at most 4,096. On
 
 
 def run(given):
-    with tundelca.Client(given.node.port, given.patience) as client:
+    with tundelca.Client(given.node.door, given.patience) as client:
         if given.close_user is not None:
             return close(client, given.close_user)
         found = [(session, user) for session, user in client.sessions() if given.user in (None, user)]

@@ -23,11 +23,13 @@ def add(steps):
   tundelca-ctl status 7400 7401 7402 7403
   tundelca-ctl status --watch node*.json
   tundelca-ctl status --watch --every 5 7400
+  tundelca-ctl status @0                             the package's node 0, at its socket
 
 The status is 2 where a node is away, and 1 where something is by which to be woken: a node is begun twice or
-behind, as `health` means it, cut off, busy, slow to sync, or near its end. What takes two looks to see, as lost
-frames do, --watch tells.""")
-    one.add_argument("nodes", nargs="+", type=nodes.node, metavar="NODE", help="a client port, or a cluster file")
+behind, as `health` means it, cut off, busy, slow to sync, or near its end, or nine tenths of a share are used. What
+takes two looks to see, --watch tells: lost frames, and when each share ends at its last ten minutes' rate.""")
+    one.node("nodes", nargs="+")
+    one.account("--owner")
     one.add_argument("--watch", action="store_true", help="look again and again, until it is interrupted")
     one.add_argument("--every", type=nodes.seconds, metavar="S", help="with --watch: how often (1 s)")
     one.add_argument("--all", action="store_true", help=f"all owners, not only {MOST_OWNERS}")
@@ -42,8 +44,9 @@ frames do, --watch tells.""")
 A node is behind where it lacks more commands than one of the others has said to have, hears too few peers,
 has a full history, or can't write its journal. It is begun twice where it says so, or more of its own commands are
 there than it has published: what is published at it is lost.""")
-    one.add_argument("node", type=nodes.node, metavar="NODE", help="a client port, or a cluster file")
-    one.add_argument("--of", nargs="+", type=nodes.node, default=[], metavar="NODE", help="others to compare it with")
+    one.node()
+    one.node("--of", "others to compare it with", nargs="+", default=[])
+    one.account("--owner")
     one.add_argument("--lag", type=int, default=FEW, metavar="N", help="how many commands it may lack (%(default)s)")
     may_lie(one)
     one.patience(2.0)
@@ -62,7 +65,7 @@ def health(given):
         sight = Sight(watched.look(may_lie), may_lie)
     one = sight.seen[0]
     state, found = sight.state(one, given.lag)
-    told = [finding.text for finding in found if state in (READY, finding.kind)]
+    told = [finding.text for finding in found + sight.spent(str(one)) if state in (READY, finding.kind)]
     if state == READY:
         told.insert(0, described(one))
     print(f"{state}: {'; '.join(told)}")
@@ -71,8 +74,14 @@ def health(given):
 
 def described(one):
     it = one.standing
-    return f"{one} at port {one.node.port}, {counted(sum(it.reaches), 'command')}, " \
-           f"{percent(it.used())} of its life span"
+    parts = [f"{one} at {one.node.door}", counted(sum(it.reaches), "command"),
+             f"{percent(it.used())} of its life span"]
+    if it.owns() is not None:
+        used, share = it.owns()
+        parts.append(f"{counted(max(0, share - used), 'place')} left")
+    if it.shares is not None:
+        parts.append(f"{counted(max(0, it.acts_share - it.acts), 'act')} left")
+    return ", ".join(parts)
 
 
 def status(given):
@@ -104,7 +113,7 @@ def status(given):
 def row(one):
     """What is known of a node, for a program."""
     known = {} if one.standing is None else dataclasses.asdict(one.standing)
-    return {"port": one.node.port, "away": one.why, "begun_twice": one.begun_twice(), **known}
+    return {**one.node.labels(), "away": one.why, "begun_twice": one.begun_twice(), **known}
 
 
 def page(terminal, sight, grown, seconds, is_all):
@@ -139,25 +148,35 @@ def head(terminal, sight, found, grown, seconds):
 
 def node_table(terminal, sight):
     """A row for each node."""
-    table = Table([("node", False, 9), ("port", False, 8), ("state", True, 10), ("behind", False, 7),
-                   ("history", False, 3), ("life span used", True, 6), ("sessions", False, 4), ("hears", False, 5),
-                   ("waiting", False, 1), ("again", False, 2), ("lost", False, 1), ("unopened", False, 0),
-                   ("sync mean, worst", True, 2)])
+    where = "port" if all(one.node.door.is_port() for one in sight.seen) else "at"
+    table = Table([("node", False, 9), (where, False, 8), ("state", True, 10), ("behind", False, 7),
+                   ("history", False, 3), ("life span used", True, 6), ("acts left", True, 3), ("sessions", False, 4),
+                   ("hears", False, 5), ("waiting", False, 1), ("again", False, 2), ("lost", False, 1),
+                   ("unopened", False, 0), ("sync mean, worst", True, 2)])
     for one in sight.seen:
         state, _ = sight.state(one)
         me = terminal.mark("–", "-") if one.me() is None else one.me()
-        cells = [str(me), str(one.node.port), (state, STYLES[state])]
-        table.add(*cells, *(standing_cells(terminal, one.standing, sight.lacks(one)) if one.standing else [""] * 10))
+        cells = [str(me), one.node.door.short(), (state, STYLES[state])]
+        table.add(*cells, *(standing_cells(terminal, sight, one) if one.standing else [""] * 11))
     return table
 
 
-def standing_cells(terminal, it, lacks):
+def lasts(terminal, share):
+    """What is left of a share, and in --watch for how long: a cell."""
+    if share is None:
+        return (terminal.mark("–", "-"), DIM)
+    return (share.lasts(), PLAIN if share.told() is None else YELLOW)
+
+
+def standing_cells(terminal, sight, one):
     """What a node that answers says of itself, in the columns of the table."""
     none = (terminal.mark("–", "-"), DIM)
+    it, lacks = one.standing, sight.lacks(one)
     used = it.used()
     style = RED if used >= 1 else YELLOW if used >= 0.9 else GREEN
     cells = [(f"{lacks:,}", YELLOW if lacks > FEW else PLAIN), f"{it.at:,}",
-             (f"{terminal.bar(used)} {percent(used)}", style)]
+             (f"{terminal.bar(used)} {percent(used)}", style),
+             lasts(terminal, sight.shares.get(one.node.door))]
     if it.peers is None:
         return cells + [none] * 7
     hears, others = it.hears(), len(it.others())
@@ -180,9 +199,9 @@ def owner_table(terminal, sight, is_all):
     """A row for each owner that has published, with how far each node has its stream."""
     shown, most = [one for one in sight.seen if one.standing is not None], sight.most
     wide = shown[:MOST_SHOWN]
-    heads = [f"node {one.me()}" if one.me() is not None else f"{one.node.port}" for one in wide]
-    table = Table([("owner", False, 200), ("published", False, 199), *((text, False, 100 - at)
-                                                                       for at, text in enumerate(heads))])
+    heads = [f"node {one.me()}" if one.me() is not None else one.node.door.short() for one in wide]
+    table = Table([("owner", False, 200), ("published", False, 199), ("places left", True, 198),
+                   *((text, False, 100 - at) for at, text in enumerate(heads))])
     rows = [owner for owner in range(len(most)) if any(owner < len(one.standing.reaches) and
                                                        one.standing.reaches[owner] for one in shown)]
     rows.sort(key=lambda owner: (not differs(shown, owner), owner))
@@ -191,6 +210,7 @@ def owner_table(terminal, sight, is_all):
         issued = [one.standing.published for one in shown if one.standing.me == owner]
         cells = [(f"{one.standing.reaches[owner]:,}" if owner < len(one.standing.reaches) else "") for one in wide]
         table.add(str(owner), f"{issued[0]:,}" if issued else (terminal.mark("–", "-"), DIM),
+                  lasts(terminal, sight.shares.get(owner)),
                   *((text, YELLOW if text and int(text.replace(",", "")) < most[owner] else PLAIN) for text in cells))
     yield from table.lines(terminal)
     if left:

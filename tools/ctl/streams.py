@@ -7,6 +7,7 @@ import time
 import tundelca
 from ctl import DONE, NO, WORDS, Fault, nodes
 from ctl.terminal import counted
+from ctl.words import NODE
 
 LOOKS_AGAIN = 0.2  # seconds until it is asked again whether there is more
 TRIES_AGAIN = 1.0  # seconds until a node that is away is tried again
@@ -23,7 +24,8 @@ def add(steps):
 A line is {"owner":0,"place":3,"op":"assign","role":2,"user":7}; `publish` takes such lines. With --follow a node
 that goes away is tried again each second, and nothing is told twice. Only `tundelca` tells its commands.""")
     one.add_argument("owner", type=int, metavar="OWNER", help="a node's number")
-    one.add_argument("node", type=nodes.node, metavar="NODE", help="whom to ask: a client port, or a cluster file")
+    one.node(help=f"whom to ask: {NODE}")
+    one.account()
     one.add_argument("--from", dest="start", type=int, default=0, metavar="PLACE", help="the first place (0)")
     one.add_argument("--follow", action="store_true", help="go on with what comes, until it is interrupted")
     one.add_argument("--seconds", type=nodes.seconds, metavar="S", help="with --follow: end after so many seconds")
@@ -35,7 +37,8 @@ that goes away is tried again each second, and nothing is told twice. Only `tund
 
 The status is 1 where a command differs: then one of the two lies. That one is further than the other is told, and no
 difference.""")
-    one.add_argument("nodes", nargs=2, type=nodes.node, metavar="NODE", help="a client port, or a cluster file")
+    one.node("nodes", nargs=2)
+    one.account()
     one.add_argument("--owner", type=int, metavar="O", help="this owner's stream alone")
     one.patience(10.0)
     one.set_defaults(run=diff)
@@ -46,14 +49,14 @@ def stream(given):
     if not (0 <= given.owner < OWNERS and 0 <= given.start < tundelca.PLACES):
         raise Fault(WORDS, "no such owner or place")
     if not given.follow:
-        with tundelca.Client(given.node.port, given.patience) as client:
+        with tundelca.Client(given.node.door, given.patience) as client:
             write(client, given.owner, given.start)
         return DONE
     place, is_away = given.start, False
     end = float("inf") if given.seconds is None else time.monotonic() + given.seconds
     while time.monotonic() < end:
         try:
-            with tundelca.Client(given.node.port, given.patience) as client:
+            with tundelca.Client(given.node.door, given.patience) as client:
                 while time.monotonic() < end:
                     place, is_away = write(client, given.owner, place), False
                     sys.stdout.flush()
@@ -96,8 +99,8 @@ def write(client, owner, place):
 
 def diff(given):
     """Compares the streams of two nodes."""
-    with tundelca.Client(given.nodes[0].port, given.patience) as one, \
-            tundelca.Client(given.nodes[1].port, given.patience) as other:
+    with tundelca.Client(given.nodes[0].door, given.patience) as one, \
+            tundelca.Client(given.nodes[1].door, given.patience) as other:
         if given.owner is None:
             reaches = list(zip(one.reaches(), other.reaches()))
         else:
@@ -111,7 +114,7 @@ def is_same(given, owner, reaches):
     """Whether both have the same commands of the owner, as far as both are. Says how it is."""
     length = min(reaches)
     with contextlib.ExitStack() as stack:
-        clients = [stack.enter_context(tundelca.Client(node.port, given.patience)) for node in given.nodes]
+        clients = [stack.enter_context(tundelca.Client(node.door, given.patience)) for node in given.nodes]
         for place, both in enumerate(zip(*(client.stream(owner, 0, length) for client in clients))):
             commands = [json.dumps(command, sort_keys=True) for command in both]
             if commands[0] != commands[1]:

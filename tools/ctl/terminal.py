@@ -90,3 +90,11 @@ def microseconds(number):
     if number < 1_000:
         return f"{number} µs"
     return f"{number / 1_000:.3g} ms" if number < 1_000_000 else f"{number / 1_000_000:.3g} s"
+
+
+def lasting(seconds):
+    """How long something lasts, for a person: in the greatest unit of which it is two or more."""
+    for size, name in ((31_557_600, "years"), (86_400, "days"), (3_600, "hours"), (60, "minutes")):
+        if seconds >= 2 * size:
+            return f"{seconds / size:,.0f} {name}"
+    return f"{seconds:.0f} seconds"

@@ -4,6 +4,7 @@ import argparse
 from ctl import WORDS, nodes
 
 NAME = "tundelca-ctl"
+NODE = "a client port, a socket's path, @NAME, or a cluster file"
 
 
 class Words(argparse.ArgumentParser):
@@ -11,6 +12,15 @@ class Words(argparse.ArgumentParser):
 
     def error(self, message):
         self.exit(WORDS, f"{self.prog}: {message}; --help says more\n")
+
+    def node(self, name="node", help=NODE, **more):
+        """A node, or some."""
+        self.add_argument(name, type=nodes.node, metavar="NODE", help=help, **more)
+
+    def account(self, *others):
+        """Whose nodes are believed, too, where they listen at sockets."""
+        self.add_argument("--account", *others, dest="account", type=nodes.account, metavar="ACCOUNT",
+                          help="who may listen at a socket too, beside root, tundelca and who asks")
 
     def patience(self, default):
         """How long an answer may take."""

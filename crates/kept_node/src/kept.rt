@@ -11,6 +11,7 @@ ghost use Rattle.batch_journal.specs.Journals as journals;
 ghost use Rattle.batch_journal.specs.Journals.{Records, IsSame};
 ghost use Rattle.batch_journal.specs.Readings.{room_behind};
 ghost use Rattle.batch_journal.specs.declared.fault.JournalFault.TheVariants as journal_fault;
+ghost use Rattle.owner_shares.specs.Answers.{answer_of_shares};
 ghost use Rattle.role_node.specs.Begun.{is_begun_twice};
 ghost use Rattle.role_node.specs.Histories.{issued};
 ghost use Rattle.role_node.specs.Nodes.{IsLegalNode};
@@ -34,6 +35,7 @@ use crate::untold::{Synced, Untold};
 use batch_journal::{Journal, JournalFault};
 use link_frames::{Packet, Place};
 use node_lock::{Call, Locked, Outcome, Seat, StepFault};
+use owner_shares::{ShareAnswer, Shares};
 use peer_windows::{Owed, Pairs};
 use quorum_sizes::NodeName;
 use role_node::{Event, Node};
@@ -160,6 +162,18 @@ impl<L: Ledger, D: Disk> Kept<L, D> {
         ensures crash { Survives D.Disk.may_leave D.Disk.is_clean self.now }
     {
         self.locked.node().published()
+    }
+
+    /// What the shares answer to an event at the node, with what is not yet synced, before it is asked
+    /// ([`Shares::answer`]).
+    pub fn share_answer(&self, shares: &Shares, event: &Event) -> Option<ShareAnswer>
+        ensures value { result ≡ answer_of_shares shares.now self.now.held.node event.now }
+        ensures legal { IsLegalNode self.now.held.node }
+        ensures crash { Survives D.Disk.may_leave D.Disk.is_clean self.now }
+    {
+        let node = self.locked.node();
+        let _events = node.events();
+        shares.answer(node, event)
     }
 
     /// Whether so many events wait for a sync that no hold is made before it.

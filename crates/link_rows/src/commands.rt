@@ -25,8 +25,15 @@ fn parsed(alloc: Global, text: &str) -> Result<String, RowFault> {
 /// A command as it is written, or `none`.
 fn printed(alloc: Global, command: Option<Command>) -> Result<String, RowFault> {
     match command {
-        Some(command) => Ok(print_command(alloc, &command)?),
+        Some(command) => command_text(alloc, &command),
         None => text_of(alloc, &"none"),
+    }
+}
+
+fn command_text(alloc: Global, command: &Command) -> Result<String, RowFault> {
+    match print_command(alloc, command) {
+        Ok(text) => Ok(text),
+        Err(_) => Err(RowFault::Memory),
     }
 }
 

@@ -4,8 +4,10 @@ ghost use Rattle.std.specs.Prelude.{◌≡◌, ◌<◌};
 
 use link_frames::{KeyFault, Message, Packet, PairKeys, frames_of, hmac_sha256, open_frame, seal};
 use quorum_sizes::{NodeName, Sizes};
-use row_words::{RowFault, Spelled, Words, hex_text, kind_word, text_of};
+use row_words::{Pair, RowFault, Spelled, Words, hex_text, kind_word, text_of};
 use std::alloc::Global;
+use std::fmt;
+use std::fmt::Display;
 
 /// So many bytes have a tag here.
 const MOST_BYTES: usize = 65_536;
@@ -122,35 +124,41 @@ fn key_of(alloc: Global, words: &mut Words<'_>) -> Result<[u8; 32], RowFault> {
 fn sealed(alloc: Global, ring: &Ring, words: &mut Words<'_>) -> Result<String, RowFault> {
     let cluster = words.wide()?;
     let to = words.node(&ring.sizes)?;
-    let message = Message {
-        kind: words.kind()?,
-        owner: words.node(&ring.sizes)?,
-        place: words.wide()?,
-        command: words.command()?,
-    };
-    match Packet::new(ring.me, to, message) {
+    match Packet::new(ring.me, to, message(&ring.sizes, words)?) {
         Some(packet) => hex_text(alloc, &seal(&ring.keys, cluster, &packet)),
         None => text_of(alloc, &"none"),
     }
 }
 
+/// `KIND OWNER PLACE C`
+fn message(sizes: &Sizes, words: &mut Words<'_>) -> Result<Message, RowFault> {
+    Ok(Message {
+        kind: words.kind()?,
+        owner: words.node(sizes)?,
+        place: words.wide()?,
+        command: words.command()?,
+    })
+}
+
 /// What comes of opening these bytes: `FROM TO KIND OWNER PLACE C`, or the fault.
 fn opened(alloc: Global, ring: &Ring, cluster: u32, bytes: &[u8]) -> Result<String, RowFault> {
     match open_frame(&ring.keys, &ring.sizes, cluster, bytes) {
-        Ok(packet) => packet_text(alloc, &packet),
+        Ok(packet) => text_of(alloc, &Shown(packet)),
         Err(fault) => text_of(alloc, &fault),
     }
 }
 
-fn packet_text(alloc: Global, packet: &Packet) -> Result<String, RowFault> {
-    let (from, to, owner) = (
-        packet.from().index(),
-        packet.to().index(),
-        packet.owner().index(),
-    );
-    let (kind, place) = (kind_word(packet.kind()), packet.place());
-    let command = Spelled(packet.command());
-    Ok(format!(in alloc; "{from} {to} {kind} {owner} {place} {command}")?)
+/// A packet, as `FROM TO KIND OWNER PLACE C`.
+#[derive(Clone, Copy)]
+struct Shown(Packet);
+
+impl Display for Shown {
+    fn fmt<W: fmt::Write>(&self, f: &mut fmt::Formatter<W>) -> fmt::Result {
+        let (from, to) = (self.0.from().index(), self.0.to().index());
+        let (owner, place) = (self.0.owner().index(), self.0.place());
+        let (kind, command) = (kind_word(self.0.kind()), Spelled(self.0.command()));
+        write!(f, "{from} {to} {kind} {owner} {place} {command}")
+    }
 }
 
 /// `front CLUSTER COUNT`: opens so many first bytes of the frame.
@@ -185,7 +193,9 @@ fn flip(
 /// `cut`: how many frames the bytes are, and what is left of them.
 fn cut(alloc: Global, frames: &Frames) -> Result<String, RowFault> {
     let (whole, rest) = frames_of(&frames.frame);
-    let count = whole.len();
     let rest = hex_text(alloc, rest)?;
-    Ok(format!(in alloc; "{count} frames, rest {rest}")?)
+    text_of(
+        alloc,
+        &Pair(whole.len(), Pair("frames, rest", rest.as_str())),
+    )
 }

@@ -4,10 +4,11 @@ use crate::devices::{Sink, Source, Twice, reader, writer};
 use link_frames::{
     Ahead, AheadFault, Held, Next, ReadFault, Watched, read_frame, read_patiently, write_whole,
 };
-use row_words::{RowFault, Words, hex_text, text_of};
+use row_words::{OrNone, Pair, RowFault, Words, hex_text, text_of};
 use std::alloc::Global;
-use std::io;
-use std::io::{Read, Write};
+use std::fmt::Display;
+use std::io::{ErrorKind, Read, Write};
+use std::{fmt, io};
 
 /// Bytes with a reader of them, what it was read ahead, what is held, and a writer.
 #[derive(Drop)]
@@ -74,9 +75,16 @@ fn begin_reading(
 ) -> Result<(), RowFault> {
     let count = usize::from(words.byte()?);
     let front = lines.bytes.get(..count).ok_or(RowFault::BadRow)?;
-    lines.reader = Watched::new(reader(front.to_vec(alloc)?, is_odd, words)?);
+    lines.reader = Watched::new(reader(copy_of(alloc, front)?, is_odd, words)?);
     lines.ahead = Ahead::new(alloc);
     Ok(())
+}
+
+fn copy_of(alloc: Global, bytes: &[u8]) -> Result<Vec<u8>, RowFault> {
+    match bytes.to_vec(alloc) {
+        Ok(copy) => Ok(copy),
+        Err(_) => Err(RowFault::Memory),
+    }
 }
 
 fn read(
@@ -102,16 +110,30 @@ fn read_raw(
     let mut buffer = [0u8; 8];
     let count = usize::from(words.byte()?);
     let buffer = buffer.get_mut(..count).ok_or(RowFault::BadRow)?;
-    match reader.read(buffer) {
-        Ok(read) => hex_text(alloc, buffer.get(..read).ok_or(RowFault::BadRow)?),
-        Err(error) => error_text(alloc, &error, buffer),
+    let came = reader.read(buffer);
+    read_text(alloc, &came, buffer)
+}
+
+fn read_text(alloc: Global, came: &io::Result<usize>, buffer: &[u8]) -> Result<String, RowFault> {
+    match came {
+        Ok(read) => hex_text(alloc, buffer.get(..*read).ok_or(RowFault::BadRow)?),
+        Err(error) => error_text(alloc, error, buffer),
     }
 }
 
 fn error_text(alloc: Global, error: &io::Error, buffer: &[u8]) -> Result<String, RowFault> {
-    let kind = error.kind();
     let left = hex_text(alloc, buffer)?;
-    Ok(format!(in alloc; "{kind:?} {left}")?)
+    text_of(alloc, &Pair(Kind(error.kind()), left.as_str()))
+}
+
+/// The kind of an error, as Rust names it.
+#[derive(Clone, Copy)]
+struct Kind(ErrorKind);
+
+impl Display for Kind {
+    fn fmt<W: fmt::Write>(&self, f: &mut fmt::Formatter<W>) -> fmt::Result {
+        write!(f, "{:?}", self.0)
+    }
 }
 
 /// `read-patiently COUNT`: how many bytes came.
@@ -135,17 +157,32 @@ fn frame_read(alloc: Global, reader: &mut Watched<Twice<Source>>) -> Result<Stri
         Ok(Some(frame)) => hex_text(alloc, &frame),
         Ok(None) => text_of(alloc, &"none"),
         Err(ReadFault::Truncated(count)) => {
-            let fault = ReadFault::Truncated(count);
-            Ok(format!(in alloc; "{fault} {count}")?)
+            text_of(alloc, &Pair(ReadFault::Truncated(count), count))
         }
         Err(fault) => text_of(alloc, &fault),
     }
 }
 
-/// `counts`: how many reads were made, how many of them failed, and how many of these were no interruptions.
+/// How many calls of a device failed, and how many of these were no interruptions.
+#[derive(Clone, Copy)]
+struct Failed {
+    faults: u64,
+    breaks: u64,
+}
+
+impl Display for Failed {
+    fn fmt<W: fmt::Write>(&self, f: &mut fmt::Formatter<W>) -> fmt::Result {
+        write!(f, "faults {} breaks {}", self.faults, self.breaks)
+    }
+}
+
+/// `counts`: how many reads were made, and how many of them failed.
 fn counts(alloc: Global, reader: &Watched<Twice<Source>>) -> Result<String, RowFault> {
-    let (reads, faults, breaks) = (reader.reads(), reader.faults(), reader.breaks());
-    Ok(format!(in alloc; "reads {reads} faults {faults} breaks {breaks}")?)
+    let failed = Failed {
+        faults: reader.faults(),
+        breaks: reader.breaks(),
+    };
+    text_of(alloc, &Pair(Pair("reads", reader.reads()), failed))
 }
 
 fn look_ahead(
@@ -164,18 +201,24 @@ fn look_ahead(
     }
 }
 
-fn next_text(alloc: Global, next: Next) -> Result<String, RowFault> {
-    match next {
-        Next::Line(count) => Ok(format!(in alloc; "line {count}")?),
-        Next::Last(count) => Ok(format!(in alloc; "last {count}")?),
-        Next::TooLong => text_of(alloc, &"too long"),
-        Next::End => text_of(alloc, &"end"),
+/// What comes next, as it is written.
+#[derive(Clone, Copy)]
+struct Coming(Next);
+
+impl Display for Coming {
+    fn fmt<W: fmt::Write>(&self, f: &mut fmt::Formatter<W>) -> fmt::Result {
+        match self.0 {
+            Next::Line(count) => write!(f, "line {count}"),
+            Next::Last(count) => write!(f, "last {count}"),
+            Next::TooLong => f.write_str("too long"),
+            Next::End => f.write_str("end"),
+        }
     }
 }
 
 fn peeked(alloc: Global, came: Result<Next, AheadFault>) -> Result<String, RowFault> {
     match came {
-        Ok(next) => next_text(alloc, next),
+        Ok(next) => text_of(alloc, &Coming(next)),
         Err(AheadFault::Memory) => Err(RowFault::Memory),
         Err(fault) => text_of(alloc, &fault),
     }
@@ -194,10 +237,7 @@ fn held_peek(alloc: Global, lines: &mut Lines, limit: usize) -> Result<String, R
 
 /// `begins LIMIT`: the same, of the bytes alone that were read ahead.
 fn begins(alloc: Global, lines: &Lines, limit: usize) -> Result<String, RowFault> {
-    match lines.ahead.begins(limit) {
-        Some(next) => next_text(alloc, next),
-        None => text_of(alloc, &"none"),
-    }
+    text_of(alloc, &OrNone(lines.ahead.begins(limit).map(Coming)))
 }
 
 /// `take COUNT`: uses up so many bytes.
@@ -249,10 +289,16 @@ fn write(
 
 /// `hold-lines TEXT`: holds other lines, which are this one.
 fn hold_lines(alloc: Global, held: &mut Held, text: &str) -> Result<String, RowFault> {
-    let mut lines = Held::new(alloc);
-    lines.push_line(text)?;
-    held.push_lines(&lines)?;
+    held.push_lines(&line_held(alloc, text)?)?;
     text_of(alloc, &"ok")
+}
+
+fn line_held(alloc: Global, text: &str) -> Result<Held, RowFault> {
+    let mut lines = Held::new(alloc);
+    match lines.push_line(text) {
+        Ok(()) => Ok(lines),
+        Err(_) => Err(RowFault::Memory),
+    }
 }
 
 /// `write-due LIMIT`: writes what is held if it is due.
@@ -299,13 +345,13 @@ fn whole(
 /// `flush`: a flush that fails is no failed write.
 fn flush(alloc: Global, writer: &mut Twice<Sink>) -> Result<String, RowFault> {
     let mut writer = Watched::new(writer);
-    let came = writer.flush();
-    let (faults, breaks) = (writer.faults(), writer.breaks());
-    match came {
-        Ok(()) => Ok(format!(in alloc; "ok faults {faults} breaks {breaks}")?),
-        Err(error) => {
-            let kind = error.kind();
-            Ok(format!(in alloc; "{kind:?} faults {faults} breaks {breaks}")?)
-        }
+    let kind = writer.flush().err().map(|error| error.kind());
+    let failed = Failed {
+        faults: writer.faults(),
+        breaks: writer.breaks(),
+    };
+    match kind {
+        None => text_of(alloc, &Pair("ok", failed)),
+        Some(kind) => text_of(alloc, &Pair(Kind(kind), failed)),
     }
 }

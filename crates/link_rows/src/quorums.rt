@@ -3,6 +3,8 @@
 use quorum_sizes::{NodeName, NodeSet, Sizes, quorums_meet};
 use row_words::{OrNone, RowFault, Words, text_of, yes_or_no};
 use std::alloc::Global;
+use std::fmt;
+use std::fmt::Display;
 
 /// `quorums`: two sets, which are empty.
 #[derive(Clone, Copy)]
@@ -41,15 +43,24 @@ pub fn answer(alloc: Global, quorums: &mut Quorums, line: &str) -> Result<String
 fn sizes(alloc: Global, words: &mut Words<'_>) -> Result<String, RowFault> {
     let n = words.byte()?;
     match Sizes::new(n, words.byte()?) {
-        Ok(sizes) => sizes_text(alloc, &sizes),
+        Ok(sizes) => text_of(alloc, &Quorate(sizes)),
         Err(fault) => text_of(alloc, &fault),
     }
 }
 
-fn sizes_text(alloc: Global, sizes: &Sizes) -> Result<String, RowFault> {
-    let (n, f) = (sizes.n(), sizes.f());
-    let (echo, amplify, deliver) = (sizes.echo_quorum(), sizes.amplify(), sizes.deliver());
-    Ok(format!(in alloc; "n {n} f {f} echo {echo} amplify {amplify} deliver {deliver}")?)
+/// Sizes, with the three quorums.
+#[derive(Clone, Copy)]
+struct Quorate(Sizes);
+
+impl Display for Quorate {
+    fn fmt<W: fmt::Write>(&self, f: &mut fmt::Formatter<W>) -> fmt::Result {
+        let (n, liars) = (self.0.n(), self.0.f());
+        let (echo, amplify, deliver) = (self.0.echo_quorum(), self.0.amplify(), self.0.deliver());
+        write!(
+            f,
+            "n {n} f {liars} echo {echo} amplify {amplify} deliver {deliver}"
+        )
+    }
 }
 
 /// `name N F I`: the name of node I of these sizes.

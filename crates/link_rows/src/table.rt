@@ -2,7 +2,7 @@
 
 use quorum_sizes::Sizes;
 use role_commands::{RoleTable, TableFault};
-use row_words::{OrNone, RowFault, Words, text_of, yes_or_no};
+use row_words::{OrNone, Pair, RowFault, Words, text_of, yes_or_no};
 use std::alloc::Global;
 
 /// `table N F`: no roles.
@@ -30,7 +30,11 @@ pub fn answer(alloc: Global, table: &mut RoleTable, line: &str) -> Result<String
 fn add(alloc: Global, table: &mut RoleTable, words: &mut Words<'_>) -> Result<String, RowFault> {
     let role = words.narrow()?;
     let owner = words.byte()?;
-    match table.add(role, owner) {
+    added(alloc, table.add(role, owner))
+}
+
+fn added(alloc: Global, came: Result<(), TableFault>) -> Result<String, RowFault> {
+    match came {
         Ok(()) => text_of(alloc, &"ok"),
         Err(TableFault::Memory) => Err(RowFault::Memory),
         Err(fault) => text_of(alloc, &fault),
@@ -62,6 +66,5 @@ fn owned(alloc: Global, table: &RoleTable, words: &mut Words<'_>) -> Result<Stri
 }
 
 fn sizes(alloc: Global, sizes: &Sizes) -> Result<String, RowFault> {
-    let (n, f) = (sizes.n(), sizes.f());
-    Ok(format!(in alloc; "n {n} f {f}")?)
+    text_of(alloc, &Pair(Pair("n", sizes.n()), Pair("f", sizes.f())))
 }

@@ -3,9 +3,10 @@
 use kept_node::{Kept, Untold};
 use link_frames::{Packet, Place};
 use node_lock::{Call, Outcome, Seat, StepFault};
+use owner_shares::{ShareAnswer, Shares};
 use peer_windows::{Owed, Pairs};
 use quorum_sizes::NodeName;
-use role_node::Node;
+use role_node::{Event, Node};
 use served_node::{HeldNode, NotKept, Said};
 use sqlite_disk::Disk;
 use std::sync::ledger::Ledger;
@@ -54,6 +55,10 @@ impl<L: Ledger + Send + Sync, D: Disk> HeldNode for Journaled<L, D> {
 
     fn published(&self) -> u32 {
         self.kept.published()
+    }
+
+    fn share_answer(&self, shares: &Shares, event: &Event) -> Option<ShareAnswer> {
+        self.kept.share_answer(shares, event)
     }
 
     fn must_sync(&self) -> bool {

@@ -16,6 +16,7 @@ ghost use Rattle.node_journal.specs.Refusals as refusals;
 ghost use Rattle.node_journal.specs.Refusals.{IsNotMade, IsNotRestored};
 ghost use Rattle.node_journal.specs.Sights.{HasByte, IsSeen};
 
+use crate::beyond::{Beyond, beyond_in};
 use crate::fault::KeptFault;
 use crate::held::Journaled;
 use batch_journal::{Journal, JournalFault, read};
@@ -148,6 +149,8 @@ pub struct Sight {
     pub size: u64,
     /// Behind the last batch stands what is none, which a crash may leave.
     pub is_torn: bool,
+    /// An owner of whose stream it has more than its share, if there is one.
+    pub beyond: Option<Beyond>,
 }
 
 /// Looks at the journal of a node with so many seats, and changes nothing.
@@ -217,6 +220,7 @@ fn look_at<L: Ledger, D: Disk + Drop>(
             used: found.end,
             size: found.size,
             is_torn,
+            beyond: beyond_in(locked.node()),
         }),
         Err(ReplayFault::Illegal { .. }) => Err(KeptFault::Illegal),
         Err(ReplayFault::Memory) => Err(KeptFault::Journal(JournalFault::Memory)),

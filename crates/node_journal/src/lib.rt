@@ -5,12 +5,14 @@
 //! program ends whose journal is refused.
 #![tactic(auto)]
 
+mod beyond;
 mod fault;
 mod held;
 mod journal_file;
 mod keeping;
 mod keys;
 
+pub use beyond::Beyond;
 pub use fault::KeptFault;
 pub use held::Journaled;
 pub use journal_file::{make_journal, open_journal, open_to_look, remove_beside};

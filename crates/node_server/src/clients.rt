@@ -320,6 +320,9 @@ impl<N: HeldNode, K: FrameKeys, R: Wait + Clock> Client<'_, '_, N, K, R> {
     fn answer_line(&mut self, line: &[u8]) -> Result<AfterLine, AheadFault> {
         self.lines = self.lines.saturating_add(1);
         self.asked = false;
+        if self.server.operators && asked::may_ask_decisions(line) && self.answer_decisions(line)? {
+            return Ok(AfterLine::Continue);
+        }
         let sizes = self.server.keys.sizes();
         match self.requests.read(&sizes, line) {
             Ok(Request::Stop) => Ok(self.stop()),

@@ -32,6 +32,7 @@ pub use fault::ServerFault;
 use frame_queues::MOST_CLIENTS;
 pub use frame_queues::{ClusterKeys, FrameKeys, Limits, PeerName};
 use node_lock::{Inbox, Seat};
+use owner_shares::Shares;
 use peers::Peers;
 use ports::{Listeners, Ports, poll_of};
 pub use served_node::{HeldNode, NotKept, Said};
@@ -73,6 +74,8 @@ pub struct Site {
     /// `{`; else one that does not begin as an HTTP request is a client's. Then a command at a node that was begun twice
     /// is refused, and a client's connection gives way to another where the door's slots are all taken.
     pub operators: bool,
+    /// The shares that are asked before the node, if any. They are those of its table of roles.
+    pub shares: Option<Shares>,
 }
 
 /// A listener at an address, which never waits.

@@ -32,7 +32,7 @@ impl<N: HeldNode, K: FrameKeys, R: Wait + Clock> Server<'_, N, K, R> {
         let _ = keep(self.rt, &self.syncs, &mut *node);
         let answer = node
             .kept()
-            .and_then(|node| node_answer(self.alloc, node, &self.roles, request));
+            .and_then(|node| node_answer(self.alloc, node, &self.roles, self.shares, request));
         drop(node);
         self.end_turn(has_turn);
         answer

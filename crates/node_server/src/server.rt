@@ -5,6 +5,7 @@ use frame_queues::{ALL_SLOTS, FrameKeys, SlotStanding};
 use link_frames::{Frame, Message, Place};
 use mio::Waker;
 use node_lock::{Call, Seat};
+use owner_shares::Shares;
 use peer_windows::Share;
 use quorum_sizes::NodeName;
 use role_commands::Items;
@@ -40,6 +41,8 @@ pub struct Server<'a, N: HeldNode, K: FrameKeys, R> {
     pub idle: Duration,
     /// Whether the lines of operators are answered; what they are told of syncs, and of what is heard of the peers.
     pub operators: bool,
+    /// The shares that are asked before the node, if any.
+    pub shares: Option<Shares>,
     pub syncs: Mutex<SyncTally>,
     pub heard: Mutex<Heard>,
     /// Whether more peers than may lie have voted ahead of what the node has published.

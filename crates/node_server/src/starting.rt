@@ -69,6 +69,7 @@ pub fn server_of<'a, N: HeldNode + Drop, K: FrameKeys + Drop, R: Clock>(
         waker,
         idle: site.idle,
         operators: site.operators,
+        shares: site.shares,
         syncs: Mutex::new(SyncTally::new()),
         heard: Mutex::new(beside.heard),
         votes_ahead: Mutex::new(false),
@@ -156,10 +157,8 @@ fn crew_of<'a, N: HeldNode, K: FrameKeys, R: Clock>(
     site: &Site,
 ) -> Result<Crew<'a, N>, AllocError> {
     let (sizes, me) = (keys.sizes(), keys.me());
-    let hold_rules = HoldRules {
-        begun_twice: site.operators,
-    };
-    let front = Front::new(alloc, sizes, me, hold_rules, most_batch::<N>(), millis(rt))?;
+    let (rules, most) = (hold_rules_of(site), most_batch::<N>());
+    let front = Front::new(alloc, sizes, me, rules, most, millis(rt))?;
     Ok(Crew {
         idle,
         front: Some(front),
@@ -170,6 +169,18 @@ fn crew_of<'a, N: HeldNode, K: FrameKeys, R: Clock>(
         failed: false,
         ended: false,
     })
+}
+
+/// Which calls get no hold at a site: where operators' lines are answered the commands of a node that was begun twice,
+/// and what its shares lose or refuse.
+fn hold_rules_of(site: &Site) -> HoldRules
+    ensures begun_twice { result.begun_twice ≡ site.now.operators }
+    ensures shares { result.shares ≡ site.now.shares }
+{
+    HoldRules {
+        begun_twice: site.operators,
+        shares: site.shares,
+    }
 }
 
 /// An empty outbox for each other node, by its address.

@@ -7,6 +7,7 @@ use Rattle.role_commands.specs.declared.command.Command.TheVariants as command
 use Rattle.role_sessions.specs.Decisions.{rule_code}
 use Rattle.role_sessions.specs.declared.verdict.Verdict as verdicts
 use Rattle.role_sessions.specs.declared.verdict.Verdict.TheVariants.{Allow, Deny}
+use Rattle.owner_shares.specs.Shares.{acts_share}
 use Rattle.operator_lines.specs.Members.{member_name}
 use Rattle.operator_lines.specs.Faults.{operator_fault_text, serving_fault_text, named_member}
 use Rattle.operator_lines.specs.declared.fault.ServingFault.{ServingFault}
@@ -40,18 +41,31 @@ peer_text p =
     ++ codes ",\"heard\":" ++ flag_text p.heard ++ codes ",\"lost\":" ++ decimal p.lost
     ++ codes ",\"unopened\":" ++ decimal p.unopened ++ codes ",\"waiting\":" ++ decimal p.waiting ++ codes "}"
 
+-- how many acts clients may do, where there are shares
+abbrev pub acts_share_text : List ℕ → List ℕ
+acts_share_text places = decimal acts_share
+
+abbrev pub places_text : List ℕ → List ℕ
+places_text places = codes "[" ++ join_by decimal (codes ",") places ++ codes "]"
+
+-- what clients have done, and may do
+abbrev pub acts_text : NodeStanding → List ℕ
+acts_text n =
+    codes "{\"acts\":" ++ decimal n.acts ++ codes ",\"acts_share\":" ++ or_null acts_share_text n.shares
+
 -- a node's first members
 abbrev pub front_text : NodeStanding → List ℕ
 front_text n =
-    codes "{\"at\":" ++ decimal n.at ++ codes ",\"begun_twice\":" ++ flag_text n.begun_twice
+    acts_text n ++ codes ",\"at\":" ++ decimal n.at ++ codes ",\"begun_twice\":" ++ flag_text n.begun_twice
     ++ codes ",\"f\":" ++ decimal n.liars
 
--- how far streams have come, and how many sessions are open
+-- how far streams have come, how many sessions are open, and how many places each node has
 abbrev pub streams_text : NodeStanding → List ℕ
 streams_text n =
     codes ",\"published\":" ++ decimal n.published
     ++ codes ",\"reaches\":[" ++ join_by decimal (codes ",") n.reaches
     ++ codes "],\"sessions\":" ++ decimal n.sessions
+    ++ codes ",\"shares\":" ++ or_null places_text n.shares
 
 abbrev pub status_text : statuses.Status → List ℕ
 status_text s =

@@ -3,7 +3,7 @@ use Rattle.std.specs.Prelude.{ℕ, List, codes, Option, Some, None}
 use Rattle.operator_lines.specs.declared.fault.OperatorFault.{OperatorFault}
 use Rattle.operator_lines.specs.declared.fault.OperatorFault.TheVariants.{Missing, OutOfRange, Memory}
 use Rattle.operator_lines.specs.declared.fault.ServingFault.{ServingFault}
-use Rattle.operator_lines.specs.declared.fault.ServingFault.TheVariants.{BegunTwice}
+use Rattle.operator_lines.specs.declared.fault.ServingFault.TheVariants.{BegunTwice, StreamFull, Full}
 use Rattle.operator_lines.specs.declared.member.OperatorMember.{OperatorMember}
 
 abbrev pub operator_fault_text : OperatorFault → List ℕ
@@ -19,3 +19,5 @@ named_member Memory = None
 
 abbrev pub serving_fault_text : ServingFault → List ℕ
 serving_fault_text BegunTwice = codes "F6 BegunTwice"
+serving_fault_text StreamFull = codes "F2 StreamFull"
+serving_fault_text Full = codes "F4 Full"

@@ -65,6 +65,10 @@ pub enum ServingFault {
     /// The node was begun twice: it started without what it had published before, so what it published since is not
     /// what its own stream says, and another command would be lost as well.
     BegunTwice,
+    /// The node has published its share. Written as the node's own refusal where its stream has no place.
+    StreamFull,
+    /// Its clients have done their share of acts. Written as the node's own refusal where its history is full.
+    Full,
 }
 
 impl fmt::Display for ServingFault {
@@ -76,6 +80,8 @@ impl fmt::Display for ServingFault {
     fn fmt<W: fmt::Write>(&self, f: &mut fmt::Formatter<W>) -> fmt::Result {
         f.write_str(match self {
             ServingFault::BegunTwice => "F6 BegunTwice",
+            ServingFault::StreamFull => "F2 StreamFull",
+            ServingFault::Full => "F4 Full",
         })
     }
 }

@@ -1,10 +1,11 @@
 //! What is told of a node: how it stands, a command of a stream, and its open sessions.
 
-ghost use Rattle.std.specs.Prelude.{◌≡◌, ◌<◌, slice_get, IfOk};
+ghost use Rattle.std.specs.Prelude.{◌≡◌, ◌<◌, slice_get, option_map, IfOk};
 ghost use Rattle.role_node.specs.Access.{stream_at};
-ghost use Rattle.operator_lines.specs.Standings.{reaches_at, standing_at, sessions_from};
+ghost use Rattle.operator_lines.specs.Standings.{places_in, reaches_at, standing_at, sessions_from};
 
 use link_frames::Place;
+use owner_shares::Shares;
 use quorum_sizes::NodeName;
 use role_commands::{Command, Items};
 use role_node::Node;
@@ -16,6 +17,8 @@ pub const MOST_SESSIONS: usize = 100;
 /// How a node stands.
 #[derive(Drop, Debug)]
 pub struct NodeStanding {
+    /// How many acts of its clients it has recorded.
+    pub acts: u32,
     /// How many events it has recorded.
     pub at: u32,
     /// Whether it was begun twice, as its own stream shows.
@@ -30,18 +33,26 @@ pub struct NodeStanding {
     pub sessions: u32,
     /// How far each owner's stream reaches, one for each node of the sizes.
     pub reaches: Items<u32>,
+    /// How many places of its stream each node of the sizes has; none where no shares are asked.
+    pub shares: Option<Items<u32>>,
 }
 
-/// How a node stands.
+/// How a node stands, of which these shares are asked first, if any.
 ///
 /// # Errors
 ///
 /// Only for want of memory.
-pub fn standing_of(alloc: Global, node: &Node) -> Result<NodeStanding, AllocError>
-    ensures { IfOk result (λ standing. standing ≡ standing_at node.now) }
+pub fn standing_of(
+    alloc: Global,
+    node: &Node,
+    shares: Option<Shares>,
+) -> Result<NodeStanding, AllocError>
+    ensures { IfOk result (λ standing. standing ≡ standing_at shares node.now) }
 {
     let reaches = reaches_of(alloc, node)?;
+    let shares = shares_of(alloc, node, shares)?;
     Ok(NodeStanding {
+        acts: node.acts(),
         at: node.events(),
         begun_twice: node.is_begun_twice(),
         liars: node.config().roles().sizes().f(),
@@ -49,7 +60,37 @@ pub fn standing_of(alloc: Global, node: &Node) -> Result<NodeStanding, AllocErro
         published: node.published(),
         sessions: node.open_count(),
         reaches: Items::new(reaches),
+        shares,
     })
+}
+
+/// How many places each node has, where there are shares.
+fn shares_of(
+    alloc: Global,
+    node: &Node,
+    shares: Option<Shares>,
+) -> Result<Option<Items<u32>>, AllocError>
+    ensures { IfOk result (λ places. places ≡ option_map (places_in node.now) shares) }
+{
+    match shares {
+        Some(shares) => Ok(Some(Items::new(places_of(alloc, node, &shares)?))),
+        None => Ok(None),
+    }
+}
+
+/// How many places each node has.
+fn places_of(alloc: Global, node: &Node, shares: &Shares) -> Result<Vec<u32>, AllocError>
+    ensures { IfOk result (λ places. places.items ≡ places_in node.now shares.now) }
+{
+    let sizes = node.config().roles().sizes();
+    let mut places = Vec::with_capacity(alloc, usize::from(sizes.n()))?;
+    for index in 0..sizes.n() {
+        let Some(owner) = sizes.name(index) else {
+            unreachable!();
+        };
+        places.push(shares.share(owner))?;
+    }
+    Ok(places)
 }
 
 /// How far each owner's stream reaches.

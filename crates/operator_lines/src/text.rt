@@ -9,7 +9,8 @@ use crate::decision_text::{decision_text, decisions_text};
 use crate::fault::{OperatorFault, ServingFault};
 use crate::standing::NodeStanding;
 use itoa::Buffer;
-use role_commands::Command;
+use owner_shares::ACTS_SHARE;
+use role_commands::{Command, Items};
 use std::alloc::{AllocError, Global};
 
 /// The text of an answer, its line's end left out.
@@ -63,17 +64,39 @@ fn status_text(alloc: Global, status: &Status) -> Result<String, AllocError>
     Ok(text)
 }
 
+/// Adds what clients have done, and may do.
+fn add_acts(text: &mut String, node: &NodeStanding) -> Result<(), AllocError>
+    ensures { OnOk result (string_bytes text.new ≡ string_bytes text.old ++ texts.acts_text node.now) }
+{
+    add_number(text, "{\"acts\":", u64::from(node.acts))?;
+    text.push_str(",\"acts_share\":")?;
+    add_acts_share(text, &node.shares)?;
+    Ok(())
+}
+
+/// Adds how many acts clients may do, where there are shares.
+fn add_acts_share(text: &mut String, places: &Option<Items<u32>>) -> Result<(), AllocError>
+    ensures { OnOk result (string_bytes text.new
+        ≡ string_bytes text.old ++ texts.or_null texts.acts_share_text places.now) }
+{
+    match places {
+        Some(_) => text.push_str(Buffer::new().format(ACTS_SHARE)),
+        None => text.push_str("null"),
+    }
+}
+
 /// Adds a node's first members.
 fn add_front(text: &mut String, node: &NodeStanding) -> Result<(), AllocError>
     ensures { OnOk result (string_bytes text.new ≡ string_bytes text.old ++ texts.front_text node.now) }
 {
-    add_number(text, "{\"at\":", u64::from(node.at))?;
+    add_acts(text, node)?;
+    add_number(text, ",\"at\":", u64::from(node.at))?;
     add_flag(text, ",\"begun_twice\":", node.begun_twice)?;
     add_number(text, ",\"f\":", u64::from(node.liars))?;
     Ok(())
 }
 
-/// Adds how far streams have come, and how many sessions are open.
+/// Adds how far streams have come, how many sessions are open, and how many places each node has.
 fn add_streams(text: &mut String, node: &NodeStanding) -> Result<(), AllocError>
     ensures { OnOk result (string_bytes text.new ≡ string_bytes text.old ++ texts.streams_text node.now) }
 {
@@ -81,7 +104,18 @@ fn add_streams(text: &mut String, node: &NodeStanding) -> Result<(), AllocError>
     text.push_str(",\"reaches\":[")?;
     add_items(text, node.reaches.as_slice())?;
     add_number(text, "],\"sessions\":", u64::from(node.sessions))?;
+    text.push_str(",\"shares\":")?;
+    node.shares.add_to(text)?;
     Ok(())
+}
+
+/// Adds how many places each node has.
+fn add_places(text: &mut String, places: &[u32]) -> Result<(), AllocError>
+    ensures { OnOk result (string_bytes text.new ≡ string_bytes text.old ++ texts.places_text places.now) }
+{
+    text.push_str("[")?;
+    add_items(text, places)?;
+    text.push_str("]")
 }
 
 /// Adds a journal's members.
@@ -238,6 +272,17 @@ impl Item for (u64, u32) {
         add_number(text, "[", self.0)?;
         add_number(text, ",", u64::from(self.1))?;
         text.push_str("]")
+    }
+}
+
+impl Item for Option<Items<u32>> {
+    ghost written = { texts.or_null texts.places_text };
+
+    fn add_to(&self, text: &mut String) -> Result<(), AllocError> {
+        match self {
+            Some(places) => add_places(text, places.as_slice()),
+            None => text.push_str("null"),
+        }
     }
 }
 

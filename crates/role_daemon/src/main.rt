@@ -85,18 +85,3 @@ fn setup_of(rt: &HostRuntime, file: &str) -> Result<Setup, FileFault>
         }
     }
 }
-
-#[cfg(test)]
-mod device_tests;
-#[cfg(test)]
-mod serve_frames;
-#[cfg(test)]
-mod serve_help;
-#[cfg(test)]
-mod serve_tests;
-#[cfg(test)]
-mod serve_texts;
-#[cfg(test)]
-mod serve_trials;
-#[cfg(test)]
-mod tests;

@@ -4,13 +4,6 @@ ghost use Rattle.std.specs.Prelude.{◌≡◌, length, IfOk};
 ghost use Rattle.cluster_text.specs.Linked.{ring_of};
 ghost use Rattle.cluster_text.specs.Setups.{IsNodeSetup, IsServerSetup};
 
-#[cfg(test)]
-mod ahead_tests;
-#[cfg(test)]
-mod idle_tests;
-#[cfg(test)]
-mod slot_tests;
-
 use crate::cluster::Setup;
 use crate::fault::ServeFault;
 use node_lock::SharedNode;
@@ -41,23 +34,8 @@ where
     requires me { IsNodeSetup setup }
     requires peers { IsServerSetup setup }
 {
-    serve_until_idle(rt, alloc, setup, Duration::from_millis(IDLE))
-}
-
-/// The same, where a client that sends nothing for so long is closed.
-fn serve_until_idle<R>(
-    rt: &R,
-    alloc: Global,
-    setup: Setup,
-    idle: Duration,
-) -> Result<(), ServeFault>
-where
-    R: Net<Listener = TcpListener, Stream = TcpStream> + Threads + Wait + Clock + Sync,
-    requires me { IsNodeSetup setup }
-    requires peers { IsServerSetup setup }
-{
     let blank = Blank::new(u64::from(SEATS));
-    serve_at::<Brand, R>(rt, alloc, blank, setup, idle)
+    serve_at::<Brand, R>(rt, alloc, blank, setup)
 }
 
 /// The same at a ledger with one part for each seat.
@@ -66,7 +44,6 @@ fn serve_at<L: Ledger + Send + Sync, R>(
     alloc: Global,
     blank: Blank,
     setup: Setup,
-    idle: Duration,
 ) -> Result<(), ServeFault>
 where
     R: Net<Listener = TcpListener, Stream = TcpStream> + Threads + Wait + Clock + Sync,
@@ -75,7 +52,7 @@ where
     requires me { IsNodeSetup setup }
     requires peers { IsServerSetup setup }
 {
-    let site = site_of(rt, alloc, &setup, idle)?;
+    let site = site_of(rt, alloc, &setup)?;
     let keys = keys_of(alloc, &setup)?;
     let node = Node::new(alloc, setup.config, setup.me)?;
     let (shared, seats) = SharedNode::<L>::new(alloc, blank, node, SEATS)?;
@@ -85,12 +62,13 @@ where
 }
 
 /// Where the node of a setup is served.
-fn site_of<R>(rt: &R, alloc: Global, setup: &Setup, idle: Duration) -> Result<Site, ServeFault>
+fn site_of<R>(rt: &R, alloc: Global, setup: &Setup) -> Result<Site, ServeFault>
 where
     R: Net<Listener = TcpListener, Stream = TcpStream>,
     requires me { IsNodeSetup setup.now }
     requires peers { IsServerSetup setup.now }
 {
+    let idle = Duration::from_millis(IDLE);
     let ports = setup.nodes.as_slice();
     let peers = listen(rt, local(ports[usize::from(setup.me.index())]))?;
     let clients = listen(rt, local(setup.client))?;
@@ -102,6 +80,7 @@ where
         limits: Limits::within(setup.config.roles().sizes().n(), MOST_PEERS),
         idle,
         operators: false,
+        shares: None,
     })
 }
 

@@ -24,8 +24,3 @@ fn main(rt: HostRuntime) -> ExitCode {
         }
     }
 }
-
-#[cfg(test)]
-mod device_tests;
-#[cfg(test)]
-mod tests;

@@ -10,6 +10,6 @@ mod words;
 
 pub use fault::RowFault;
 pub use files::{Layers, run};
-pub use said::{Behind, OrNone, Spelled, kind_word};
+pub use said::{Behind, OrNone, Pair, Spelled, kind_word};
 pub use text::{hex_text, list_text, permissions_text, text_of, yes_or_no};
 pub use words::Words;

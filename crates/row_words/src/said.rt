@@ -42,6 +42,16 @@ impl<T: Display> Display for OrNone<T> {
     }
 }
 
+/// Two values, with a space between them.
+#[derive(Clone, Copy)]
+pub struct Pair<T, U>(pub T, pub U);
+
+impl<T: Display, U: Display> Display for Pair<T, U> {
+    fn fmt<W: fmt::Write>(&self, f: &mut fmt::Formatter<W>) -> fmt::Result {
+        write!(f, "{} {}", self.0, self.1)
+    }
+}
+
 /// A space, a word, a space and a value; nothing where there is no value.
 #[derive(Clone, Copy)]
 pub struct Behind<T>(pub &'static str, pub Option<T>);

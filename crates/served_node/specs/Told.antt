@@ -4,6 +4,7 @@ use Rattle.std.specs.Prelude.{⊤, IsTrue, is_some, option_map}
 use Rattle.std.specs.List.{flat_map}
 use Rattle.link_frames.specs.lines.Lines.{ended}
 use Rattle.client_lines.specs.AnswerTexts.{answer_text, IsWritten}
+use Rattle.owner_shares.specs.Shares.{SharesValue}
 use Rattle.role_node.specs.Access.{stream_at}
 use Rattle.role_node.specs.Nodes.{NodeValue}
 use Rattle.operator_lines.specs.AnswerTexts.{refused_text}
@@ -25,6 +26,7 @@ use Rattle.served_node.specs.declared.told.LineAnswer.TheVariants as line
 abbrev pub answer_to : Ending Said → Option LineAnswer
 answer_to (ending.Held said) = option_map line.Node (served_said said)
 answer_to (ending.Refused fault) = Some (line.Refused fault)
+answer_to ending.Lost = None
 answer_to ending.Nothing = None
 
 abbrev pub line_text : LineAnswer → List ℕ
@@ -54,20 +56,21 @@ abbrev pub IsLineIfAny : Option LineAnswer → Type 0
 IsLineIfAny answer = IfSome answer IsLine
 
 -- how the node stands, beside which its links are told
-abbrev pub IsStatusOf : NodeValue → OperatorAnswer → Type 0
-IsStatusOf node (answer.Status s) = s.node ≡ standing_at node
-IsStatusOf node (answer.Command c) = ⊥
-IsStatusOf node (answer.Sessions at sessions) = ⊥
-IsStatusOf node (answer.Decision at decision) = ⊥
-IsStatusOf node (answer.Decisions at decisions) = ⊥
-IsStatusOf node (answer.BadLine fault) = ⊥
+abbrev pub IsStatusOf : NodeValue → Option SharesValue → OperatorAnswer → Type 0
+IsStatusOf node shares (answer.Status s) = s.node ≡ standing_at shares node
+IsStatusOf node shares (answer.Command c) = ⊥
+IsStatusOf node shares (answer.Sessions at sessions) = ⊥
+IsStatusOf node shares (answer.Decision at decision) = ⊥
+IsStatusOf node shares (answer.Decisions at decisions) = ⊥
+IsStatusOf node shares (answer.BadLine fault) = ⊥
 
--- what is answered to who asks this of the node; decisions go by the roles that these lists have of each owner
-abbrev pub IsAnswerOf : NodeValue → List (List ℕ) → OperatorRequest → OperatorAnswer → Type 0
-IsAnswerOf node lists Status a = IsStatusOf node a
-IsAnswerOf node lists (Command owner place) a =
+-- what is answered to who asks this of the node; decisions go by the roles that these lists have of each owner, and
+-- a server asks these shares first, if any
+abbrev pub IsAnswerOf : NodeValue → List (List ℕ) → Option SharesValue → OperatorRequest → OperatorAnswer → Type 0
+IsAnswerOf node lists shares Status a = IsStatusOf node shares a
+IsAnswerOf node lists shares (Command owner place) a =
     a ≡ answer.Command (slice_get (stream_at node.config.roles.sizes node.history owner) place)
-IsAnswerOf node lists (Sessions from) a = a ≡ answer.Sessions (length node.history) (sessions_from node from)
-IsAnswerOf node lists (Decide asked) a = a ≡ answer.Decision (length node.history) (decision_at node lists asked)
-IsAnswerOf node lists (DecideAll rows) a =
+IsAnswerOf node lists shares (Sessions from) a = a ≡ answer.Sessions (length node.history) (sessions_from node from)
+IsAnswerOf node lists shares (Decide asked) a = a ≡ answer.Decision (length node.history) (decision_at node lists asked)
+IsAnswerOf node lists shares (DecideAll rows) a =
     a ≡ answer.Decisions (length node.history) (map (decision_at node lists) rows)

@@ -7,23 +7,26 @@ use operator_lines::{
     OperatorAnswer, OperatorRequest, Status, command_at, decision_of, decisions_of, sessions_of,
     standing_of,
 };
+use owner_shares::Shares;
 use role_commands::Items;
 use role_node::Node;
 use std::alloc::Global;
 
-/// What a node answers to such a line; of a status its links are left out. Decisions go by the roles that the lists
-/// have of each owner. Nothing for want of memory, and where an owner is no node of its sizes.
+/// What a node answers to such a line, of which these shares are asked first, if any; of a status its links are left
+/// out. Decisions go by the roles that the lists have of each owner. Nothing for want of memory, and where an owner is
+/// no node of its sizes.
 pub fn node_answer(
     alloc: Global,
     node: &Node,
     lists: &[Items<u16>],
+    shares: Option<Shares>,
     request: OperatorRequest,
 ) -> Option<OperatorAnswer>
-    ensures { IfSome result (IsAnswerOf node.now lists.now request) }
+    ensures { IfSome result (IsAnswerOf node.now lists.now shares request) }
 {
     match request {
         OperatorRequest::Status => Some(OperatorAnswer::Status(Status {
-            node: standing_of(alloc, node).ok()?,
+            node: standing_of(alloc, node, shares).ok()?,
             journal: None,
             peers: Items::new(Vec::new(alloc)),
             unopened: 0,

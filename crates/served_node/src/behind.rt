@@ -3,8 +3,10 @@
 ghost use Rattle.std.specs.Prelude.{◌≡◌, ◌≤◌, ◌↔◌, ◌<◌, Bool, false, IsTrue, IfOk, IfErr, IfSome, OnOk, OnErr, OnSome};
 ghost use Rattle.std.specs.Prelude.{◌⊎◌, ℕ, option_map, Some, IfNone, IsOk, IsSome, true, map, length};
 ghost use Rattle.std.specs.Option.{option_copied};
+ghost use Rattle.owner_shares.specs.Answers.{answer_of_shares};
 ghost use Rattle.role_node.specs.Begun.{is_begun_twice};
 ghost use Rattle.role_node.specs.Histories.{issued};
+ghost use Rattle.role_node.specs.Nodes.{IsLegalNode};
 ghost use Rattle.node_lock.specs.Holds.{end_of, Held};
 ghost use Rattle.node_lock.specs.Receipts.{outcome_due};
 ghost use Rattle.node_lock.specs.Views.{node_count, view_of, held_after_hold, seat_after_hold, IsHoldFault};
@@ -20,6 +22,7 @@ ghost use Rattle.served_node.specs.declared.said.Said.{Said};
 use crate::said::Said;
 use link_frames::{Packet, Place};
 use node_lock::{Call, Locked, Outcome, Seat, StepFault};
+use owner_shares::{ShareAnswer, Shares};
 use peer_windows::{Owed, Pairs};
 use quorum_sizes::NodeName;
 use role_node::{Event, Node};
@@ -73,6 +76,11 @@ pub trait HeldNode {
     fn is_begun_twice(&self) -> bool
         ensures { result ≡ is_begun_twice (held self.now).node.config.roles.sizes (held self.now).node.me
             (held self.now).node.history };
+
+    /// What the shares answer to an event before the node is asked, as [`Shares::answer`] does. It takes no memory.
+    fn share_answer(&self, shares: &Shares, event: &Event) -> Option<ShareAnswer>
+        ensures answer { result ≡ answer_of_shares shares.now (held self.now).node event.now }
+        ensures legal { IsLegalNode (held self.now).node };
 
     /// Whether so much is recorded that a [`sync`](Self::sync) has to come before the next hold.
     fn must_sync(&self) -> bool
@@ -240,6 +248,12 @@ impl<L: Ledger + Send + Sync> HeldNode for Locked<L> {
 
     fn is_begun_twice(&self) -> bool {
         Locked::node(self).is_begun_twice()
+    }
+
+    fn share_answer(&self, shares: &Shares, event: &Event) -> Option<ShareAnswer> {
+        let node = Locked::node(self);
+        let _events = node.events();
+        shares.answer(node, event)
     }
 
     fn must_sync(&self) -> bool {

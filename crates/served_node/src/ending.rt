@@ -13,6 +13,9 @@ pub enum Ending<S> {
     Held(S),
     /// The server made no hold, and who waits for the job hears why.
     Refused(ServingFault),
+    /// The server lost a packet that it does not take, as a network may. Nobody hears of it, and the connection over
+    /// which it came goes on.
+    Lost,
     /// Nothing is said, for want of memory, and where the seat does not fit the node. A connection whose job this was
     /// ends.
     Nothing,
@@ -20,13 +23,13 @@ pub enum Ending<S> {
 
 impl Ending<Said> {
     /// What is noted of the connection over which a packet came: true where it counted, false where it found no memory.
-    /// Nothing is noted of another answer, nor where the server refused it.
+    /// Nothing is noted of another answer, nor where the server made no hold by a rule of its own.
     pub fn counted(&self) -> Option<bool>
         ensures { result ≡ counted_in self.now }
     {
         match self {
             Ending::Held(said) if said.has_counted() => Some(true),
-            Ending::Held(_) | Ending::Refused(_) => None,
+            Ending::Held(_) | Ending::Refused(_) | Ending::Lost => None,
             Ending::Nothing => Some(false),
         }
     }

@@ -113,7 +113,7 @@ fn answer_to(ending: Ending<Said>) -> Option<LineAnswer>
     match ending {
         Ending::Held(said) => Some(LineAnswer::Node(said.into_answer()?)),
         Ending::Refused(fault) => Some(LineAnswer::Refused(fault)),
-        Ending::Nothing => None,
+        Ending::Lost | Ending::Nothing => None,
     }
 }
 

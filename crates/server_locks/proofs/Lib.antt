@@ -3,3 +3,4 @@ mod FrontLemmas
 mod OpenedLemmas
 mod RequestLemmas
 mod WriteLemmas
+mod Within

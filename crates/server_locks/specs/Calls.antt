@@ -22,12 +22,14 @@ use Rattle.served_node.specs.Served.{own_packet, taken_by}
 use Rattle.served_node.specs.declared.ending.Ending.{Ending}
 use Rattle.served_node.specs.declared.ending.Ending.TheVariants as ending
 use Rattle.served_node.specs.declared.said.Said.{Said}
-use Rattle.server_locks.specs.HoldRules.{refusal_due}
+use Rattle.server_locks.specs.HoldRules.{no_hold_due}
 use Rattle.server_locks.specs.Jobs.{told_by}
 use Rattle.server_locks.specs.NextJobs.{IsNextJob}
 use Rattle.server_locks.specs.VotesAhead.{with_vote}
 use Rattle.server_locks.specs.declared.front.Done.{Done}
 use Rattle.server_locks.specs.declared.hold_rules.HoldRules.{HoldRules}
+use Rattle.server_locks.specs.declared.hold_rules.NoHold.{NoHold}
+use Rattle.server_locks.specs.declared.hold_rules.NoHold.TheVariants.{Lost, Refused}
 use Rattle.server_locks.specs.declared.votes_ahead.VotesAhead.{VotesAhead}
 
 -- where jobs come from: what comes before the inbox, and the way into it
@@ -60,18 +62,24 @@ noted_outcome h s now packet (Some outcome) a = noted h s now packet outcome a
 abbrev pub noted_ending : Held → Sitting → ℕ → Option PacketValue → Ending Said → PairsValue → PairsValue
 noted_ending h s now packet (ending.Held said) a = noted_outcome h s now packet said.outcome a
 noted_ending h s now packet (ending.Refused fault) a = a
+noted_ending h s now packet ending.Lost a = a
 noted_ending h s now packet ending.Nothing a = a
 
 -- the packet that a hold has the node send to itself, by what it said
 abbrev pub own_of : {U : Type 0} → (U → Said) → ℕ → Ending U → Option PacketValue
 own_of said me done = option_and_then (λ u. own_packet me (said u).outcome) (said_in done)
 
+-- what comes of a call that gets no hold
+abbrev pub ended_by : {U : Type 0} → NoHold → Ending U
+ended_by Lost = ending.Lost
+ended_by (Refused fault) = ending.Refused fault
+
 -- nothing is heard, or what came of the job, which may leave then
 abbrev pub IsHeard : {U : Type 0} → Type 0 → (U → Type 0) → (U → Said) → Ending U → Ending Said → Type 0
 IsHeard kept may_leave said done heard =
     (heard ≡ ending.Nothing) ⊎ ((heard ≡ ending_map said done) × MayLeave kept may_leave done)
 
--- no hold was made, though nothing was refused
+-- no hold was made, though no rule speaks against it
 pub record IsPassedOver {N : Type 0} (me : ℕ) (call : Call) (old new : Seated N) : Type 0 where
   pub why : IsNotHeld old.held old.full old.seat me call
   pub held : new.held ≡ old.held
@@ -86,19 +94,20 @@ module _ {U : Type 0} (said : U → Said) (speaks_of : U → ℕ) where
     pub held : new.held ≡ held_after_hold old.held old.seat (Some call)
     pub seat : new.seat ≡ seat_after_hold old.held old.seat (Some call)
 
-  -- what comes of a call that is not refused
+  -- what comes of a call to which no rule of the server has an answer
   abbrev pub IsAnswered : {N : Type 0} → ℕ → Call → Seated N → Seated N → Ending U → Type 0
   IsAnswered me call old new (ending.Held u) = IsHeldFor me call old new u
   IsAnswered me call old new (ending.Refused fault) = ⊥
+  IsAnswered me call old new ending.Lost = ⊥
   IsAnswered me call old new ending.Nothing = IsPassedOver me call old new
 
   -- by these rules, and these votes ahead of what the node has published
   module _ (hold_rules : HoldRules) (ahead : VotesAhead) where
-    -- What comes of a call. Where it is refused all stays as it was.
+    -- What comes of a call. Where it gets no hold by a rule all stays as it was.
     abbrev pub IsEnded : {N : Type 0} → ℕ → Call → Seated N → Seated N → Ending U → Type 0
     IsEnded me call old new ended =
-        MatchOption (refusal_due hold_rules ahead old.held.node call) (IsAnswered me call old new ended)
-        (λ fault. (ended ≡ ending.Refused fault) × (new ≡ old))
+        MatchOption (no_hold_due hold_rules ahead old.held.node call) (IsAnswered me call old new ended)
+        (λ why. (ended ≡ ended_by why) × (new ≡ old))
 
     -- what waits to be told of a job: who waits for it, the packet that it had the node take, and what came of it
     pub record IsDoneFor {N : Type 0} (me : ℕ) (job : Job) (old new : Seated N) (done : Done U) : Type 0 where

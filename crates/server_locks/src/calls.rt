@@ -7,8 +7,10 @@ ghost use Rattle.node_lock.specs.Holds.{end_of};
 ghost use Rattle.peer_windows.specs.Pauses.{most_time};
 ghost use Rattle.served_node.specs.Endings.{MayLeave, ending_map};
 ghost use Rattle.server_locks.specs.Calls.{IsMade, IsEnded, IsHeard, IsNext, noted_ending, own_of};
+ghost use Rattle.server_locks.specs.HoldRules.{IsWithin};
 
 use crate::front::{Done, Front};
+use crate::hold_rules::NoHold;
 use crate::job_queue::JobQueue;
 use frame_queues::Caller;
 use link_frames::Packet;
@@ -16,8 +18,9 @@ use node_lock::{Call, Seat};
 use served_node::{Ending, HeldNode, Said, make_call, taken_packet};
 use std::sync::Wait;
 
-/// Makes the call of the next job, by one hold, unless the rules refuse it. What came of it waits to be told, at once
-/// where a client waits for it or the node has sent a packet; the own packet comes next. Whether there was a job.
+/// Makes the call of the next job, by one hold, unless a rule refuses it or loses its packet. What came of it waits to
+/// be told, at once where a client waits for it or the node has sent a packet; the own packet comes next. Whether there
+/// was a job. A node that is within its shares stays so.
 pub fn make_next<N: HeldNode, R: Wait>(
     rt: &R,
     node: &mut N,
@@ -38,6 +41,8 @@ pub fn make_next<N: HeldNode, R: Wait>(
     ensures none { IsFalse result → IsNext
         (record { first = front.old.first; again = front.old.again.items; pass = queue.old.pass })
         (record { first = front.new.first; again = front.new.again.items; pass = queue.new.pass }) None }
+    ensures within { IsWithin front.old.hold_rules.shares (N.held node.old).node →
+        IsWithin front.old.hold_rules.shares (N.held node.new).node }
     ensures idle { IsFalse result → (N.held node.new ≡ N.held node.old) × (seat.new ≡ seat.old) }
     ensures same { front.new ≡ record front.old {
       first = front.new.first;
@@ -70,20 +75,24 @@ pub fn make_next<N: HeldNode, R: Wait>(
     true
 }
 
-/// Makes a call by one hold, unless the rules refuse it.
+/// Makes a call by one hold, unless a rule refuses it or loses its packet.
 fn end_call<N: HeldNode>(
     front: &Front<N::Untold>,
     node: &mut N,
     seat: &mut Seat<N::Ledger>,
     call: Call,
 ) -> Ending<N::Untold>
-    ensures { IsEnded N.said N.speaks_of front.now.hold_rules front.now.ahead front.now.me call
+    ensures ended { IsEnded N.said N.speaks_of front.now.hold_rules front.now.ahead front.now.me call
         (record { behind = node.old; held = N.held node.old; full = N.is_full node.old; seat = seat.old })
         (record { behind = node.new; held = N.held node.new; full = N.is_full node.new; seat = seat.new })
         result }
+    ensures within { IsWithin front.now.hold_rules.shares (N.held node.old).node →
+        IsWithin front.now.hold_rules.shares (N.held node.new).node }
 {
-    if let Some(fault) = front.hold_rules.refusal(&front.ahead, &*node, &call) {
-        return Ending::Refused(fault);
+    match front.hold_rules.no_hold(&front.ahead, &*node, &call) {
+        Some(NoHold::Lost) => return Ending::Lost,
+        Some(NoHold::Refused(fault)) => return Ending::Refused(fault),
+        None => {}
     }
     match make_call(node, seat, call, front.me) {
         Some(untold) => Ending::Held(untold),
@@ -166,6 +175,7 @@ fn released<N: HeldNode>(node: &N, ending: Ending<N::Untold>) -> Ending<Said>
             None => Ending::Nothing,
         },
         Ending::Refused(fault) if node.kept().is_some() => Ending::Refused(fault),
+        Ending::Lost => Ending::Lost,
         Ending::Refused(_) | Ending::Nothing => Ending::Nothing,
     }
 }

@@ -26,7 +26,7 @@ pub use alarm::Alarm;
 pub use calls::{hear, make_next};
 pub use client_stream::{Farewell, LineReader, hears_foreign, whole_next};
 pub use front::{Done, Front, most_batch};
-pub use hold_rules::HoldRules;
+pub use hold_rules::{HoldRules, NoHold};
 pub use job_queue::{JobQueue, job_queues};
 pub use keeping::keep;
 pub use opening::{Opened, open_frames};

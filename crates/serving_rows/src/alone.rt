@@ -6,6 +6,7 @@ use link_frames::{Message, Packet};
 use operator_lines::{
     Access, Decision, command_at, decision_of, role_lists, sessions_of, standing_of,
 };
+use owner_shares::Shares;
 use quorum_sizes::{NodeName, Sizes};
 use role_commands::{RoleTable, TableFault};
 use role_node::{ClientEvent, Config, Event, Node, NodeFault};
@@ -50,6 +51,7 @@ pub fn answer(alloc: Global, node: &mut Node, line: &str) -> Result<String, RowF
         "take" => take(alloc, node, &mut words),
         "open-each" => open_each(alloc, node, &mut words),
         "standing" => standing(alloc, node),
+        "shares" => shares(alloc, node),
         "open-sessions" => sessions(alloc, node, &mut words),
         "command" => command(alloc, node, &mut words),
         "decide" => decide(alloc, node, &mut words),
@@ -99,13 +101,27 @@ fn open_each(alloc: Global, node: &mut Node, words: &mut Words<'_>) -> Result<St
 
 /// `standing`: how the node stands.
 fn standing(alloc: Global, node: &Node) -> Result<String, RowFault> {
-    let standing = standing_of(alloc, node)?;
+    let standing = standing_of(alloc, node, None)?;
     let reaches = list_text(alloc, standing.reaches.as_slice())?;
     let (at, limit) = (standing.at, standing.limit);
     let (published, sessions) = (standing.published, standing.sessions);
     Ok(format!(in alloc;
         "at {at} of {limit} published {published} sessions {sessions} reaches {reaches}"
     )?)
+}
+
+/// `shares`: what its clients have done, and how many places each node has by the shares of its table.
+fn shares(alloc: Global, node: &Node) -> Result<String, RowFault> {
+    let shares = Shares::of(node.config().roles());
+    let standing = standing_of(alloc, node, Some(shares))?;
+    let acts = standing.acts;
+    match &standing.shares {
+        Some(places) => {
+            let places = list_text(alloc, places.as_slice())?;
+            Ok(format!(in alloc; "acts {acts} places {places}")?)
+        }
+        None => Err(RowFault::BadRow),
+    }
 }
 
 /// `open-sessions FROM`: the open sessions from this id on.

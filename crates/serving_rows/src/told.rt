@@ -12,12 +12,14 @@ use std::alloc::Global;
 pub struct Told {
     at: u32,
     begun_twice: bool,
+    acts: u32,
     liars: u8,
     limit: u32,
     published: u32,
     sessions: u32,
     unopened: u64,
     reaches: Vec<u32>,
+    shares: Option<Vec<u32>>,
     journal: Option<JournalStanding>,
     peers: Vec<Option<PeerStanding>>,
 }
@@ -27,12 +29,14 @@ pub fn begin(alloc: Global, words: &mut Words<'_>) -> Result<Told, RowFault> {
     Ok(Told {
         at: words.wide()?,
         begun_twice: false,
+        acts: 0,
         liars: words.byte()?,
         limit: words.wide()?,
         published: words.wide()?,
         sessions: words.wide()?,
         unopened: words.long()?,
         reaches: Vec::new(alloc),
+        shares: None,
         journal: None,
         peers: Vec::new(alloc),
     })
@@ -42,6 +46,9 @@ pub fn answer(alloc: Global, told: &mut Told, line: &str) -> Result<String, RowF
     let mut words = Words::new(line);
     match words.word() {
         "begun-twice" => begun_twice(alloc, told),
+        "acts" => acts(alloc, told, &mut words),
+        "shares" => shares(alloc, told),
+        "share" => share(alloc, told, &mut words),
         "reaches" => reaches(alloc, told, &mut words),
         "syncs" => syncs(alloc, told, &mut words),
         "myself" => peer(alloc, told, None),
@@ -73,9 +80,32 @@ fn begun_twice(alloc: Global, told: &mut Told) -> Result<String, RowFault> {
     text_of(alloc, &"ok")
 }
 
-/// `refused F6`: what a client reads whose line the server refuses.
+/// `acts ACTS`: its clients have done so many.
+fn acts(alloc: Global, told: &mut Told, words: &mut Words<'_>) -> Result<String, RowFault> {
+    told.acts = words.wide()?;
+    text_of(alloc, &"ok")
+}
+
+/// `shares`: there are shares, of no node yet.
+fn shares(alloc: Global, told: &mut Told) -> Result<String, RowFault> {
+    told.shares = Some(Vec::new(alloc));
+    text_of(alloc, &"ok")
+}
+
+/// `share PLACES`: the next node has so many places.
+fn share(alloc: Global, told: &mut Told, words: &mut Words<'_>) -> Result<String, RowFault> {
+    let Some(shares) = &mut told.shares else {
+        return Err(RowFault::BadRow);
+    };
+    shares.push(words.wide()?)?;
+    text_of(alloc, &"ok")
+}
+
+/// `refused F2`, `refused F4` or `refused F6`: what a client reads whose line the server refuses.
 fn refused(alloc: Global, words: &mut Words<'_>) -> Result<String, RowFault> {
     match words.word() {
+        "F2" => Ok(refused_text(alloc, ServingFault::StreamFull)?),
+        "F4" => Ok(refused_text(alloc, ServingFault::Full)?),
         "F6" => Ok(refused_text(alloc, ServingFault::BegunTwice)?),
         _ => Err(RowFault::BadRow),
     }
@@ -140,6 +170,7 @@ fn status(alloc: Global, told: &Told) -> Result<String, RowFault> {
 
 fn standing(alloc: Global, told: &Told) -> Result<NodeStanding, RowFault> {
     Ok(NodeStanding {
+        acts: told.acts,
         at: told.at,
         begun_twice: told.begun_twice,
         liars: told.liars,
@@ -147,7 +178,16 @@ fn standing(alloc: Global, told: &Told) -> Result<NodeStanding, RowFault> {
         published: told.published,
         sessions: told.sessions,
         reaches: Items::new(told.reaches.to_vec(alloc)?),
+        shares: places(alloc, told)?,
     })
+}
+
+/// How many places each node has, where there are shares.
+fn places(alloc: Global, told: &Told) -> Result<Option<Items<u32>>, RowFault> {
+    match &told.shares {
+        Some(shares) => Ok(Some(Items::new(shares.to_vec(alloc)?))),
+        None => Ok(None),
+    }
 }
 
 /// `command COMMAND`, or `no-command`

@@ -5,7 +5,7 @@ ghost use Rattle.cluster_hosts.specs.Hosts.{HasHosts};
 
 use cluster_hosts::{Given, of_common, of_key};
 use cluster_text::cluster::Setup;
-use node_journal::Sight;
+use node_journal::{Beyond, Sight};
 use role_commands::RoleTable;
 use std::alloc::{AllocError, Global};
 use std::fmt::Write;
@@ -67,7 +67,7 @@ fn push_roles(text: &mut String, roles: &RoleTable) -> Result<(), AllocError> {
     Ok(())
 }
 
-/// What a journal is, in a line.
+/// What a journal is, in a line; and in another one an owner of whose stream it has more than its share, if there is one.
 ///
 /// # Errors
 ///
@@ -79,9 +79,27 @@ pub fn sight_text(alloc: Global, sight: &Sight) -> Result<String, AllocError> {
         used,
         size,
         is_torn,
+        beyond,
     } = *sight;
     let end = if is_torn { "torn" } else { "whole" };
-    format!(in alloc;
+    let mut text = format!(in alloc;
         "journal of {events} events in {batches} batches, {used} of {size} bytes, its end {end}\n"
+    )?;
+    if let Some(beyond) = beyond {
+        push_beyond(&mut text, &beyond)?;
+    }
+    Ok(text)
+}
+
+/// An owner of whose stream a journal has more than its share.
+fn push_beyond(text: &mut String, beyond: &Beyond) -> Result<(), AllocError> {
+    let Beyond {
+        owner,
+        reach,
+        share,
+    } = *beyond;
+    writeln!(
+        text,
+        "beyond its share: node {owner}, {reach} of {share} places"
     )
 }

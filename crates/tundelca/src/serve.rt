@@ -1,15 +1,17 @@
 //! The node that is served: frames of its peers at its host, and lines of its clients at this machine's own address, at
 //! a socket, or both.
 
-ghost use Rattle.std.specs.Prelude.{◌≡◌, IsTrue, IfOk};
+ghost use Rattle.std.specs.Prelude.{◌≡◌, IsTrue, IfOk, Some};
 ghost use Rattle.cluster_text.specs.Setups.{IsNodeSetup, IsServerSetup};
 ghost use Rattle.cluster_hosts.specs.Hosts.{HasHosts, AreAddresses};
+ghost use Rattle.owner_shares.specs.Shares.{shares_of};
 
 use crate::fault::Fault;
 use cluster_hosts::Given;
 use node_journal::{keys_of, restored};
 use node_lock::SharedNode;
 use node_server::{Limits, SEATS, Site, listen};
+use owner_shares::Shares;
 use role_node::Node;
 use sqlite_disk::{Disk, Files};
 use std::alloc::Global;
@@ -154,7 +156,7 @@ where
     Ok(())
 }
 
-/// Where a node is served.
+/// Where a node is served, with the shares of its table.
 ///
 /// # Errors
 ///
@@ -162,7 +164,8 @@ where
 fn site_of(alloc: Global, given: &Given, doors: Doors) -> Result<Site, Fault>
     requires peers { IsServerSetup given.now.setup }
     requires hosts { HasHosts given.now }
-    ensures { IfOk result (λ site. AreAddresses given.now site.addresses.items) }
+    ensures addresses { IfOk result (λ site. AreAddresses given.now site.addresses.items) }
+    ensures shares { IfOk result (λ site. site.shares ≡ Some (shares_of given.now.setup.config.roles)) }
 {
     Ok(Site {
         peers: doors.peers,
@@ -172,5 +175,6 @@ fn site_of(alloc: Global, given: &Given, doors: Doors) -> Result<Site, Fault>
         limits: Limits::new(),
         idle: Duration::from_millis(IDLE),
         operators: true,
+        shares: Some(Shares::of(given.setup.config.roles())),
     })
 }

@@ -69,12 +69,18 @@ impl Permissions {
     /// Only for want of memory.
     pub fn common(&self, alloc: Global, role: u16) -> Result<Vec<Access>, AllocError> {
         let mut accesses = Vec::new(alloc);
-        if let Some(places) = self.of_roles.get(usize::from(role)) {
-            for place in places.iter() {
-                accesses.push(self.access(*place))?;
-            }
+        for place in self.places_of(role) {
+            accesses.push(self.access(*place))?;
         }
         Ok(accesses)
+    }
+
+    /// The places of a role's common permissions.
+    fn places_of(&self, role: u16) -> &[u32] {
+        match self.of_roles.get(usize::from(role)) {
+            Some(places) => places.as_slice(),
+            None => &[],
+        }
     }
 
     /// The permissions that hundreds of roles are to have.
@@ -103,16 +109,21 @@ impl Permissions {
             return self.draw_foreign(sample);
         }
         for _ in 0..u32::MAX {
-            let place = match number % 10 {
-                7 => COMMON + sample.below(POPULAR) % POPULAR,
-                8 => sample.below(COMMON),
-                _ => self.draw_common(sample, active),
-            };
+            let place = self.draw_place(sample, number, active);
             if self.is_new(place) {
                 return self.access(place);
             }
         }
         self.draw_foreign(sample)
+    }
+
+    /// The place of a popular permission, of any common one, or of one of an active role, by the number.
+    fn draw_place(&self, sample: &mut Sample, number: u32, active: &[u16]) -> u32 {
+        match number % 10 {
+            7 => COMMON + sample.below(POPULAR) % POPULAR,
+            8 => sample.below(COMMON),
+            _ => self.draw_common(sample, active),
+        }
     }
 
     /// The place of a permission of an active role.
@@ -121,10 +132,8 @@ impl Permissions {
         let Some(role) = active.get(sample.below(count) as usize) else {
             return 0;
         };
-        let Some(places) = self.of_roles.get(usize::from(*role)) else {
-            return 0;
-        };
         let number = sample.below(COMMON_OF_ROLE);
+        let places = self.places_of(*role);
         places.get(number as usize).copied().unwrap_or(0)
     }
 

@@ -107,10 +107,15 @@ impl Changes {
     /// Assigns roles to so many users, in descending order of the users, and grants something with each eighth.
     fn give_descending(&mut self, count: u32) -> Result<()> {
         for number in 0..count {
-            self.assign(USERS.saturating_sub(number))?;
-            if number % 8 == 0 {
-                self.grant()?;
-            }
+            self.give_numbered(number)?;
+        }
+        Ok(())
+    }
+
+    fn give_numbered(&mut self, number: u32) -> Result<()> {
+        self.assign(USERS.saturating_sub(number))?;
+        if number % 8 == 0 {
+            return self.grant();
         }
         Ok(())
     }

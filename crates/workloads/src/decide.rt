@@ -150,18 +150,23 @@ impl Registry {
     /// Gives the roles their permissions.
     fn grant(&mut self) -> Result<()> {
         for role in 0..ROLES {
-            self.grant_common(role)?;
+            let common = self.draws.permissions.common(self.alloc, role)?;
+            self.grant_each(role, &common)?;
         }
-        for access in self.draws.permissions.popular(self.alloc)? {
-            self.grant_to_many(access)?;
+        let popular = self.draws.permissions.popular(self.alloc)?;
+        self.grant_each_to_many(&popular)
+    }
+
+    fn grant_each(&mut self, role: u16, accesses: &[Access]) -> Result<()> {
+        for access in accesses {
+            self.grant_to(role, *access)?;
         }
         Ok(())
     }
 
-    /// Gives a role its common permissions.
-    fn grant_common(&mut self, role: u16) -> Result<()> {
-        for access in self.draws.permissions.common(self.alloc, role)? {
-            self.grant_to(role, access)?;
+    fn grant_each_to_many(&mut self, accesses: &[Access]) -> Result<()> {
+        for access in accesses {
+            self.grant_to_many(*access)?;
         }
         Ok(())
     }
@@ -198,16 +203,20 @@ impl Registry {
     /// Opens the session of this number, of the next user. Each twentieth user gets as many roles as may be active.
     fn open_one(&mut self, number: u32) -> Result<Session> {
         let user = self.draws.user();
-        let active = if number % 20 == 0 {
-            self.widen(user)?;
-            ROLES_OF_WIDE_USER
-        } else {
-            1 + number % ROLES_OF_USER
-        };
+        let active = self.roles_to_activate(number, user)?;
         let id = open(&mut self.node, user)?;
         let session = Session { id, user, active };
         self.activate_roles(&session)?;
         Ok(session)
+    }
+
+    /// How many roles are to be active in the session of this number. Its user has as many from now on.
+    fn roles_to_activate(&mut self, number: u32, user: u32) -> Result<u32> {
+        if number % 20 == 0 {
+            self.widen(user)?;
+            return Ok(ROLES_OF_WIDE_USER);
+        }
+        Ok(1 + number % ROLES_OF_USER)
     }
 
     fn activate_roles(&mut self, session: &Session) -> Result<()> {
@@ -258,11 +267,16 @@ impl Registry {
     /// For each round what is asked in each session, in the order of the sessions.
     fn draw_rounds(&mut self, sessions: &[Session]) -> Result<Vec<Vec<Access>>> {
         let mut rounds = empty_rounds(self.alloc, sessions.len())?;
+        self.deal_all(sessions, &mut rounds)?;
+        Ok(rounds)
+    }
+
+    fn deal_all(&mut self, sessions: &[Session], rounds: &mut [Vec<Access>]) -> Result<()> {
         for session in sessions {
             let drawn = self.draw_for(session)?;
-            deal(&mut rounds, &drawn)?;
+            deal(rounds, &drawn)?;
         }
-        Ok(rounds)
+        Ok(())
     }
 
     /// What is asked in a session.
@@ -279,13 +293,18 @@ impl Registry {
         for round in rounds {
             for (session, access) in sessions.iter().zip(round.iter()) {
                 number = number.wrapping_add(1);
-                if number % CHECKS_FOR_COMMAND == 0 {
-                    self.change(number)?;
-                }
-                self.check(session, access)?;
+                self.check_numbered(number, session, access)?;
             }
         }
         Ok(())
+    }
+
+    /// The check of this number, and a command before it now and then.
+    fn check_numbered(&mut self, number: u32, session: &Session, access: &Access) -> Result<()> {
+        if number % CHECKS_FOR_COMMAND == 0 {
+            self.change(number)?;
+        }
+        self.check(session, access)
     }
 
     /// Says that the operation is asked for, with these members.

@@ -232,6 +232,10 @@ impl Net {
             self.publish(sample, digest)?;
             self.give_all(digest)?;
         }
+        self.review(digest)
+    }
+
+    fn review(&self, digest: &mut Digest) -> Result<()> {
         for member in self.members.iter() {
             member.review(digest)?;
         }

@@ -38,9 +38,7 @@ impl History {
         digest: &mut Digest,
     ) -> Result<History> {
         let mut history = History::empty(alloc)?;
-        for place in 0..commands {
-            history.deliver(sample, place, digest)?;
-        }
+        history.deliver_all(sample, commands, digest)?;
         Ok(history)
     }
 
@@ -52,6 +50,18 @@ impl History {
             users,
             seats,
         })
+    }
+
+    fn deliver_all(
+        &mut self,
+        sample: &mut Sample,
+        commands: u32,
+        digest: &mut Digest,
+    ) -> Result<()> {
+        for place in 0..commands {
+            self.deliver(sample, place, digest)?;
+        }
+        Ok(())
     }
 
     /// The packets of one command at their receiver. For each third command the first of them comes once more, and for

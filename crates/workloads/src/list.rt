@@ -50,10 +50,7 @@ struct Registry {
 /// Does the job on the input of a seed.
 pub fn run(alloc: Global, seed: u32, share: u32) -> Result<Digest> {
     let mut registry = Registry::new(alloc, seed)?;
-    for _ in 0..REGISTRIES {
-        registry.begin()?;
-        registry.list_all(part(USERS, share), part(SESSIONS, share))?;
-    }
+    registry.list_often(part(USERS, share), part(SESSIONS, share))?;
     Ok(registry.into_digest())
 }
 
@@ -85,6 +82,15 @@ impl Registry {
     fn into_digest(self) -> Digest {
         let Registry { digest, .. } = self;
         digest
+    }
+
+    /// Lists all of one registry after another.
+    fn list_often(&mut self, users: u32, sessions: u32) -> Result<()> {
+        for _ in 0..REGISTRIES {
+            self.begin()?;
+            self.list_all(users, sessions)?;
+        }
+        Ok(())
     }
 
     fn list_all(&mut self, users: u32, sessions: u32) -> Result<()> {

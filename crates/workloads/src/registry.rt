@@ -126,12 +126,28 @@ impl Client {
     {
         let sizes = node.config().roles().sizes();
         match self.reader.read(&sizes, line) {
-            Ok(Request::Ask(question)) => asked(node, question),
-            Ok(Request::Issue(command)) => issued(node, command, digest),
-            Ok(_) => bail!("another request"),
-            Err(LineFault::Memory) => bail!("out of memory"),
-            Err(fault) => Ok(ClientAnswer::BadLine(fault)),
+            Ok(request) => answered(node, request, digest),
+            Err(fault) => bad_line(fault),
         }
+    }
+}
+
+fn answered(node: &mut Node, request: Request, digest: &mut Digest) -> Result<ClientAnswer>
+    ensures { IfOk result IsWritten }
+{
+    match request {
+        Request::Ask(question) => asked(node, question),
+        Request::Issue(command) => issued(node, command, digest),
+        _ => bail!("another request"),
+    }
+}
+
+fn bad_line(fault: LineFault) -> Result<ClientAnswer>
+    ensures { IfOk result IsWritten }
+{
+    match fault {
+        LineFault::Memory => bail!("out of memory"),
+        fault => Ok(ClientAnswer::BadLine(fault)),
     }
 }
 

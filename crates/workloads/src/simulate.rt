@@ -265,13 +265,17 @@ fn command_of(owner: u8, sample: &mut Sample) -> Command {
 
 /// Does the job on the input of a seed.
 pub fn run(alloc: Global, seed: u32, share: u32) -> Result<Digest> {
-    let mut sample = Sample::new(seed, 6);
     let mut digest = Digest::new();
-    run_speaking(alloc, part(BATCHES, share), &mut sample, &mut digest)?;
-    for cluster in &QUIET {
-        run_quiet(alloc, cluster, share, &mut sample, &mut digest)?;
-    }
+    run_all(alloc, share, &mut Sample::new(seed, 6), &mut digest)?;
     Ok(digest)
+}
+
+fn run_all(alloc: Global, share: u32, sample: &mut Sample, digest: &mut Digest) -> Result<()> {
+    run_speaking(alloc, part(BATCHES, share), sample, digest)?;
+    for cluster in &QUIET {
+        run_quiet(alloc, cluster, share, sample, digest)?;
+    }
+    Ok(())
 }
 
 /// A cluster whose liars speak, for so many batches of commands.

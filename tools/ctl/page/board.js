@@ -23,7 +23,7 @@ function shape(name, members) {
 const byId = (name) => document.getElementById(name);
 const digits = (number) => number === undefined || number === null ? "–" : Math.round(number).toLocaleString("en");
 const short = (number) => number >= 100 || number === 0 ? digits(number) : number.toFixed(1);
-const nameOf = (node) => node.me === null ? `port ${node.port}` : `node ${node.me}`;
+const nameOf = (node) => node.me === null ? node.where : `node ${node.me}`;
 const micros = (time) =>
   time < 1000 ? `${time} µs` : time < 1e6 ? `${short(time / 1000)} ms` : `${short(time / 1e6)} s`;
 
@@ -98,7 +98,7 @@ function tile(value, label) {
 
 function tiles() {
   const up = now.nodes.filter((node) => node.state !== "away");
-  const used = Math.max(0, ...up.map((node) => node.at / node.limit));
+  const used = Math.max(0, ...up.map((node) => node.used));
   const [before, last] = samples.slice(-2);
   const speed = last ? Math.max(0, last.most - before.most) / Math.max(0.001, last.time - before.time) : 0;
   const again = up.map((node) => node.again).filter((number) => number !== undefined);
@@ -124,17 +124,20 @@ function spark(row, at) {
 
 function life(node) {
   const bar = element("meter", "");
-  Object.assign(bar, { min: 0, max: 1, low: 0.8, high: 0.9, optimum: 0, value: node.at / node.limit });
-  return element("td", "left", bar, percent(node.at / node.limit));
+  Object.assign(bar, { min: 0, max: 1, low: 0.8, high: 0.9, optimum: 0, value: node.used });
+  return element("td", "left", bar, percent(node.used));
 }
+
+// What is left of a share, and for how long.
+const lasts = (share) => element("td", share && share.soon ? "left warn" : "left", share ? share.text : "–");
 
 function nodeRow(node, at, rates) {
   const key = shape("svg", { class: `key key-${at % 8}`, width: 10, height: 10, viewBox: "0 0 10 10" });
   key.append(shape("circle", { cx: 5, cy: 5, r: 4 }));
-  const row = element("tr", "", element("td", "", key, ` ${nameOf(node)}`), element("td", "soft", String(node.port)),
+  const row = element("tr", "", element("td", "", key, ` ${nameOf(node)}`), element("td", "soft", node.short),
     element("td", "left", element("span", `pill ${WELL[node.state]}`, node.state)));
   if (node.state === "away" && node.at === undefined) {
-    for (let left = 0; left < 11; left++) row.append(element("td", "soft", "–"));
+    for (let left = 0; left < 12; left++) row.append(element("td", "soft", "–"));
     return row;
   }
   const isDeaf = node.hears < node.others && isBegun(node);
@@ -143,7 +146,7 @@ function nodeRow(node, at, rates) {
   const speed = rates[at][rates[at].length - 1];
   row.append(element("td", "left", spark(rates[at], at), ` ${speed === null ? "–" : short(speed)}`),
     element("td", node.behind > 32 ? "warn" : "", digits(node.behind)),
-    element("td", "", digits(node.at)), life(node), element("td", "", digits(node.sessions)),
+    element("td", "", digits(node.at)), life(node), lasts(node.acts), element("td", "", digits(node.sessions)),
     element("td", isDeaf ? "warn" : "", node.peers ? `${node.hears} of ${node.others}` : "–"),
     element("td", "", digits(node.waiting)), element("td", "", digits(node.again)),
     element("td", "", digits(node.lost)),
@@ -154,8 +157,9 @@ function nodeRow(node, at, rates) {
 
 function nodeTable(rates) {
   const left = (text) => ({ text, style: "left" });
-  byId("nodes").replaceChildren(head("", "port", left("state"), left("commands a second"), "behind", "history",
-    left("life span used"), "sessions", "hears", "waiting", "sent again", "lost", "unopened", "sync: mean, worst"),
+  byId("nodes").replaceChildren(head("", "at", left("state"), left("commands a second"), "behind", "history",
+    left("life span used"), left("acts left"), "sessions", "hears", "waiting", "sent again", "lost", "unopened",
+    "sync: mean, worst"),
   ...now.nodes.map((node, at) => nodeRow(node, at, rates)));
 }
 
@@ -163,9 +167,10 @@ function ownerTable() {
   const up = now.nodes.filter((node) => node.reaches).slice(0, 16);
   const owners = now.most.map((most, owner) => ({ most, owner })).filter(({ most }) => most > 0).slice(0, MOST_ROWS);
   const rows = owners.map(({ most, owner }) => element("tr", "", element("td", "", `owner ${owner}`),
+    lasts(now.owners[owner]),
     ...up.map((node) => element("td", node.reaches[owner] < most ? "warn" : "", digits(node.reaches[owner])))));
   if (!rows.length) rows.push(element("tr", "", element("td", "soft", "nothing is published yet")));
-  byId("owners").replaceChildren(head("", ...up.map(nameOf)), ...rows);
+  byId("owners").replaceChildren(head("", { text: "places left", style: "left" }, ...up.map(nameOf)), ...rows);
 }
 
 function link(peer, node, to) {

@@ -1,9 +1,9 @@
-use Rattle.std.proofs.Common.{◌∙◌, ◌≤◌, ℕ, List, length, sym, subst, arith}
+use Rattle.std.proofs.Common.{◌≡◌, ◌∙◌, ◌≤◌, ℕ, List, ap, length, sym, subst, arith}
 use Rattle.std.specs.Prelude.{◌↔◌, IsTrue}
 use Rattle.std.proofs.lemmas.Result.{err_from_is_err_and}
 use Rattle.role_node.specs.Nodes.{NodeValue}
 use Rattle.kept_node.specs.Restoring.{IsIllegal, IsReplayFault}
-use Rattle.node_journal.specs.Sights.{HasByte}
+use Rattle.node_journal.specs.Sights.{HasByte, IsBeyondIfAny}
 use Rattle.node_journal.proofs.RefusalLemmas.{not_opened, not_read}
 use Rattle.node_journal.proofs.SightLemmas.{events_any}
 use Rattle.node_journal.proofs.keeping.look_at.Goals as goal
@@ -32,6 +32,9 @@ pub returns-in-Ok-clause-sight : goal.returns-in-Ok-clause-sight
 returns-in-Ok-clause-sight g c clean =
     let found = c.in_ok-found.ensures.found (c.has_bytes.ensures.clean clean) in
     let node = c.replay_events.new.locked.node in
+    let first : NodeValue = record { config = c.args.config; me = c.args.me; history = node.history } in
+    let same : c.node.result.now ≡ first = c.node.ensures ∙ c.replay_events.ensures.node
+    ∙ ap (λ (n : NodeValue). record n { history = node.history }) c.in_ok-locked.ensures.node in
     record {
       head = c.in_ok-head.head;
       batches = found.batches;
@@ -44,6 +47,7 @@ returns-in-Ok-clause-sight g c clean =
       batch_count = found.count;
       used = found.end;
       size = found.size;
+      beyond = subst (λ (n : NodeValue). IsBeyondIfAny n c.beyond_in.result) same c.beyond_in.ensures;
       torn = subst (λ (l : List ℕ). IsTrue c.in_ok-is_torn.is_torn ↔ HasByte l c.in_ok-found.found.end
           c.in_ok-found.found.size) c.in_ok-found.ensures.seen (c.in_ok-is_torn.ensures.byte clean);
     }

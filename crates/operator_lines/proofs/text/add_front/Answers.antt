@@ -9,5 +9,6 @@ returns c =
       c.in_ok-add_flag.ensures,
       c.in_ok-add_number.ensures,
       c.from.ensures,
+      c.in_ok-add_acts.ensures,
     )
     (simp append_assoc)

@@ -24,7 +24,7 @@ returns-clause-made g c = λ yes room.
       is_done = record {
         caller = c.of-caller.ensures;
         packet = c.taken_packet-packet.ensures;
-        ended = ended_for _ _ _ _ _ _ _ _ _ _ _ _ rules_stay votes_stay name_stays c.end_call-ending.ensures;
+        ended = ended_for _ _ _ _ _ _ _ _ _ _ _ _ rules_stay votes_stay name_stays c.end_call-ending.ensures.ended;
       };
       waits = search rules;
       told = search rules;

@@ -1,4 +1,0 @@
-use Rattle.role_daemon.proofs.serve.serve_until_idle.Given as goal
-
-abbrev pub ghosts-serve_at : goal.ghosts-serve_at
-ghosts-serve_at g a = record { name = a.blank.name; parts = a.blank.parts }
