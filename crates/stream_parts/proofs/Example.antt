@@ -135,7 +135,8 @@ issued_alike (Err fault) m n = refl
 few_held : (owner : ℕ) (cs : List Command) → sets.len (held one_place owner cs) ≤ length cs
 few_held owner cs =
     let few = no_more (held one_place owner cs) (cover (one_place.beginning owner) cs)
-    (λ q is. cover-contains (one_place.beginning owner) cs q ∙ held_in one_place owner (one_place.beginning owner) cs q is)
+    (λ q is. cover-contains (one_place.beginning owner) cs q ∙ held_in one_place owner
+    (one_place.beginning owner) cs q is)
     in
     omega (arith, few, cover_few (one_place.beginning owner) cs, sets.len-empty pair_cmp)
 
@@ -159,11 +160,13 @@ fits (n, Client a) = false
 get_all : {A : Type 0} (t : A → Bool) (xs : List A) (k : ℕ) (x : A) → list_all t xs ≡ true →
     slice_get xs k ≡ Some x → t x ≡ true
 get_all t [] k x all there = absurd cc
-get_all t (y ∷ xs) zero x all there = subst (λ z. t z ≡ true) (same_Some y x there) (and_parts (t y) (list_all t xs) all).0
+get_all t (y ∷ xs) zero x all there = subst (λ z. t z ≡ true) (same_Some y x there)
+    (and_parts (t y) (list_all t xs) all).0
 get_all t (y ∷ xs) (suc k) x all there = get_all t xs k x (and_parts (t y) (list_all t xs) all).1 there
 
 module _ (run : Run) (is_run : IsClusterRun four_nodes three_lies ((0, Issue user_seven) ∷ run))
-    (all_fit : list_all fits run ≡ true) (short : (n : ℕ) → length (history_of n ((0, Issue user_seven) ∷ run)) ≤ 11) where
+    (all_fit : list_all fits run ≡ true) (short : (n : ℕ) → length
+    (history_of n ((0, Issue user_seven) ∷ run)) ≤ 11) where
   abbrev whole : Run
   whole = (0, Issue user_seven) ∷ run
 
@@ -237,7 +240,8 @@ module _ (run : Run) (is_run : IsClusterRun four_nodes three_lies ((0, Issue use
           (events_in first_part (done f)) x ≡ true) (sym t.1)
           (and_from (t.0.owner == 0) (nat_lt t.0.place 1) (eq-eqb t.0.owner 0 t.2) (lt-ltb t.0.place 1 t.3)))
           is)
-          (subst (λ l. is_recorded (answer_due (part_config one_place 0) n l e) ≡ true) (sym (events_done f)) recorded)))
+          (subst (λ l. is_recorded (answer_due (part_config one_place 0) n l e) ≡ true)
+          (sym (events_done f)) recorded)))
         where
           issue : (n : ℕ) (f : List Event) (e : Event) → n ≡ 0 → e ≡ Issue user_seven → f ≡ [] →
               belongs one_place n first_part (current one_place (done f) 0)
@@ -291,7 +295,8 @@ module _ (run : Run) (is_run : IsClusterRun four_nodes three_lies ((0, Issue use
       to_act : ℕ × Event → ℕ × Act
       to_act pair = (pair.0, In first_part pair.1)
 
-      no_adoption : (e : Event) (owner number : ℕ) (past : List Command) → In first_part e ≡ Adopts owner number past → ⊥
+      no_adoption : (e : Event) (owner number : ℕ) (past : List Command) →
+          In first_part e ≡ Adopts owner number past → ⊥
       no_adoption e owner number past is = cc
 
       event_of : Act → Event

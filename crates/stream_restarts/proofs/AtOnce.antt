@@ -1,5 +1,6 @@
 -- The life in which each act of a long run is synced once it is done, where nobody adopts.
-use Rattle.std.proofs.Common.{◌≡◌, ℕ, suc, ◌==◌, Bool, true, false, List, [], ◌∷◌, ◌++◌, length, take, Some, refl, sym, ap}
+use Rattle.std.proofs.Common.{◌≡◌, ℕ, suc, ◌==◌, Bool, true, false, List, [], ◌∷◌, ◌++◌, length, take, Some, refl}
+use Rattle.std.proofs.Common.{sym, ap}
 use Rattle.std.proofs.Common.{◌∙◌, subst, arith, append-nil, append_assoc}
 use Rattle.std.specs.Prelude.{IsTrue, slice_get, fold, if◌then◌else◌}
 use Rattle.std.proofs.Math.Seq.{take-append_seam}
@@ -116,7 +117,8 @@ module _ (plan : Plan) (liars : Nodes) where
       let now : Moment = after (after m (Does pair.0 pair.1)) (Syncs pair.0) in
       let split : (past ++ pair ∷ []) ++ rest ≡ past ++ pair ∷ rest = append_assoc past (pair ∷ []) rest in
       let more = all_at_once now (past ++ pair ∷ []) rest (synced_next m past pair.0 pair.1 synced)
-      (subst (IsLongRun plan liars) (sym split) long) (λ t node owner number old at. none (suc t) node owner number old at)
+      (subst (IsLongRun plan liars) (sym split) long) (λ t node owner number old at. none
+      (suc t) node owner number old at)
       in (
         (
           may_do m past rest pair.0 pair.1 synced long
