@@ -57,7 +57,7 @@ class Second(Cluster):
     def takes(self, data):
         """Sends bytes to where it takes frames, and waits until it has taken them and closed the connection."""
         with self.link(1) as link:
-            with contextlib.suppress(ConnectionError):  # it closes at a first frame that doesn't open
+            with contextlib.suppress(OSError):  # it closes at a first frame that doesn't open
                 link.sendall(data)
                 link.shutdown(socket.SHUT_WR)
             judge(is_closed(link), "the node didn't close the connection")
