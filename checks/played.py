@@ -84,8 +84,8 @@ class Node:
                 os.unlink(self.port)
 
     def hang_up(self):
-        """Ends all its connections."""
-        for connection in self.connections:
+        """Ends all its connections, and none that is made meanwhile."""
+        for connection in list(self.connections):
             with contextlib.suppress(OSError):
                 connection.shutdown(socket.SHUT_RDWR)
 

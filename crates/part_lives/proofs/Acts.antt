@@ -1,6 +1,8 @@
 -- What one more act of a node changes: the events of its parts, what it issued and adopted, and the end of its parts.
-use Rattle.std.proofs.Common.{◌≡◌, ⊎_elim, ℕ, suc, ◌==◌, ◌<◌, ◌≤◌, max, Bool, true, false, ◌&&◌, List, [], ◌∷◌, ◌++◌, None, Some}
-use Rattle.std.proofs.Common.{length, take, slice_get, refl, sym, ap, ◌∙◌, subst, arith, append-nil, append_assoc, eqb-true}
+use Rattle.std.proofs.Common.{◌≡◌, ⊎_elim, ℕ, suc, ◌==◌, ◌<◌, ◌≤◌, max, Bool, true, false, ◌&&◌, List, [], ◌∷◌, ◌++◌}
+use Rattle.std.proofs.Common.{None, Some}
+use Rattle.std.proofs.Common.{length, take, slice_get, refl, sym, ap, ◌∙◌, subst, arith, append-nil, append_assoc}
+use Rattle.std.proofs.Common.{eqb-true}
 use Rattle.std.specs.Prelude.{if◌then◌else◌, IsTrue}
 use Rattle.std.specs.List.{filter_map, cons_option}
 use Rattle.std.proofs.Math.Seq.{take-append_seam}
@@ -94,7 +96,8 @@ events-none part = refl
 pub events-same : (part : Part) (acts : List Act) (act : Act) → event_in part act ≡ None →
     events_in part (acts ++ act ∷ []) ≡ events_in part acts
 events-same part acts act none =
-    events-push part acts act ∙ ap (λ o. events_in part acts ++ cons_option o []) none ∙ append-nil (events_in part acts)
+    events-push part acts act ∙ ap (λ o. events_in part acts ++ cons_option o []) none ∙ append-nil
+    (events_in part acts)
 
 pub events-other : (part q : Part) (acts : List Act) (e : Event) → same_part q part ≡ false →
     events_in q (acts ++ In part e ∷ []) ≡ events_in q acts

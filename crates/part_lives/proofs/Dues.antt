@@ -1,5 +1,6 @@
 -- What is known of an act that is due.
-use Rattle.std.proofs.Common.{◌≡◌, ℕ, ◌==◌, ◌*◌, ◌<◌, Bool, true, not, ◌&&◌, List, length, take, slice_get, Some, sym, subst}
+use Rattle.std.proofs.Common.{◌≡◌, ℕ, ◌==◌, ◌*◌, ◌<◌, Bool, true, not, ◌&&◌, List, length, take, slice_get, Some, sym}
+use Rattle.std.proofs.Common.{subst}
 use Rattle.std.proofs.Common.{eqb-true}
 use Rattle.std.specs.Prelude.{nat_lt, IsTrue}
 use Rattle.std.proofs.lemmas.Bool.{and_parts, ltb-true}
@@ -7,9 +8,11 @@ use Rattle.role_commands.specs.declared.command.Command.{Command}
 use Rattle.role_sessions.specs.declared.event.ClientEvent.{ClientEvent}
 use Rattle.role_node.specs.Answers.{act_fault, answer_due, is_recorded, IsLegal}
 use Rattle.role_node.specs.declared.event.Event.{Event}
-use Rattle.part_lives.specs.Lives.{held, relations_in, sessions_in, is_kept, belongs, is_no_fault, most_acts, most_parts}
+use Rattle.part_lives.specs.Lives.{held, relations_in, sessions_in, is_kept, belongs, is_no_fault, most_acts}
+use Rattle.part_lives.specs.Lives.{most_parts}
 use Rattle.part_lives.specs.Lives.{under_way, is_due_next, is_due, IsLife}
-use Rattle.part_lives.specs.Parts.{Plan, Part, Act, In, Client, Adopts, part_config, event_in, events_in, current, total}
+use Rattle.part_lives.specs.Parts.{Plan, Part, Act, In, Client, Adopts, part_config, event_in, events_in, current}
+use Rattle.part_lives.specs.Parts.{total}
 use Rattle.part_lives.proofs.Acts.{event_in_is}
 use Rattle.part_lives.proofs.Picking.{picked_at}
 

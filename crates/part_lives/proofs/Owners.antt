@@ -14,10 +14,12 @@ use Rattle.role_node.specs.declared.event.Event.{Event}
 use Rattle.owner_streams.specs.Laws.{IsPrefixOf}
 use Rattle.part_lives.specs.Holding.{Pairs}
 use Rattle.part_lives.specs.Lives.{held_from, held, is_kept}
-use Rattle.part_lives.specs.Parts.{Plan, Act, In, Adopts, Spot, part_of, events_in, spot_at, told_at, adopted, parts_end, total}
+use Rattle.part_lives.specs.Parts.{Plan, Act, In, Adopts, Spot, part_of, events_in, spot_at, told_at, adopted}
+use Rattle.part_lives.specs.Parts.{parts_end, total}
 use Rattle.part_lives.specs.Parts.{current, part_stream}
 use Rattle.part_lives.specs.States.{OwnerState, blank, with_event, with_summary}
-use Rattle.part_lives.proofs.Acts.{events-same, events-other, events-own, events-none, adopted-push, adopted-none, end-push}
+use Rattle.part_lives.proofs.Acts.{events-same, events-other, events-own, events-none, adopted-push, adopted-none}
+use Rattle.part_lives.proofs.Acts.{end-push}
 use Rattle.part_lives.proofs.Acts.{end-none, none_past, not_second}
 use Rattle.part_lives.proofs.Lists.{fold_append, get_behind, none_behind, prefix_is, prefix_of_prefix}
 use Rattle.part_lives.proofs.Spots.{next_row, no_rows, spot_is, spot_below, below_spot}
@@ -57,7 +59,8 @@ module _ (plan : Plan) (some : 1 ≤ plan.length) (w : ℕ) where
       let stream : List Command = part_stream plan w o.now in
       let long : length (total plan acts w) ≡ o.number * plan.length + length stream =
       omega (arith, ap length at.whole, length-append at.base stream, at.long) in
-      ap (λ n. (spot_at plan n).number) long ∙ ap (λ (s : Spot). s.number) (spot_is plan o.number (length stream) at.short)
+      ap (λ n. (spot_at plan n).number) long ∙ ap (λ (s : Spot). s.number)
+      (spot_is plan o.number (length stream) at.short)
 
   pub base_is : (acts : List Act) (o : OwnerState) (at : IsAt acts o) →
       take (o.number * plan.length) (total plan acts w) ≡ at.base
@@ -324,7 +327,8 @@ module _ (plan : Plan) (some : 1 ≤ plan.length) (w : ℕ) where
       whole_same : total plan acts' w ≡ total plan acts w
       whole_same =
           total_is plan w acts' (total plan acts w) some (record {
-            starts = subst (λ l. IsPrefixOf l (total plan acts w)) (sym still_adopted) (is_total plan w acts some).starts;
+            starts = subst (λ l. IsPrefixOf l (total plan acts w)) (sym still_adopted)
+                (is_total plan w acts some).starts;
             told = λ p from to.
                 told_before p ((spot_at plan p).number == n) refl (omega (arith, from, ap length still_adopted)) to;
           })

@@ -35,7 +35,8 @@ one_key (Granted a b r) (Assigned v s) e = absurd cc
 one_key (Granted a b r) (Granted c d s) e = cc
 
 pub one_pair : maps.IsAntisymmetric pair_cmp
-one_pair p q tied = one_key p q (maps.slice_cmp-IsAntisymmetric maps.nat_cmp-IsAntisymmetric (pair_key p) (pair_key q) tied)
+one_pair p q tied = one_key p q (maps.slice_cmp-IsAntisymmetric maps.nat_cmp-IsAntisymmetric (pair_key p)
+    (pair_key q) tied)
 
 pub itself : (p : Pair) → eq_by_cmp pair_cmp p p ≡ true
 itself p = ap is_eq (tied_itself ordered p)
@@ -223,7 +224,8 @@ module _ (plan : Plan) (owner : ℕ) (q : Pair) where
   more_by c more pairs front true rest was =
       rest (after_command pairs c) (front ++ c ∷ [])
       (after_says q pairs c ∙ ap (unwrap_or (says_of q c)) was ∙ sym (said_last (says_of q) front c))
-      ∙ ap (last_said (says_of q)) (append_assoc front (c ∷ []) (effective_from plan owner (after_command pairs c) more))
+      ∙ ap (last_said (says_of q)) (append_assoc front (c ∷ [])
+      (effective_from plan owner (after_command pairs c) more))
   more_by c more pairs front false rest was = rest pairs front was
 
   goes_on : (more : List Command) → GoesOn more

@@ -21,13 +21,17 @@ use Rattle.role_node.specs.Histories.{issued}
 use Rattle.role_node.specs.declared.event.Event.{Event}
 use Rattle.role_node.specs.declared.faults.NodeFault.{NodeFault}
 use Rattle.part_lives.specs.Laws.{IsStateOf, IsEnough, StateIsEnough, StateGoesOn}
-use Rattle.part_lives.specs.Lives.{held_from, held, is_kept, belongs, is_no_fault, is_due, IsLife, relations_in, sessions_in}
+use Rattle.part_lives.specs.Lives.{held_from, held, is_kept, belongs, is_no_fault, is_due, IsLife, relations_in}
+use Rattle.part_lives.specs.Lives.{sessions_in}
 use Rattle.part_lives.specs.Lives.{relations_of_pairs, under_way, most_acts, most_parts}
-use Rattle.part_lives.specs.Parts.{Plan, Part, Act, In, Client, Adopts, part_of, events_in, clients_in, adopted, parts_end}
+use Rattle.part_lives.specs.Parts.{Plan, Part, Act, In, Client, Adopts, part_of, events_in, clients_in, adopted}
+use Rattle.part_lives.specs.Parts.{parts_end}
 use Rattle.part_lives.specs.Parts.{total, current, part_config}
-use Rattle.part_lives.specs.States.{State, OwnerState, blank, with_event, with_summary, events_kept, held_now, stream_now}
+use Rattle.part_lives.specs.States.{State, OwnerState, blank, with_event, with_summary, events_kept, held_now}
+use Rattle.part_lives.specs.States.{stream_now}
 use Rattle.part_lives.specs.States.{after, sessions_after, state_from, state_of_life, due, relations_now}
-use Rattle.part_lives.proofs.Acts.{along_life, events-same, events-other, adopted-push, end-push, clients-push, clients-same}
+use Rattle.part_lives.proofs.Acts.{along_life, events-same, events-other, adopted-push, end-push, clients-push}
+use Rattle.part_lives.proofs.Acts.{clients-same}
 use Rattle.part_lives.proofs.Acts.{not_first, turned}
 use Rattle.part_lives.proofs.Dues.{event_due, client_due, adopts_due}
 use Rattle.part_lives.proofs.Lists.{fold_append}
@@ -138,7 +142,8 @@ module _ (plan : Plan) (some : 1 ≤ plan.length) (me : ℕ) where
       IsOf (acts ++ act ∷ []) (after plan state act)
   next_is acts (In part e) state due is =
       record {
-        owners = λ w. event_at acts state part e is.owners (event_due plan me acts part e due).kept w (w == part.owner) refl;
+        owners = λ w. event_at acts state part e is.owners (event_due plan me acts part e due).kept w
+            (w == part.owner) refl;
         sessions = is.sessions ∙ ap state_of (sym (clients-same acts (In part e) refl));
         at = one_longer acts (In part e) state.at is.at;
       }

@@ -8,8 +8,8 @@ use Rattle.part_lives.specs.Parts.{Plan, Act, events_in, part_of, total, current
 use Rattle.part_lives.specs.States.{State, OwnerState, state_from, state_of_life, due, events_kept, held_now}
 use Rattle.part_lives.specs.States.{relations_now}
 
--- What holds by an owner's commands is what rbac_state says of the pairs that it began with, as commands, and of those of
--- its commands that have an effect.
+-- What holds by an owner's commands is what rbac_state says of the pairs that it began with, as commands, and of
+-- those of its commands that have an effect.
 pub record IsSaid (plan : Plan) (streams : ℕ → List Command) : Type 0 where
   pub assigned : (user role : ℕ) → (relations_over plan streams).assigned user role
       ≡ is_user_assigned plan.roles (λ owner. said plan owner (streams owner)) user role

@@ -1,6 +1,7 @@
 -- The life of a node that takes parts: what holds by its totals, how it decides, and what it may do next.
 use Rattle.std.specs.Prelude.{◌≡◌, ◌≤◌, ℕ, suc, ◌+◌, ◌-◌, ◌*◌, ◌==◌, Bool, true, false, not, ◌&&◌, ◌||◌, nat_lt, IsTrue}
-use Rattle.std.specs.Prelude.{List, [], ◌∷◌, ◌++◌, length, take, fold, map, slice_get, Option, Some, None, if◌then◌else◌}
+use Rattle.std.specs.Prelude.{List, [], ◌∷◌, ◌++◌, length, take, fold, map, slice_get, Option, Some, None}
+use Rattle.std.specs.Prelude.{if◌then◌else◌}
 use Rattle.std.specs.FinMap as maps
 use Rattle.std.specs.FinSet as sets
 use Rattle.std.specs.Option.{option_map_or}
@@ -138,7 +139,8 @@ is_due_next plan me acts (In part event) =
     && (belongs plan me part (current plan acts part.owner) (held plan part.owner (total plan acts part.owner))
     (under_way plan acts part.owner) (events_in part acts) event
     && is_recorded (answer_due (part_config plan part.number) me (events_in part acts) event))
-is_due_next plan me acts (Client act) = is_no_fault (act_fault plan.roles (relations_in plan acts) (sessions_in acts) act)
+is_due_next plan me acts (Client act) = is_no_fault (act_fault plan.roles (relations_in plan acts)
+    (sessions_in acts) act)
 is_due_next plan me acts (Adopts owner number past) =
     (not (owner == me) && nat_lt number most_parts)
     && (nat_lt (current plan acts owner) number && (length past == number * plan.length))

@@ -31,7 +31,8 @@ pub record Part : Type 0 where
 abbrev pub part_of : ℕ → ℕ → Part
 part_of owner number = record { owner = owner; number = number }
 
--- The part's cluster. At each place a node records no more than a SEND, an ECHO and a READY of each, and what it issues.
+-- The part's cluster. At each place a node records no more than a SEND, an ECHO and a READY of each, and what it
+-- issues.
 abbrev pub part_config : Plan → ℕ → ConfigValue
 part_config plan number = record {
   cluster = number;

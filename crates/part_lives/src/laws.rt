@@ -3,8 +3,8 @@
 //! Each function's contract is its law, and its body is empty.
 ghost use Rattle.part_lives.specs.Laws.{HeldIsSaid, StateIsEnough, StateGoesOn};
 
-/// What holds is what `rbac_state` says of the pairs that an owner began with, as commands, and of its commands that have
-/// an effect.
+/// What holds is what `rbac_state` says of the pairs that an owner began with, as commands, and of its commands that
+/// have an effect.
 pub fn held_is_said()
     ensures { HeldIsSaid }
 {}

@@ -84,7 +84,7 @@ taken_in f zero xs = refl
 taken_in f (suc n) [] = refl
 taken_in f (suc n) (x ∷ xs) = ap (λ l. f x ∷ l) (taken_in f n xs)
 
-got_in : {A B : Type 0} (f : A → B) (xs : List A) (k : ℕ) (y : B) → slice_get (map f xs) k ≡ Some y →
+pub got_in : {A B : Type 0} (f : A → B) (xs : List A) (k : ℕ) (y : B) → slice_get (map f xs) k ≡ Some y →
     (x : A) × (slice_get xs k ≡ Some x) × (f x ≡ y)
 got_in f [] k y there = absurd cc
 got_in f (x ∷ xs) zero y there = (x, refl, same_Some (f x) y there)
@@ -135,7 +135,8 @@ issued_alike (Err fault) m n = refl
 few_held : (owner : ℕ) (cs : List Command) → sets.len (held one_place owner cs) ≤ length cs
 few_held owner cs =
     let few = no_more (held one_place owner cs) (cover (one_place.beginning owner) cs)
-    (λ q is. cover-contains (one_place.beginning owner) cs q ∙ held_in one_place owner (one_place.beginning owner) cs q is)
+    (λ q is. cover-contains (one_place.beginning owner) cs q ∙ held_in one_place owner
+    (one_place.beginning owner) cs q is)
     in
     omega (arith, few, cover_few (one_place.beginning owner) cs, sets.len-empty pair_cmp)
 
@@ -159,11 +160,13 @@ fits (n, Client a) = false
 get_all : {A : Type 0} (t : A → Bool) (xs : List A) (k : ℕ) (x : A) → list_all t xs ≡ true →
     slice_get xs k ≡ Some x → t x ≡ true
 get_all t [] k x all there = absurd cc
-get_all t (y ∷ xs) zero x all there = subst (λ z. t z ≡ true) (same_Some y x there) (and_parts (t y) (list_all t xs) all).0
+get_all t (y ∷ xs) zero x all there = subst (λ z. t z ≡ true) (same_Some y x there)
+    (and_parts (t y) (list_all t xs) all).0
 get_all t (y ∷ xs) (suc k) x all there = get_all t xs k x (and_parts (t y) (list_all t xs) all).1 there
 
 module _ (run : Run) (is_run : IsClusterRun four_nodes three_lies ((0, Issue user_seven) ∷ run))
-    (all_fit : list_all fits run ≡ true) (short : (n : ℕ) → length (history_of n ((0, Issue user_seven) ∷ run)) ≤ 11) where
+    (all_fit : list_all fits run ≡ true) (short : (n : ℕ) → length
+    (history_of n ((0, Issue user_seven) ∷ run)) ≤ 11) where
   abbrev whole : Run
   whole = (0, Issue user_seven) ∷ run
 
@@ -237,7 +240,8 @@ module _ (run : Run) (is_run : IsClusterRun four_nodes three_lies ((0, Issue use
           (events_in first_part (done f)) x ≡ true) (sym t.1)
           (and_from (t.0.owner == 0) (nat_lt t.0.place 1) (eq-eqb t.0.owner 0 t.2) (lt-ltb t.0.place 1 t.3)))
           is)
-          (subst (λ l. is_recorded (answer_due (part_config one_place 0) n l e) ≡ true) (sym (events_done f)) recorded)))
+          (subst (λ l. is_recorded (answer_due (part_config one_place 0) n l e) ≡ true)
+          (sym (events_done f)) recorded)))
         where
           issue : (n : ℕ) (f : List Event) (e : Event) → n ≡ 0 → e ≡ Issue user_seven → f ≡ [] →
               belongs one_place n first_part (current one_place (done f) 0)
@@ -291,7 +295,8 @@ module _ (run : Run) (is_run : IsClusterRun four_nodes three_lies ((0, Issue use
       to_act : ℕ × Event → ℕ × Act
       to_act pair = (pair.0, In first_part pair.1)
 
-      no_adoption : (e : Event) (owner number : ℕ) (past : List Command) → In first_part e ≡ Adopts owner number past → ⊥
+      no_adoption : (e : Event) (owner number : ℕ) (past : List Command) →
+          In first_part e ≡ Adopts owner number past → ⊥
       no_adoption e owner number past is = cc
 
       event_of : Act → Event
@@ -357,7 +362,7 @@ short_lives (suc (suc (suc (suc n)))) less = absurd (omega (arith, less))
 module _ (is_run : IsClusterRun four_nodes three_lies example_run)
     (at_zero : delivered_by four_nodes example_run 0 0 0 ≡ Some user_seven) where
   -- a node that is none does nothing
-  short_if : (n : ℕ) → length (history_of n example_run) ≤ 11
+  pub short_if : (n : ℕ) → length (history_of n example_run) ≤ 11
   short_if n = ⊎_elim (λ (less : n < 4). short_lives n less)
       (λ (past : 4 ≤ n). by (history_of n example_run) refl past) (cases_lt n 4)
     where
@@ -376,7 +381,7 @@ module _ (is_run : IsClusterRun four_nodes three_lies example_run)
               ltb-true found.1.0 4 (and_parts (nat_lt found.1.0 4) _ correct).0 in
               omega (arith, below, name, past)
 
-  seven_first : total one_place (done (history_of 0 example_run)) 0 ≡ user_seven ∷ []
+  pub seven_first : total one_place (done (history_of 0 example_run)) 0 ≡ user_seven ∷ []
   unfolding history_of
   seven_first =
       let h : List Event = history_of 0 example_run in

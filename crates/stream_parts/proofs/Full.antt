@@ -50,7 +50,8 @@ module _ (plan : Plan) (part : Part) where
       let rest = counts h (λ k e there. own (suc k) e there) in omega (arith, rest)
   counts (Take p ∷ h) own =
       let rest = counts h (λ k e there. own (suc k) e there) in
-      let one : ◌≡◌ {A = ℕ} (cond (is_before part.owner plan.length p) 1 0) 1 = ap (λ b. cond b 1 0) (own 0 (Take p) refl) in
+      let one : ◌≡◌ {A = ℕ} (cond (is_before part.owner plan.length p) 1 0) 1 = ap (λ b. cond b 1 0)
+      (own 0 (Take p) refl) in
       let step = sum_by-cons (λ q. cond (is_before part.owner plan.length q) 1 0) p (packets h) in
       let same : issued (Take p ∷ h) ≡ issued h = refl in
       omega (arith, rest, one, step, ap length same)

@@ -177,7 +177,8 @@ module _ (plan : Plan) (liars : Nodes) (run : LongRun) (long : IsLongRun plan li
   issued_there are_runs owner p c correct has =
       let spot : Spot = spot_at plan p in
       let part : Part = part_of owner spot.number in
-      let told : delivered_at plan.roles.sizes owner spot.place (packets (history_of has.0 (run_in part run))) ≡ Some c =
+      let told : delivered_at plan.roles.sizes owner spot.place (packets (history_of has.0 (run_in part run)))
+      ≡ Some c =
       ap (λ h. delivered_at plan.roles.sizes owner spot.place (packets h)) (history_in part has.0 run) ∙ has.1 in
       ap (λ h. slice_get (issued h) spot.place) (sym (history_in part owner run))
       ∙ delivered_was_issued (part_config plan spot.number) liars (run_in part run) (are_runs plan liars run part long)

@@ -1,8 +1,10 @@
--- What a correct owner issued has room wherever it is delivered: what holds by its total, with all pairs that the commands
--- under way name, is never more than it may have.
+-- What a correct owner issued has room wherever it is delivered: what holds by its total, with all pairs that the
+-- commands under way name, is never more than it may have.
 use Rattle.std.proofs.Common.{◌≡◌, ℕ, zero, suc, ◌+◌, ◌==◌, ◌<◌, ◌≤◌, ⊎_elim, Bool, true, false, not, ◌||◌}
-use Rattle.std.proofs.Common.{List, [], ◌∷◌, ◌++◌, length, take, drop, slice_get, Option, Some, None, refl, sym, ap, ◌∙◌}
-use Rattle.std.proofs.Common.{inl, inr, ◌⊎◌, take-take, subst, arith, append-nil, append_assoc, length-append, cond, take_all}
+use Rattle.std.proofs.Common.{List, [], ◌∷◌, ◌++◌, length, take, drop, slice_get, Option, Some, None, refl, sym, ap}
+use Rattle.std.proofs.Common.{◌∙◌}
+use Rattle.std.proofs.Common.{inl, inr, ◌⊎◌, take-take, subst, arith, append-nil, append_assoc, length-append, cond}
+use Rattle.std.proofs.Common.{take_all}
 use Rattle.std.specs.Prelude.{if◌then◌else◌, nat_lt, nat_le, IsTrue}
 use Rattle.std.specs.FinSet as sets
 use Rattle.std.specs.List.{list_any}
@@ -27,7 +29,8 @@ use Rattle.role_node.specs.declared.faults.NodeFault.TheVariants as fault
 use Rattle.role_node.proofs.Exported.{at_push}
 use Rattle.part_lives.specs.Holding.{Pair, Pairs, pair_cmp, pair_of, adds}
 use Rattle.part_lives.specs.Lives.{has_effect, has_room, held, held_from, under_way, is_due, IsLife}
-use Rattle.part_lives.specs.Parts.{Plan, Part, Act, In, Client, Adopts, part_config, part_of, events_in, told_at, adopted}
+use Rattle.part_lives.specs.Parts.{Plan, Part, Act, In, Client, Adopts, part_config, part_of, events_in, told_at}
+use Rattle.part_lives.specs.Parts.{adopted}
 use Rattle.part_lives.specs.Parts.{total, current, parts_end, all_issued}
 use Rattle.part_lives.proofs.Acts.{life_front, due_next, adopted-push}
 use Rattle.part_lives.proofs.Dues.{event_due, adopts_due}
@@ -165,7 +168,8 @@ module _ (plan : Plan) (owner : ℕ) where
       owns plan.roles owner (role_of c) ≡ true → has_effect plan owner (held plan owner (done ++ way)) c ≡ true
   effect_of done way c fits owned =
       and_from (owns plan.roles owner (role_of c))
-      (not (adds (held plan owner (done ++ way)) c) || nat_lt (sets.len (held plan owner (done ++ way))) plan.most_pairs)
+      (not (adds (held plan owner (done ++ way)) c) || nat_lt
+      (sets.len (held plan owner (done ++ way))) plan.most_pairs)
       owned (by (pair_of c) refl)
     where
       now : Pairs
@@ -206,10 +210,12 @@ module _ (plan : Plan) (owner : ℕ) where
       by : (o : Option Pair) → pair_of c ≡ o →
           (not (adds now c) || nat_lt (sets.len now) plan.most_pairs) ≡ true
       by None is =
-          ap (λ o. not (option_map_or (λ r. not (sets.contains now r)) o false) || nat_lt (sets.len now) plan.most_pairs)
+          ap (λ o. not (option_map_or (λ r. not (sets.contains now r)) o false) || nat_lt
+          (sets.len now) plan.most_pairs)
           is
       by (Some p) is =
-          ap (λ o. not (option_map_or (λ r. not (sets.contains now r)) o false) || nat_lt (sets.len now) plan.most_pairs)
+          ap (λ o. not (option_map_or (λ r. not (sets.contains now r)) o false) || nat_lt
+          (sets.len now) plan.most_pairs)
           is
           ∙ new_by p is (sets.contains now p) refl
 
@@ -447,7 +453,8 @@ module _ (plan : Plan) (liars : Nodes) (run : LongRun) (long : IsLongRun plan li
       push (fine_moment t) h.0.0 h.0.1 (h.0.0 == owner) refl h.2)
       (take_next run t)
     where
-      push : Fine (acts_of owner (take t run)) → (n : ℕ) (act : Act) (b : Bool) → (n == owner) ≡ b → take (suc t) run ≡ take t run ++ (n, act) ∷ [] →
+      push : Fine (acts_of owner (take t run)) → (n : ℕ) (act : Act) (b : Bool) → (n == owner) ≡ b →
+          take (suc t) run ≡ take t run ++ (n, act) ∷ [] →
           Fine (acts_of owner (take (suc t) run))
       push was n act false is split =
           subst Fine (sym (ap (acts_of owner) split ∙ acts_push n owner act (take t run) false is)) was

@@ -115,7 +115,8 @@ module _ (plan : Plan) (liars : Nodes) (run : LongRun) (long : IsLongRun plan li
           (λ (h : parts_end owner own ≤ number).
           let nothing : issued_in owner own number ≡ [] =
           ap issued (none_past owner number own h) ∙ issued-none in
-          absurd (let e : None ≡ Some c = sym (ap (λ l. slice_get l place) nothing ∙ slice_get_past {X = Command} [] place (omega arith)) ∙ issued_here in cc))
+          absurd (let e : None ≡ Some c = sym (ap (λ l. slice_get l place) nothing ∙ slice_get_past
+          {X = Command} [] place (omega arith)) ∙ issued_here in cc))
           (cases_lt number (parts_end owner own))
 
 pub total_integrity : PartsAreRuns → TotalIntegrity
@@ -126,7 +127,8 @@ total_integrity are_runs plan liars run i owner long correct_i correct_owner =
 
 -- Who has anything of a part has those before.
 
-module _ (plan : Plan) (me : ℕ) (some : 1 ≤ plan.length) (acts : List Act) (life : IsLife plan me acts) (owner : ℕ) where
+module _ (plan : Plan) (me : ℕ) (some : 1 ≤ plan.length) (acts : List Act) (life : IsLife plan me acts)
+    (owner : ℕ) where
   -- what was adopted is whole parts
   whole_parts : (k : ℕ) × (length (adopted owner acts) ≡ k * plan.length)
   whole_parts =
@@ -299,7 +301,8 @@ decides_alike agree plan liars run i j one other owner user operation object lon
     let same : total plan (acts_of i (take one run)) owner ≡ total plan (acts_of j (take other run)) owner =
     agree_same (total plan (acts_of i (take one run)) owner) (total plan (acts_of j (take other run)) owner)
     (agree plan liars run i j one other owner long correct_i correct_j) reach in
-    let alike = held_alike plan (total plan (acts_of i (take one run))) (total plan (acts_of j (take other run))) owner in
+    let alike = held_alike plan (total plan (acts_of i (take one run)))
+    (total plan (acts_of j (take other run))) owner in
     let counted = kept_alike mine (a.assigned user) (b.assigned user)
     (λ role owned. alike (Assigned user role) same owned) xs in
     let found = ap (find (a.granted operation object)) counted

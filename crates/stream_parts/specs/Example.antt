@@ -1,5 +1,5 @@
--- A long run of four nodes of which node 3 lies, whose parts have one place: byz_world's run, and its owner comes into the
--- second part. So no law speaks of nothing.
+-- A long run of four nodes of which node 3 lies, whose parts have one place: byz_world's run, and its owner comes
+-- into the second part. So no law speaks of nothing.
 use Rattle.std.specs.Prelude.{◌≡◌, [], ◌∷◌, ◌++◌, map}
 use Rattle.std.specs.FinSet as sets
 use Rattle.role_commands.specs.declared.command.Command.{Command}

@@ -47,17 +47,17 @@ abbrev pub has_sent_in : Counts → LongRun → Part → ℕ → Message → Boo
 has_sent_in s run part node m =
     is_for m.command (of_kind m.kind (sent_at s node (events_in part (acts_of node run)) m.owner m.place))
 
--- A correct node had all these parts at some moment by then. (That it had synced them, and how one knows, are matters of
--- crashes and of `SummaryIsTrue`.)
+-- A correct node had all these parts at some moment by then. (That it had synced them, and how one knows, are matters
+-- of crashes and of `SummaryIsTrue`.)
 pub record MayAdopt (plan : Plan) (liars : Nodes) (run : LongRun) (owner : ℕ) (past : List Command) : Type 0 where
   pub source : ℕ
   pub honest : IsCorrectIn plan liars source
   pub count : ℕ
   pub had : IsPrefixOf past (total plan (take count (acts_of source run)) owner)
 
--- A run of a cluster for all its time: the plan is one; at most f nodes lie, fewer than a third; each correct node lives
--- its life; who adopts has it from a correct node; there are only sound packets; and what is taken in a correct node's
--- name in a part, it had sent in that part by then.
+-- A run of a cluster for all its time: the plan is one; at most f nodes lie, fewer than a third; each correct node
+-- lives its life; who adopts has it from a correct node; there are only sound packets; and what is taken in a correct
+-- node's name in a part, it had sent in that part by then.
 pub record IsLongRun (plan : Plan) (liars : Nodes) (run : LongRun) : Type 0 where
   pub is_plan : IsPlan plan
   pub sizes : AreSizes plan.roles.sizes

@@ -48,8 +48,8 @@ pub fn same_relations()
     totals_agree();
 }
 
-/// Of every long run: correct nodes decide as Core RBAC does over what holds by the totals that they have, these agree as
-/// far as they reach, and nothing in them is forged.
+/// Of every long run: correct nodes decide as Core RBAC does over what holds by the totals that they have, these
+/// agree as far as they reach, and nothing in them is forged.
 pub fn keeps_the_promise()
     ensures { HeadlineOverParts }
 {
@@ -78,8 +78,8 @@ pub fn no_part_is_full()
     owner_is_bounded();
 }
 
-/// A summary that more nodes tell than can lie is one of what a correct node has, and that of each correct node that has
-/// those parts.
+/// A summary that more nodes tell than can lie is one of what a correct node has, and that of each correct node that
+/// has those parts.
 pub fn summary_is_true()
     ensures { SummaryIsTrue }
 {

@@ -1,7 +1,7 @@
 //! Clusters that live on: an owner's stream is cut in parts, and each part is a cluster of its own.
 //!
-//! `part_lives` says what parts are and what a node may do, `specs/LongRuns.antt` which runs can be, and `specs/Laws.antt`
-//! what holds of each. No program is here.
+//! `part_lives` says what parts are and what a node may do, `specs/LongRuns.antt` which runs can be, and
+//! `specs/Laws.antt` what holds of each. No program is here.
 #![tactic(auto)]
 
 pub mod laws;

@@ -1,5 +1,5 @@
--- What holds at each moment of a life of a cluster that takes parts: each node lives its life, what is synced stays, and
--- what is adopted a correct node has synced.
+-- What holds at each moment of a life of a cluster that takes parts: each node lives its life, what is synced stays,
+-- and what is adopted a correct node has synced.
 use Rattle.std.proofs.Common.{◌≡◌, ⊎_elim, ℕ, zero, suc, ◌==◌, ◌<◌, ◌≤◌, Bool, true, false, List, [], ◌∷◌, ◌++◌, length}
 use Rattle.std.proofs.Common.{take, drop, slice_get, Some, refl, sym, ap, ◌∙◌, subst, arith}
 use Rattle.std.proofs.Common.{length-append, length-take, take-append-drop}
@@ -70,7 +70,8 @@ module _ (plan : Plan) (liars : Nodes) where
         honest = was.honest;
         count = was.count;
         fewer = was.fewer;
-        early = subst (λ r. was.count ≤ length (acts_of was.source r)) (sym (take-append-le t m.run ((node, act) ∷ []) le))
+        early = subst (λ r. was.count ≤ length (acts_of was.source r))
+            (sym (take-append-le t m.run ((node, act) ∷ []) le))
             was.early;
         had = subst (λ l. IsPrefixOf past (total plan l owner)) (sym same) was.had;
       }

@@ -15,8 +15,8 @@ use Rattle.part_lives.specs.Parts.{Plan, Part, Act, In, Adopts, total}
 use Rattle.part_lives.specs.Lives.{IsPlan, is_due}
 use Rattle.stream_parts.specs.LongRuns.{LongRun, acts_of, IsCorrectIn, has_sent_in}
 
--- A node does something. It syncs what it has done. It crashes, and is restored to so many of its acts, the first that it
--- did.
+-- A node does something. It syncs what it has done. It crashes, and is restored to so many of its acts, the first
+-- that it did.
 pub data Deed : Type 0 where
   Does : (node : ℕ) (act : Act) → Deed
   Syncs : (node : ℕ) → Deed

@@ -1,7 +1,7 @@
 //! Nodes that take parts, adopt, crash and are restored to what they had synced: what stands is a long run.
 //!
-//! `specs/LongLives.antt` says what correct nodes do, sync and lose in crashes, and `specs/Laws.antt` what holds of it. No
-//! program is here.
+//! `specs/LongLives.antt` says what correct nodes do, sync and lose in crashes, and `specs/Laws.antt` what holds of
+//! it. No program is here.
 #![tactic(auto)]
 
 pub mod laws;
