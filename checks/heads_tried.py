@@ -198,8 +198,8 @@ class Turn:
         return max(1 - self.share, *(now / before for now, before in zip(self.beside, self.alone)))
 
     def __str__(self) -> str:
-        return (f"{self.alone[0]:,.0f} decisions a second alone, {self.beside[0]:,.0f} beside {SLOW} slow callers; in a "
-                f"second of its processor {self.alone[1]:,.0f} and {self.beside[1]:,.0f}; slow callers alone take "
+        return (f"{self.alone[0]:,.0f} decisions a second alone, {self.beside[0]:,.0f} beside {SLOW} slow callers; in "
+                f"a second of its processor {self.alone[1]:,.0f} and {self.beside[1]:,.0f}; slow callers alone take "
                 f"{self.share:.1%} of one; {self.made:,} were made, {self.ended:,} ended")
 
 
