@@ -30,9 +30,13 @@ impl<N: HeldNode, K: FrameKeys, R: Wait + Clock> Server<'_, N, K, R> {
         let mut node = self.node.lock(self.rt);
         // where that fails nothing is said, and the next batch ends the node
         let _ = keep(self.rt, &self.syncs, &mut *node);
-        let answer = node
-            .kept()
-            .and_then(|node| node_answer(self.alloc, node, &self.roles, self.shares, request));
+        let answer = node.kept().and_then(|node| node_answer(
+            self.alloc,
+            node,
+            &self.roles,
+            self.shares,
+            request,
+        ));
         drop(node);
         self.end_turn(has_turn);
         answer

@@ -5,3 +5,4 @@ pub mod Lives
 pub mod Ahead
 pub mod AtOnce
 pub mod Example
+pub mod Exported

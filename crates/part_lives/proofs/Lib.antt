@@ -1,0 +1,9 @@
+pub mod Spots
+pub mod Lists
+pub mod Acts
+pub mod Picking
+pub mod Dues
+pub mod Totals
+pub mod Saying
+pub mod Owners
+pub mod States

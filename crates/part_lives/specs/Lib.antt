@@ -1,0 +1,5 @@
+pub mod Parts
+pub mod Holding
+pub mod Lives
+pub mod States
+pub mod Laws

@@ -1,0 +1,3 @@
+pub mod LongRuns
+pub mod Laws
+pub mod Example

@@ -1,0 +1,3 @@
+pub mod LongLives
+pub mod Laws
+pub mod Example
