@@ -67,6 +67,7 @@ class Node:
 
         class Server(socketserver.ThreadingTCPServer if is_port else socketserver.ThreadingUnixStreamServer):
             allow_reuse_address, daemon_threads = True, True
+            request_queue_size = 128  # with more than wait, the system lets the next one try again after a second
 
             def handle_error(self, *_):
                 pass
