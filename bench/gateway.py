@@ -30,8 +30,8 @@ ROWS = [("one decision", 1, 1), ("one decision", 8, 1), ("one decision", 64, 1),
 
 def processor(process):
     """How many seconds of a processor a process has had."""
-    with open(f"/proc/{process.pid}/stat", encoding="ascii") as file:
-        return sum(map(int, file.read().rpartition(")")[2].split()[11:13])) / os.sysconf("SC_CLK_TCK")
+    with open(f"/proc/{process.pid}/schedstat", encoding="ascii") as file:
+        return int(file.read().split()[0]) / 1e9
 
 
 def request(items):

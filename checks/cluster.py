@@ -204,9 +204,11 @@ class Cluster:
         return self
 
     def answers(self, me: int) -> bool:
-        """Whether a node takes a client."""
+        """Whether a node takes a client, at each of its doors: the socket comes behind the port."""
         try:
             self.client(me).close()
+            if len(self.doors) > 1:
+                tundelca.Client(self.socket_path(me), PATIENCE).close()
             return True
         except tundelca.Unreachable:
             return False

@@ -10,7 +10,8 @@ fifth is the script, which has keys: it offers two stories, and keeps every fram
 of each sender, kind, owner and place there is one command, over all lives; what was answered is there; no history gets
 shorter; all reaches agree in the end, without any `again`; and no restart takes more than a second. In torn a library
 (checks/tear.c) leaves only some bytes of what was not synced, as a loss of power may. The other cases are told at their
-functions, those of a node alone in journal_cases.py, those of an owner that was begun twice in begun_cases.py.
+functions, those of a node alone in journal_cases.py, those of an owner that was begun twice in begun_cases.py, those of
+the ends of shares in share_cases.py.
 
 Ends by itself, in three minutes if all goes well; all traffic is on 127.0.0.1, and only processes that were started here
 are ended.
@@ -27,6 +28,7 @@ from journal_cases import damaged, failing, full, refused, said
 from lives import Lives, compiled
 from loads import Load, ask_on
 from runner import Failed
+from share_cases import beyond, spent
 
 RESTART = 1.0  # seconds from a start to the first answer, beside what two syncs take meanwhile
 SOON = 15  # seconds in which all reaches agree after the last crash
@@ -172,7 +174,7 @@ def crowded(program, rng, folder):
 
 
 CASES = [said, refused, damaged, killed, torn, ended, broken, lonely, crowded, failing, full, begun_twice, forgotten,
-         same_again, votes_ahead]
+         same_again, votes_ahead, spent, beyond]
 
 
 def cases(given):

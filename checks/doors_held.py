@@ -24,6 +24,8 @@ WAITS = 0.1  # seconds for which a connection waits for the end of a line before
 SYNC, SOON = 1.0, 2.0  # seconds of a sync, and until a connection that gave way is seen to end
 KINDS = ("idle", "half lines", "endless lines", "no reader")
 CHECK = {"session": 1, "user": 7, "operation": 5, "object": 9}
+POLICY = {**{name: part for name, part in gateways.POLICY.items() if name != "forward"},
+          "types": {"record": gateways.POLICY["types"]["record"]}}  # of one owner
 
 
 def hold(is_over, door, kind, count):
@@ -116,7 +118,7 @@ def beside(program, kind, count):
     with Held(program) as node, contextlib.ExitStack() as stack:
         gateway = None
         if gateways.has_tornado():
-            gateway = stack.enter_context(gateways.Gateway(node.socket_path(0))).wait()
+            gateway = stack.enter_context(gateways.Gateway(node.socket_path(0), POLICY)).wait()
         load = stack.enter_context(Load(hold, tundelca.door(node.clients[0]), kind, count))
         kept = stack.enter_context(node.by_socket())
         time.sleep(0.3)
@@ -217,6 +219,7 @@ def half_lines(program):
             whole, _, rest = half.rpartition(b"\n")
             came = answered(one, whole + b"\n") if whole else b""
             one.sendall(rest)
+            time.sleep(0.02)  # a node counts in milliseconds
             others = [stack.enter_context(contextlib.closing(door.connect(PATIENCE))) for _ in range(SLOTS - 1)]
             time.sleep(2 * WAITS)
             with tundelca.Client(door, PATIENCE) as new:

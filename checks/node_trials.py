@@ -10,7 +10,7 @@ import socket
 import struct
 import time
 
-from cluster import ECHO, FRAME, PATIENCE, READY, ROLE, SEND, Cluster, assign
+from cluster import ECHO, FRAME, PATIENCE, READY, ROLE, SEND, Cluster, assign, tundelca
 from lives import compiled
 from runner import judge, wait_until
 from timed_client import SOON, Client
@@ -46,10 +46,18 @@ class Second(Cluster):
         link.sendall(data)
         return link
 
+    def deaf(self, stack):
+        """A client that has little room for answers, and reads none; it is there as long as the stack."""
+        one = stack.enter_context(socket.socket())
+        one.setsockopt(socket.SOL_SOCKET, socket.SO_RCVBUF, 4096)
+        one.settimeout(PATIENCE)
+        one.connect((tundelca.LOOPBACK, self.clients[1]))
+        return one
+
     def takes(self, data):
         """Sends bytes to where it takes frames, and waits until it has taken them and closed the connection."""
         with self.link(1) as link:
-            with contextlib.suppress(ConnectionError):  # it closes at a first frame that doesn't open
+            with contextlib.suppress(OSError):  # it closes at a first frame that doesn't open
                 link.sendall(data)
                 link.shutdown(socket.SHUT_WR)
             judge(is_closed(link), "the node didn't close the connection")
@@ -206,7 +214,8 @@ def stop_then_reset(program):
 
 def stop_behind_many_lines(program, count, is_reset):
     """Says so many empty lines and a stop at once, and reads none of the answers. The node has to stop."""
-    with Second(program) as cluster, cluster.connect(1) as one:
+    with Second(program) as cluster, contextlib.ExitStack() as stack:
+        one = cluster.deaf(stack)
         one.sendall(b"\n" * count + STOP)
         if is_reset:
             reset(one)
@@ -216,8 +225,8 @@ def stop_behind_many_lines(program, count, is_reset):
 
 
 def deaf_stop(program):
-    """A client that says stop and reads none of 40,000 answers"""
-    return stop_behind_many_lines(program, 40_000, False)
+    """A client that says stop and reads none of 400,000 answers"""
+    return stop_behind_many_lines(program, 400_000, False)
 
 
 def deaf_stop_then_reset(program):
@@ -226,14 +235,16 @@ def deaf_stop_then_reset(program):
 
 
 def deaf_client(program):
-    """A client that reads none of the answers to its 10,000 lines, and another"""
-    with Second(program) as cluster, cluster.connect(1) as deaf:
-        deaf.settimeout(SOON)
-        with contextlib.suppress(OSError):
-            deaf.sendall(REACH * 10_000)
+    """A client that writes lines until no more are taken, and reads no answer, and another"""
+    with Second(program) as cluster, contextlib.ExitStack() as stack:
+        deaf, sent = cluster.deaf(stack), 0
+        deaf.setblocking(False)
+        with contextlib.suppress(BlockingIOError):
+            while True:
+                sent += deaf.send(REACH * 10_000)
         hears(Client(cluster, 1), OPEN, '{"session":1}\n')
         cluster.stops()
-    return "the other is answered"
+    return f"the other is answered beside {sent // len(REACH):,} lines"
 
 
 def silent_peer(program):

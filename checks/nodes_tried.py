@@ -269,4 +269,5 @@ def ended(_: Any) -> str:
 def cases(given: Any) -> List[Case]:
     return [*(Case(name, lambda part=part: calls_tried.skipping(part, given)) for name, part in [  # type: ignore[misc]
         ("a node unwell", standings), ("a node that answers wrongly", lies), ("each their own", each_their_own),
-        ("a slow node", slow), ("a node away", away), ("connections that end", kept), ("a policy that changes", changed), ("SIGTERM", ended)])]
+        ("a slow node", slow), ("a node away", away), ("connections that end", kept),
+        ("a policy that changes", changed), ("SIGTERM", ended)])]

@@ -67,6 +67,7 @@ class Node:
 
         class Server(socketserver.ThreadingTCPServer if is_port else socketserver.ThreadingUnixStreamServer):
             allow_reuse_address, daemon_threads = True, True
+            request_queue_size = 128  # with more than wait, the system lets the next one try again after a second
 
             def handle_error(self, *_):
                 pass
@@ -84,8 +85,8 @@ class Node:
                 os.unlink(self.port)
 
     def hang_up(self):
-        """Ends all its connections."""
-        for connection in self.connections:
+        """Ends all its connections, and none that is made meanwhile."""
+        for connection in list(self.connections):
             with contextlib.suppress(OSError):
                 connection.shutdown(socket.SHUT_RDWR)
 

@@ -2,7 +2,7 @@
 """Callers that are slow, for heads_tried: slow_callers.py PORT COUNT
 
 So many connections, every second one amid a head and the others amid a body, say a byte each second. One that ended is
-made anew after a second. At a line on standard input it ends, and says how many ended, and how many had a decision.
+made anew after two seconds. At a line on standard input it ends, and says how many ended, and how many had a decision.
 """
 import collections
 import contextlib
@@ -15,7 +15,7 @@ from typing import Deque, Dict, Tuple
 
 HEAD = b"POST /access/v1/evaluation HTTP/1.1\r\nHost: a\r\nX-A: "
 BODY = HEAD + b"b\r\nContent-Type: application/json\r\nContent-Length: 300\r\n\r\n{"
-AGAIN, BYTE = 1.0, 1.0  # seconds
+AGAIN, BYTE = 2.0, 1.0  # seconds
 
 
 class Crowd:

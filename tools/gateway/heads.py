@@ -22,7 +22,7 @@ LENGTH = re.compile("[0-9]{1,10}")
 
 
 class Stream(IOStream):
-    """A connection. `due` is the moment by which its next step has to be done, `since` that of its last one."""
+    """A connection. `due` is the moment by which its next step has to be done."""
 
     def __init__(self, connection: socket.socket) -> None:
         super().__init__(connection, max_buffer_size=8 * READ_AT_ONCE, read_chunk_size=READ_AT_ONCE)
@@ -31,8 +31,7 @@ class Stream(IOStream):
         self.head = b""  # of the request that is read
         self.unread = 0  # bytes that came and aren't yet those of a whole head or body
         self.is_asking = self.is_parting = False
-        self.since = time.monotonic()
-        self.due = self.since + IDLE
+        self.due = time.monotonic() + IDLE
 
     def set_nodelay(self, value: bool) -> None:
         """It is so from the begin on."""
@@ -61,9 +60,8 @@ class Stream(IOStream):
 
     def begin(self) -> None:
         """A request may come. Where some of it has come already, its head is due."""
-        self.since = time.monotonic()
         self.is_asking = False
-        self.due = self.since + (HEAD if self.unread else IDLE)
+        self.due = time.monotonic() + (HEAD if self.unread else IDLE)
 
     def has_head(self) -> None:
         """The head is there, and the body is due."""

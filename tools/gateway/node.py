@@ -19,6 +19,7 @@ PATIENCE = 2.0  # seconds for an answer of the node
 FRESH = 1.0  # seconds between two looks at how the node stands
 STALE = 4.0  # seconds after which it isn't known any more how the node stands
 SOON = 0.25  # seconds between two while its word doesn't count
+TRIES = 3  # where a node ends its connections one after another
 A_LINE = tundelca.A_LINE  # rows
 MOST_ROWS = 2_000  # that are under way at a time
 LONGEST = tundelca.LONGEST
@@ -324,10 +325,14 @@ class Standing:
 
     async def ask(self) -> Optional[Dict[str, Any]]:
         """What the node says of itself; None where it doesn't, or not in time, or what no node says. A `Stranger` may
-        be there in its place. Where a kept connection has ended it is asked once more, over a new one."""
-        is_kept, self.has_ended = self.link is not None, False
-        status = await self.asked_once()
-        return await self.asked_once() if status is None and is_kept and self.has_ended else status
+        be there in its place. Where a kept connection has ended it is asked again over a new one, so often at most."""
+        tries = TRIES if self.link is not None else 1
+        for _ in range(tries):
+            self.has_ended = False
+            status = await self.asked_once()
+            if status is not None or not self.has_ended:
+                return status
+        return None
 
     async def asked_once(self) -> Optional[Dict[str, Any]]:
         """What the node says on the connection that there is, or on a new one."""

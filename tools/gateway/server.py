@@ -1,6 +1,5 @@
 """The gateway's HTTP: tornado reads requests and writes answers, on one loop; how many and how long is said here."""
 import asyncio
-import contextlib
 import http
 import os
 import signal
@@ -134,8 +133,7 @@ class Exchange(HTTPMessageDelegate):
             fields["X-Request-ID"] = self.id
         self.server.counts.requests[answer.status] += 1
         stream = self.stream
-        stream.since = time.monotonic()
-        stream.due, stream.is_asking = stream.since + heads.TAKEN, False
+        stream.due, stream.is_asking = time.monotonic() + heads.TAKEN, False
         if self.server.is_ending:
             fields["Connection"] = "close"
         line = ResponseStartLine("HTTP/1.1", answer.status, REASONS[answer.status])
@@ -156,7 +154,8 @@ class Server(HTTPServerConnectionDelegate):
 
     def __init__(self, door: Door, path: str, policy: Policy, listener: socket.socket, url: str) -> None:
         self.door, self.path, self.policy, self.listener, self.url = door, path, policy, listener, url
-        self.counts, self.streams = Counts(), set()  # type: Tuple[Counts, Set[Stream]]
+        self.counts = Counts()
+        self.streams: Dict[Stream, None] = {}  # that whose last request began first, or came first, comes first
         self.wrong: Optional[str] = None  # why the policy file is refused, where it is
         self.unfit: Optional[str] = None  # why the policy isn't one for this cluster, where it isn't
         self.seen: Optional[Tuple[int, ...]] = None
@@ -186,26 +185,29 @@ class Server(HTTPServerConnectionDelegate):
     def accept(self, connection: socket.socket, _: Any) -> None:
         """Takes a connection. Where there are as many as may be, the one idle longest gives way."""
         if len(self.streams) >= MOST_CONNECTIONS:
-            idle = [stream for stream in self.streams if not stream.is_asking]
-            if not idle:
+            idle = next((stream for stream in self.streams if not stream.is_asking), None)
+            if idle is None:
                 connection.close()
                 return
             self.counts.evicted += 1
-            self.close(min(idle, key=lambda stream: stream.since))
+            self.close(idle)
         stream = Stream(connection)
-        self.streams.add(stream)
+        self.streams[stream] = None
         HTTP1ServerConnection(stream, PARAMETERS).start_serving(self)
 
     def start_request(self, server_conn: Any, request_conn: Any) -> HTTPMessageDelegate:
-        server_conn.stream.begin()
-        return Exchange(self, server_conn.stream, request_conn)
+        stream = server_conn.stream
+        stream.begin()
+        if self.streams.pop(stream, stream) is None:
+            self.streams[stream] = None  # the last one now
+        return Exchange(self, stream, request_conn)
 
     def on_close(self, server_conn: Any) -> None:
         if not server_conn.stream.is_parting:
             self.close(server_conn.stream)
 
     def close(self, stream: Stream) -> None:
-        self.streams.discard(stream)
+        self.streams.pop(stream, None)
         stream.close()
 
     def part(self, stream: Stream, status: int, why: str) -> None:
@@ -219,11 +221,15 @@ class Server(HTTPServerConnectionDelegate):
 
     async def parted(self, stream: Stream, answer: bytes) -> None:
         """Writes the answer, and reads for a while what comes, so that the caller has it before the end."""
-        with contextlib.suppress(StreamClosedError, OSError, asyncio.TimeoutError):
+        try:
             await asyncio.wait_for(stream.write(answer), PARTING)
-            stream.socket.shutdown(socket.SHUT_WR)
-            await asyncio.wait_for(self.passed_over(stream), PARTING)
-        self.close(stream)
+            if not stream.closed():
+                stream.socket.shutdown(socket.SHUT_WR)
+                await asyncio.wait_for(self.passed_over(stream), PARTING)
+        except (StreamClosedError, OSError, asyncio.TimeoutError):
+            pass  # the caller went away first
+        finally:
+            self.close(stream)
 
     @staticmethod
     async def passed_over(stream: Stream) -> None:

@@ -6,7 +6,7 @@ ghost use Rattle.std.specs.List.{AllByRecursion, flat_map, list_any};
 ghost use Rattle.std.specs.List.Sorted.{IsStrictlySortedBy};
 ghost use Rattle.sorted_pairs.specs.Blocks.{items_in};
 ghost use Rattle.rbac_state.specs.inside.PermissionNumbers.{permission_of};
-ghost use Rattle.sorted_pairs.specs.KeyRanges.{IsFilled, pairs_in};
+ghost use Rattle.sorted_pairs.specs.KeyRanges.{IsFilled, IsKeyRange, pairs_in};
 ghost use Rattle.sorted_pairs.specs.Pairs.{number_cmp};
 ghost use Rattle.sorted_pairs.specs.Lists.{is_among};
 ghost use Rattle.rbac_state.specs.inside.Limits.{most_firsts};
@@ -23,6 +23,9 @@ use std::alloc::{AllocError, Global};
 /// So many roles are asked about by themselves, the first ones: to find the roles that have a permission takes longer
 /// than to ask about one role, and pays where more are asked about.
 const ROLES_ASKED_ALONE: usize = 4;
+
+/// Where no more roles than so many have a permission, the user is asked about by itself for each of them.
+const FEW_GRANTS: usize = 8;
 
 /// What the second of each pair of this first stands for.
 pub fn seconds<const LIMIT: u64, B: Numbered>(
@@ -201,7 +204,7 @@ fn first_of_few(
     None
 }
 
-/// As `first_granting`: the roles that have the permission, and those of the user, are found once for all of these.
+/// As `first_granting`: the roles that have the permission are found once for all of these.
 fn first_of_many(
     assigned: &Users,
     granted: &Grants,
@@ -219,9 +222,58 @@ fn first_of_many(
     if grants.is_empty() {
         return None;
     }
+    if are_few(&grants) {
+        first_of_granted(assigned, granted, user, roles, permission, &grants)
+    } else {
+        first_of_both(assigned, granted, user, roles, permission, &grants)
+    }
+}
+
+/// Whether these are few pairs. It only chooses a way: to find the user's roles takes as long as to ask about some.
+fn are_few(grants: &KeyRange<'_, ROLES>) -> bool {
+    match grants {
+        KeyRange::Part(pairs) => pairs.len() <= FEW_GRANTS,
+        KeyRange::Blocks(_) => false,
+    }
+}
+
+/// As `first_of_many`: the user is asked about by itself for each role that has the permission.
+fn first_of_granted(
+    assigned: &Users,
+    granted: &Grants,
+    user: u64,
+    roles: &[u16],
+    permission: u64,
+    grants: &KeyRange<'_, ROLES>,
+) -> Option<u16>
+    requires asked { CanBeAsked assigned.now granted.now user permission }
+    requires grants { IsKeyRange permission (items_in granted.now.by_first.items) grants.now }
+    ensures { result ≡ find (is_granting assigned.now granted.now user permission) roles.now }
+{
+    for role in roles {
+        if is_there(grants, permission, *role) && assigned.has(user, *role) {
+            return Some(*role);
+        }
+    }
+    None
+}
+
+/// As `first_of_many`: the user's roles are found once too.
+fn first_of_both(
+    assigned: &Users,
+    granted: &Grants,
+    user: u64,
+    roles: &[u16],
+    permission: u64,
+    grants: &KeyRange<'_, ROLES>,
+) -> Option<u16>
+    requires asked { CanBeAsked assigned.now granted.now user permission }
+    requires grants { IsKeyRange permission (items_in granted.now.by_first.items) grants.now }
+    ensures { result ≡ find (is_granting assigned.now granted.now user permission) roles.now }
+{
     let mine = assigned.of_first(user);
     for role in roles {
-        if is_there(&mine, user, *role) && is_there(&grants, permission, *role) {
+        if is_there(&mine, user, *role) && is_there(grants, permission, *role) {
             return Some(*role);
         }
     }

@@ -3,7 +3,6 @@ use Rattle.std.specs.Prelude.{ℕ, ◌%◌, ◌/◌, ◌==◌, nat_lt, Bool, tru
 use Rattle.std.specs.Prelude.{Option, None, Some, Result, Ok, Err}
 use Rattle.std.specs.declared.io.ErrorKind.{ErrorKind}
 use Rattle.std.specs.declared.io.ErrorKind.TheVariants as kind
-use Rattle.tundelca.specs.declared.entries.Entries.{Entries}
 use Rattle.tundelca.specs.declared.entries.EntriesFault.{EntriesFault}
 use Rattle.tundelca.specs.declared.entries.EntriesFault.TheVariants.{NoDoor, Path}
 use Rattle.tundelca.specs.declared.socket.AtPath.{AtPath}

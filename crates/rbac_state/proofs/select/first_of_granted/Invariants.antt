@@ -1,7 +1,7 @@
 use Rattle.std.proofs.Common.{◌≡◌, None, take}
 use Rattle.std.specs.List.{find}
 use Rattle.rbac_state.specs.inside.Relations.{is_granting}
-use Rattle.rbac_state.proofs.select.first_of_many.Given as goal
+use Rattle.rbac_state.proofs.select.first_of_granted.Given as goal
 
 abbrev pub invariant-loop-role : goal.invariant-loop-role
 invariant-loop-role l =
