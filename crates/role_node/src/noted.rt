@@ -52,19 +52,20 @@ impl Noted {
             Event::Issue(_) => {}
             Event::Take(packet) => {
                 if packet.owner() == me {
-                    self.note_own(state, me, entry);
+                    self.note_own(state, me, *entry);
                 }
             }
             Event::Client(_) => self.acts += 1,
         }
     }
 
-    /// Notes what the node delivers of its own stream with a packet that was recorded as this entry.
-    fn note_own(&mut self, state: &State, me: NodeName, entry: &Entry)
+    /// Notes what the node delivers of its own stream with a packet that was recorded as this entry. It takes the entry
+    /// by value, so that one of another owner's packet never has to lie in memory for it.
+    fn note_own(&mut self, state: &State, me: NodeName, entry: Entry)
         requires { me < state.now.streams.sizes.nodes }
         ensures { (roles : Table) (history : List Event) (p : PacketValue) → p.owner ≡ me →
             IsNotedOf roles.sizes me history self.old → IsStateAfter roles (history ++ Take p ∷ []) state.now →
-            entry.now.reply ≡ reply_to roles me history (Take p) →
+            entry.reply ≡ reply_to roles me history (Take p) →
             IsNotedOf roles.sizes me (history ++ Take p ∷ []) self.new }
     {
         if let Reply::Counted { from, to, .. } = entry.reply() {
