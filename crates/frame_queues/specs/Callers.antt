@@ -3,8 +3,8 @@ use Rattle.std.specs.Prelude.{⊤, ℕ, ◌+◌, ◌-◌, ◌*◌, ◌/◌, ◌%
 use Rattle.frame_queues.specs.declared.caller.Caller.{Caller}
 use Rattle.frame_queues.specs.declared.caller.Caller.TheVariants.{Client, Peer, Nobody}
 
--- how many clients, sixteen a door, and connections of frames there are, and how many numbers a client's jobs have: those of its lines,
--- and one more
+-- how many clients, sixteen a door, and connections of frames there are, and how many numbers a client's jobs have:
+-- those of its lines, and one more
 abbrev pub most_clients : ℕ
 most_clients = 32
 

@@ -2,10 +2,10 @@
 //! folder, or both.
 //!
 //! The calling thread is that of the ports: it waits at once for the port of peers, for both doors of clients, for the
-//! frames of all peers, and for room on the connections to them. Each client has a thread of its own, from when its connection comes. All put jobs into
-//! one inbox; four workers make their calls under the node's lock, each with a seat of its own, and those who only look
-//! share a fifth. A worker has no thread: whoever put jobs does them with an idle worker, and what is left is done by
-//! threads that wait for it.
+//! frames of all peers, and for room on the connections to them. Each client has a thread of its own, from when its
+//! connection comes. All put jobs into one inbox; four workers make their calls under the node's lock, each with a seat
+//! of its own, and those who only look share a fifth. A worker has no thread: whoever put jobs does them with an idle
+//! worker, and what is left is done by threads that wait for it.
 //!
 //! The server does not know what is behind the lock (`HeldNode`), nor by which keys frames open (`FrameKeys`).
 //! `served_node` says what a client hears and what the node sends, and `frame_queues` who waits for a job, which frame
@@ -71,8 +71,8 @@ pub struct Site {
     /// After so long a client that sends nothing is closed.
     pub idle: Duration,
     /// Whether the lines of operators are answered, beside those of clients. Then a connection of clients begins with
-    /// `{`; else one that does not begin as an HTTP request is a client's. Then a command at a node that was begun twice
-    /// is refused, and a client's connection gives way to another where the door's slots are all taken.
+    /// `{`; else one that does not begin as an HTTP request is a client's. Then a command at a node that was begun
+    /// twice is refused, and a client's connection gives way to another where the door's slots are all taken.
     pub operators: bool,
     /// The shares that are asked before the node, if any. They are those of its table of roles.
     pub shares: Option<Shares>,

@@ -95,8 +95,8 @@ impl<N: HeldNode, K: FrameKeys, R: Wait + Clock> Server<'_, N, K, R> {
         standings
     }
 
-    /// The connection in a slot gives way to another, if it still stands as it did, and waits for the end of a line. None
-    /// does where operators' lines are not answered.
+    /// The connection in a slot gives way to another, if it still stands as it did, and waits for the end of a line.
+    /// None does where operators' lines are not answered.
     pub fn give_way(&self, slot: usize, standings: &[SlotStanding; ALL_SLOTS]) {
         if !self.operators {
             return;

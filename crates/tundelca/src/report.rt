@@ -67,7 +67,8 @@ fn push_roles(text: &mut String, roles: &RoleTable) -> Result<(), AllocError> {
     Ok(())
 }
 
-/// What a journal is, in a line; and in another one an owner of whose stream it has more than its share, if there is one.
+/// What a journal is, in a line; and in another one an owner of whose stream it has more than its share, if there is
+/// one.
 ///
 /// # Errors
 ///

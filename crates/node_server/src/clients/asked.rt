@@ -18,8 +18,8 @@ use std::time::Clock;
 /// How lines begin that ask for decisions, as clients mostly write them.
 const DECISION: &[u8] = b"{\"op\":\"decide";
 
-/// Whether a line begins so. It only chooses which table is looked at first: the other one is searched to its end before
-/// it is known that it doesn't have such a line, which takes as long as to read it.
+/// Whether a line begins so. It only chooses which table is looked at first: the other one is searched to its end
+/// before it is known that it doesn't have such a line, which takes as long as to read it.
 pub fn may_ask_decisions(line: &[u8]) -> bool {
     line.starts_with(DECISION)
 }
@@ -88,8 +88,8 @@ impl<N: HeldNode, K: FrameKeys, R: Wait + Clock> Client<'_, '_, N, K, R> {
         }
     }
 
-    /// Answers a line that asks for decisions, and whether it is one. No line is in both tables (`clients_know_none`), so
-    /// that the order in which they are looked at changes no answer.
+    /// Answers a line that asks for decisions, and whether it is one. No line is in both tables (`clients_know_none`),
+    /// so that the order in which they are looked at changes no answer.
     pub fn answer_decisions(&mut self, line: &[u8]) -> Result<bool, AheadFault> {
         match read_operator(self.server.alloc, &self.server.keys.sizes(), line) {
             Ok(Some(request)) => {
